@@ -139,13 +139,15 @@ def has_terminals():
     return True
 
 
-def shown_at_terminal(stream, *words):
-    """What a terminal gets that is the standard output of the program alone, or its standard error, and the status."""
+def shown_at_terminal(stream, *words, given=b""):
+    """What a terminal gets that is the standard output of the program alone ("stdout"), or its standard error ("stderr"), or "both"; and the status."""
     ours, theirs = pty.openpty()
     tty.setraw(theirs)
-    streams = {"stdout": subprocess.DEVNULL, "stderr": subprocess.DEVNULL, stream: theirs}
-    process = subprocess.Popen([CPMHOST, *words], stdin=subprocess.DEVNULL, **streams)
+    streams = {name: theirs if stream in (name, "both") else subprocess.DEVNULL for name in ("stdout", "stderr")}
+    process = subprocess.Popen([CPMHOST, *words], stdin=subprocess.PIPE, **streams)
     os.close(theirs)
+    process.stdin.write(given)
+    process.stdin.close()
     text = b""
     try:
         while part := os.read(ours, 65536):

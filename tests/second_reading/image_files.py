@@ -18,7 +18,7 @@ def plain(name):
     return bytes(byte % 128 for byte in name)
 
 
-class Shelf:
+class FileOnImage:
     """An image with what the calls on the files of a drive do to it."""
 
     def __init__(self, image, user, name):
@@ -122,8 +122,8 @@ class ImageFiles:
             "put": self.put,
             "remove": self.remove,
             "rename": self.rename,
-            "get": lambda arguments: self.take(arguments, Shelf.get),
-            "read": lambda arguments: self.take(arguments, Shelf.read),
+            "get": lambda arguments: self.take(arguments, FileOnImage.get),
+            "read": lambda arguments: self.take(arguments, FileOnImage.read),
             "list": self.list,
             "is-name": self.is_name,
             "to-text": lambda arguments: re.sub(rb"(?<!\r)\n", b"\r\n", bytes_of(arguments)),
@@ -136,58 +136,58 @@ class ImageFiles:
     def act(self, line):
         return self.verbs[line.verb](line.arguments)
 
-    def shelf(self, image, user, name):
-        return Shelf(self.images.copy(image), number_of(user, 255), name_of(name))
+    def file(self, image, user, name):
+        return FileOnImage(self.images.copy(image), number_of(user, 255), name_of(name))
 
-    def keep(self, name, shelf):
-        self.images.put(name, shelf.disk.image)
+    def keep(self, name, file):
+        self.images.put(name, file.disk.image)
 
     def put(self, arguments):
         old, new, user, name, *given = some(arguments, 5, len(arguments))
-        shelf, data = self.shelf(old, user, name), bytes_of(given)
-        if refusal := shelf.refusal(data):
+        file, data = self.file(old, user, name), bytes_of(given)
+        if refusal := file.refusal(data):
             return refusal
-        shelf.put(data)
-        return self.keep(new, shelf)
+        file.put(data)
+        return self.keep(new, file)
 
     def remove(self, arguments):
         old, new, user, name = some(arguments, 4)
-        shelf = self.shelf(old, user, name)
-        if refusal := shelf.refusal():
+        file = self.file(old, user, name)
+        if refusal := file.refusal():
             return refusal
-        shelf.remove()
-        return self.keep(new, shelf)
+        file.remove()
+        return self.keep(new, file)
 
     def rename(self, arguments):
         old, new, user, name, other = some(arguments, 5)
-        shelf, other = self.shelf(old, user, name), name_of(other)
-        if refusal := shelf.refusal():
+        file, other = self.file(old, user, name), name_of(other)
+        if refusal := file.refusal():
             return refusal
-        if plain(other) != plain(shelf.name) and shelf.entries(other):
+        if plain(other) != plain(file.name) and file.entries(other):
             return Refused("Exists")
-        shelf.rename(other)
-        return self.keep(new, shelf)
+        file.rename(other)
+        return self.keep(new, file)
 
     def take(self, arguments, how):
-        shelf = self.shelf(*some(arguments, 3))
-        if fault := fault_of(shelf.disk):
+        file = self.file(*some(arguments, 3))
+        if fault := fault_of(file.disk):
             return Refused(fault)
-        return how(shelf) if shelf.entries() else Refused("NoFile")
+        return how(file) if file.entries() else Refused("NoFile")
 
     def list(self, arguments):
         """The files in the order of their first entries."""
         (image,) = some(arguments, 1)
-        shelf = Shelf(self.images.copy(image), 0, bytes(11))
-        if fault := fault_of(shelf.disk):
+        file = FileOnImage(self.images.copy(image), 0, bytes(11))
+        if fault := fault_of(file.disk):
             return Refused(fault)
         files = {}
-        for entry in (shelf.disk.entry(index) for index in range(shelf.form.entries)):
+        for entry in (file.disk.entry(index) for index in range(file.form.entries)):
             if entry[0] != UNUSED:
-                size = 128 * shelf.disk.extent(entry) + entry[15]
+                size = 128 * file.disk.extent(entry) + entry[15]
                 first, most = files.get((entry[0], plain(entry[1:12])), (entry, 0))
                 files[entry[0], plain(entry[1:12])] = first, max(most, size)
         lines = [f"{first[0]} {text_of(first[1:12])} {size}" for first, size in files.values()]
-        return "\n".join([*lines, f"{shelf.form.dsm + 1 - len(shelf.disk.reserved)} blocks free"])
+        return "\n".join([*lines, f"{file.form.dsm + 1 - len(file.disk.reserved)} blocks free"])
 
     def is_name(self, arguments):
         user, name = some(arguments, 2)

@@ -3,7 +3,8 @@
 An archive is a folder:
 
     configs/NAME.toml   the configurations; each is run in a folder two below the archive, so it names what it reads
-                        ../../images/.. and ../../keys/.., and what it writes by plain names
+                        ../../images/.. and ../../keys/.., and what it writes by plain names. What begins with a dot there, as
+                        an editor's lock does, is no configuration; nor is what doesn't end so
     images/, keys/      what they read
     results/NAME/       what a configuration gave: the files that it names, and `report`, which is what the program printed,
                         with `status N` as its last line. A result is there whole or not at all
@@ -92,18 +93,26 @@ def replace(data, *path):
     os.replace(f"{target}.new", target)
 
 
-def names(folder):
-    """The names of an archive's configurations, in their order."""
+def all_names(folder):
+    """The names of an archive's configurations, in their order, and those that none can have."""
     try:
-        found = sorted(it[: -len(".toml")] for it in os.listdir(f"{folder}/configs") if it.endswith(".toml"))
+        found = sorted(it[: -len(".toml")] for it in os.listdir(f"{folder}/configs") if it.endswith(".toml") and not it.startswith("."))
     except OSError as error:
         raise Refusal(f"{folder} is no archive: can't read its folder configs: {error.strerror}")
-    for name in found:
-        if not NAME.fullmatch(name):
-            raise Refusal(f"{folder}/configs/{shown(name)}.toml: a name of letters, digits and . _ - is wanted")
-    if not found:
+    listed = [name for name in found if NAME.fullmatch(name)]
+    if not listed:
         raise Refusal(f"{folder} has no configurations")
-    return found
+    return listed, [name for name in found if not NAME.fullmatch(name)]
+
+
+def names(folder):
+    """The names of an archive's configurations, in their order."""
+    return all_names(folder)[0]
+
+
+def misnamed(folder):
+    """The rows of configurations that are not run, since they have a name that none can have."""
+    return [row for name in all_names(folder)[1] for row in refused(shown(name), "a name of letters, digits and . _ - is wanted")]
 
 
 def has_result(folder, name):

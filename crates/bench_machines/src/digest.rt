@@ -1,5 +1,6 @@
 //! Digests of bytes.
 
+use cpm_geom::Image;
 use std::fmt;
 
 /// How many bytes there were, and their digest by FNV-1a.
@@ -15,6 +16,17 @@ impl Digest {
             count: 0,
             value: 0xCBF2_9CE4_8422_2325,
         }
+    }
+
+    /// That of the drives that are left, one after another.
+    pub fn of_drives(drives: [Option<Image>; 4]) -> Digest {
+        let mut disks = Digest::new();
+        for drive in drives {
+            if let Some(image) = drive {
+                disks.add(image.into_bytes().as_slice());
+            }
+        }
+        disks
     }
 
     pub fn add(&mut self, bytes: &[u8]) {

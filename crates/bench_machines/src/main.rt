@@ -233,7 +233,7 @@ fn print_measure(rt: &HostRuntime, words: &[&str]) -> Option<()> {
     println!(rt; "{done}").ok()
 }
 
-/// Does what the words behind the program's own name ask for.
+/// Does what the words after the program's own name ask for.
 fn do_words(rt: &HostRuntime, words: &[&str]) -> Option<()> {
     match words {
         ["soak", rest @ ..] => run_soak(rt, rest),

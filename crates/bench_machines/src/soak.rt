@@ -2,17 +2,12 @@
 //! given counts; and a line of what each showed and left, so that the two can be compared.
 
 use crate::digest::Digest;
+use cpm_console::RING;
 use cpm_flags::Cpu;
 use cpm_geom::Image;
 use cpm_machine::{Closed, Granted, Machine, Opening, Why};
-use cpm_slots::{Host, SlotId};
+use cpm_slots::{Host, MOST_FRAMES, MOST_SLOTS, SlotId};
 use std::fs;
-
-/// The most sessions of a host.
-const MOST_SESSIONS: u16 = 64;
-
-/// The frames of a host: enough for all quotas.
-const MOST_FRAMES: u16 = 16_384;
 
 /// How many steps lie between two keys.
 const KEY_DISTANCE: u64 = 2503;
@@ -42,12 +37,12 @@ trait Grantee {
 
 /// A machine, with the system drive that is lent to it.
 #[derive(Drop)]
-struct ByItself<'a> {
+struct MachineGrantee<'a> {
     machine: Machine,
     system: &'a Image,
 }
 
-impl Grantee for ByItself<'_> {
+impl Grantee for MachineGrantee<'_> {
     fn press(&mut self, key: u8) -> Option<()> {
         // (a key too many is dropped)
         let _ = self.machine.key(key);
@@ -73,12 +68,12 @@ impl Grantee for ByItself<'_> {
 
 /// A slot of a host.
 #[derive(Drop)]
-struct Beside<'a> {
+struct SlotGrantee<'a> {
     host: &'a mut Host,
     id: SlotId,
 }
 
-impl Grantee for Beside<'_> {
+impl Grantee for SlotGrantee<'_> {
     fn press(&mut self, key: u8) -> Option<()> {
         let _ = self.host.key(self.id, key);
         Some(())
@@ -146,7 +141,7 @@ impl SoakProgress {
 
     /// Takes all output.
     fn take_all<S: Grantee>(&mut self, session: &mut S) -> Option<()> {
-        let mut out = [0; 8192];
+        let mut out = [0; RING];
         let count = session.take(&mut out)?;
         self.console.add(out.get(..count)?);
         let count = session.take_list(&mut out)?;
@@ -199,21 +194,10 @@ fn opening_of(rt: &HostRuntime, folder: &str, number: u16) -> Option<Opening> {
     })
 }
 
-/// The digest of the drives that are left.
-fn disks_of(drives: [Option<Image>; 4]) -> Digest {
-    let mut disks = Digest::new();
-    for drive in drives {
-        if let Some(image) = drive {
-            disks.add(image.into_bytes().as_slice());
-        }
-    }
-    disks
-}
-
 /// Prints what a session showed and left.
 fn tell(rt: &HostRuntime, number: u16, progress: &SoakProgress, memory: Digest, closed: Closed) {
     let Closed { look, drives } = closed;
-    let disks = disks_of(drives);
+    let disks = Digest::of_drives(drives);
     let SoakProgress { console, list, .. } = progress;
     let _ = println!(rt;
         "{number} console {console} list {list} memory {memory} disks {disks} {look:?}"
@@ -245,7 +229,7 @@ fn run_alone(
 ) -> Option<()> {
     let mut progress = SoakProgress::new(file_of(rt, folder, number, "keys")?);
     let machine = Machine::new(rt.alloc(), opening_of(rt, folder, number)?).ok()?;
-    let mut session = ByItself { machine, system };
+    let mut session = MachineGrantee { machine, system };
     let memory = play(&mut session, &mut progress, turns)?;
     tell(rt, number, &progress, memory, session.machine.finish());
     Some(())
@@ -290,7 +274,7 @@ fn round(host: &mut Host, sessions: &mut [OpenSlot], turns: &SoakTurns) -> Optio
     for session in sessions.iter_mut() {
         if !session.progress.is_over {
             has_run = true;
-            let mut slot = Beside {
+            let mut slot = SlotGrantee {
                 host,
                 id: session.id,
             };
@@ -312,7 +296,7 @@ fn play_all(host: &mut Host, sessions: &mut [OpenSlot], turns: &SoakTurns) -> Op
 
 /// Closes a session, and prints what it showed and left.
 fn close(rt: &HostRuntime, host: &mut Host, session: &OpenSlot) -> Option<()> {
-    let memory = memory_of(&Beside {
+    let memory = memory_of(&SlotGrantee {
         host,
         id: session.id,
     })?;
@@ -386,7 +370,7 @@ pub fn soak(
     steps: u64,
     quantum: Option<u64>,
 ) -> Option<()> {
-    let number = number.min(MOST_SESSIONS);
+    let number = number.min(MOST_SLOTS as u16);
     let system = system_of(rt, folder)?;
     match quantum {
         Some(quantum) => run_beside(rt, folder, number, system, &SoakTurns { steps, quantum }),

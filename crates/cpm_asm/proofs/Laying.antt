@@ -3,7 +3,7 @@ use Rattle.std.proofs.Common.{◌≡◌, ◌≤◌, ℕ, ◌+◌, ◌-◌, Bool,
 use Rattle.std.specs.Prelude.{if◌then◌else◌, nat_le, replicate}
 use Rattle.std.proofs.lemmas.List.{drop_at, length-replicate, take_at}
 use Rattle.cpm_asm_expression.specs.Names.{NameTable}
-use Rattle.cpm_asm.specs.Pieces.{Numbered}
+use Rattle.cpm_asm.specs.Pieces.{NumberedStatement}
 use Rattle.cpm_asm.specs.Statements.{Deed, Wrong, Nothing, End, Origin, Equate, If, EndIf, Nest, Unnest, Space, Bytes, Words, Plain, Byte, Word, Restart}
 use Rattle.cpm_asm.specs.Places.{position_at, depth, first_open, in_if, position_after}
 use Rattle.cpm_asm.specs.Passes.{position_behind, bytes_given, is_end_statement, laid, last_or, statement_of, measure_of, with_statement_bytes}
@@ -12,7 +12,7 @@ use Rattle.cpm_asm.specs.declared.measure.Measure.{Measure}
 use Rattle.cpm_asm.specs.declared.place.Position.{Position}
 
 -- each statement has room for its bytes before the next
-abbrev pub AllFit : NameTable → Position → List Numbered → Type 0
+abbrev pub AllFit : NameTable → Position → List NumberedStatement → Type 0
 AllFit t p [] = Unit {0}
 AllFit t p (x ∷ xs) = (p.address + length (bytes_given t p x).bytes ≤ (measure_of t p x).next) × UnlessLast (is_end_statement (statement_of p x).deed) (AllFit t (position_behind t p x) xs)
 
@@ -82,7 +82,7 @@ last_adds : (last : Bool) (image rest : List ℕ) → Adds image rest → Adds i
 last_adds true image rest h = ([], sym (append-nil image))
 last_adds false image rest h = h
 
-from_adds : (t : NameTable) (xs : List Numbered) (image : List ℕ) (p : Position) → Adds image (image_from t image p xs)
+from_adds : (t : NameTable) (xs : List NumberedStatement) (image : List ℕ) (p : Position) → Adds image (image_from t image p xs)
 from_adds t [] image p = ([], sym (append-nil image))
 from_adds t (x ∷ xs) image p =
     let wider = with_statement_bytes t image p x in
@@ -91,12 +91,12 @@ from_adds t (x ∷ xs) image p =
 
 -- ---- all statements
 
-lies_behind : (last : Bool) (t : NameTable) (wider final : List ℕ) (p : Position) (xs : List Numbered) → final ≡ last_or last wider (image_from t wider p xs)
+lies_behind : (last : Bool) (t : NameTable) (wider final : List ℕ) (p : Position) (xs : List NumberedStatement) → final ≡ last_or last wider (image_from t wider p xs)
     → UnlessLast last (AllFit t p xs) → (final ≡ image_from t wider p xs → AllFit t p xs → EachLies t final p xs) → UnlessLast last (EachLies t final p xs)
 lies_behind true t wider final p xs is fit later = tt
 lies_behind false t wider final p xs is fit later = later is fit
 
-pub lies : (t : NameTable) (xs : List Numbered) (image final : List ℕ) (p : Position) → final ≡ image_from t image p xs → AllFit t p xs → 256 ≤ p.address → length image ≤ p.address - 256
+pub lies : (t : NameTable) (xs : List NumberedStatement) (image final : List ℕ) (p : Position) → final ≡ image_from t image p xs → AllFit t p xs → 256 ≤ p.address → length image ≤ p.address - 256
     → EachLies t final p xs
 lies t [] image final p is fit low short = tt
 lies t (x ∷ xs) image final p is fit low short =

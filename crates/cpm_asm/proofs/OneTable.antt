@@ -10,12 +10,12 @@ use Rattle.std.proofs.lemmas.Cmp.{nat_list_cmp_total, tied_itself}
 use Rattle.std.proofs.lemmas.Map.Lookups.{exact_bytes}
 use Rattle.cpm_asm_expression.specs.Names.{Extends, NameTable, no_names, name_cmp}
 use Rattle.cpm_asm_expression.specs.declared.names.Name.{Name}
-use Rattle.cpm_asm.specs.Pieces.{Numbered, pieces}
+use Rattle.cpm_asm.specs.Pieces.{NumberedStatement, pieces}
 use Rattle.cpm_asm.specs.Statements.{StatementParts}
 use Rattle.cpm_asm.specs.Measures.{is_wrong}
 use Rattle.cpm_asm.specs.Places.{depth, lowest_fault, is_defined, is_misplaced, is_nameless, position_after, placed_over, start}
 use Rattle.cpm_asm.specs.Passes.{at_end, position_behind, both_passes, first_pass, is_end_statement, last_or, with_label, statement_of, second_behind, second_pass, table_after, measure_of, unless_first, unless_second, with_statement_bytes}
-use Rattle.cpm_asm.specs.Assembled.{Assembled, HasLabel, IsLabelled, IsTableOf, OrLater, UnlessLast, image_from}
+use Rattle.cpm_asm.specs.Assembled.{AssemblesTo, HasLabel, IsLabelled, IsTableOf, OrLater, UnlessLast, image_from}
 use Rattle.cpm_asm.specs.declared.measure.Measure.{Measure}
 use Rattle.cpm_asm.specs.declared.place.Position.{Position}
 use Rattle.cpm_asm.specs.declared.error.AsmError.{AsmError}
@@ -84,7 +84,7 @@ nothing_found m p s k h =
     let none = chain_none (is_wrong s.deed || is_misplaced p s.deed || is_nameless s) (is_defined m s.label) (k.is_outside || placed_over p.address s) k.is_unknown k.is_below _ _ _ _ _ h in
     (first_of_three (is_wrong s.deed) (is_misplaced p s.deed) (is_nameless s) none.0, none.1, none.2, first_of_two k.is_outside (placed_over p.address s) none.3, none.4)
 
-unless_ok : (p : Position) (x : Numbered) (xs : List Numbered) (o : Option AsmErrorKind) (r : Result NameTable AsmError) (t : NameTable) → unless_first p x xs o r ≡ Ok t → (o ≡ None) × (r ≡ Ok t)
+unless_ok : (p : Position) (x : NumberedStatement) (xs : List NumberedStatement) (o : Option AsmErrorKind) (r : Result NameTable AsmError) (t : NameTable) → unless_first p x xs o r ≡ Ok t → (o ≡ None) × (r ≡ Ok t)
 unless_ok p x xs None r t h = (refl, h)
 unless_ok p x xs (Some kind) r t h = absurd (true≢false (ap is_ok (sym h)))
 
@@ -103,20 +103,20 @@ at_end_ok p m t h = end_by (depth p == 0) _ m t h
 -- ---- the table
 
 -- a table behind another, of the statements between, and of no others
-pub record Behind (m t : NameTable) (p : Position) (xs : List Numbered) : Type 0 where
+pub record Behind (m t : NameTable) (p : Position) (xs : List NumberedStatement) : Type 0 where
   pub extends : Extends m t
   pub table : IsTableOf t p xs
   pub only : (n : Name) (v : ℕ) → t n ≡ Some v → (m n ≡ Some v) ⊎ IsLabelled t n p xs
   pub fit : AllFit t p xs
 
 -- the same, where the source may have ended
-record BehindLast (last : Bool) (m t : NameTable) (p : Position) (xs : List Numbered) : Type 0 where
+record BehindLast (last : Bool) (m t : NameTable) (p : Position) (xs : List NumberedStatement) : Type 0 where
   extends : Extends m t
   table : UnlessLast last (IsTableOf t p xs)
   only : (n : Name) (v : ℕ) → t n ≡ Some v → (m n ≡ Some v) ⊎ OrLater last (IsLabelled t n p xs)
   fit : UnlessLast last (AllFit t p xs)
 
-after_last : (last : Bool) (m t : NameTable) (q p : Position) (xs : List Numbered) → last_or last (at_end q m) (first_pass m p xs) ≡ Ok t
+after_last : (last : Bool) (m t : NameTable) (q p : Position) (xs : List NumberedStatement) → last_or last (at_end q m) (first_pass m p xs) ≡ Ok t
     → (first_pass m p xs ≡ Ok t → Behind m t p xs) → BehindLast last m t p xs
 after_last true m t q p xs h later =
     let same = at_end_ok q m t h in
@@ -128,7 +128,7 @@ combine : (m t : NameTable) (label : Option Name) (k : ℕ) (n : Name) (v : ℕ)
 combine m t label k n v Later (inl h) = elim (earlier_or_here m label k n v h) [ inl old ↦ inl old | inr here ↦ inr (inl here) ]
 combine m t label k n v Later (inr later) = inr (inr later)
 
-step : (m t : NameTable) (p : Position) (x : Numbered) (xs : List Numbered) → (is_wrong (statement_of p x).deed ≡ false) × (is_defined m (statement_of p x).label ≡ false) × ((measure_of m p x).is_unknown ≡ false) × ((measure_of m p x).is_outside ≡ false) × ((measure_of m p x).is_below ≡ false)
+step : (m t : NameTable) (p : Position) (x : NumberedStatement) (xs : List NumberedStatement) → (is_wrong (statement_of p x).deed ≡ false) × (is_defined m (statement_of p x).label ≡ false) × ((measure_of m p x).is_unknown ≡ false) × ((measure_of m p x).is_outside ≡ false) × ((measure_of m p x).is_below ≡ false)
     → BehindLast (is_end_statement (statement_of p x).deed) (with_label m p x) t (position_behind m p x) xs → Behind m t p (x ∷ xs)
 step m t p x xs quiet rest =
     let s = statement_of p x in
@@ -147,7 +147,7 @@ step m t p x xs quiet rest =
       );
     }
 
-pub one_table : (m t : NameTable) (p : Position) (xs : List Numbered) → first_pass m p xs ≡ Ok t → Behind m t p xs
+pub one_table : (m t : NameTable) (p : Position) (xs : List NumberedStatement) → first_pass m p xs ≡ Ok t → Behind m t p xs
 one_table m t p [] h =
     let same = at_end_ok p m t h in
     record { extends = λ n v k. ap (λ (r : NameTable). r n) (sym same) ∙ k; table = tt; only = λ n v k. inl (ap (λ (r : NameTable). r n) same ∙ k); fit = tt }
@@ -174,18 +174,18 @@ unfolding image_or
 image_last true image final rest r h later = sym (ap image_or h)
 image_last false image final rest r h later = later h
 
-pub laid_image : (names : NameTable) (xs : List Numbered) (image final : List ℕ) (p : Position) → second_pass names image p xs ≡ Ok final → final ≡ image_from names image p xs
+pub laid_image : (names : NameTable) (xs : List NumberedStatement) (image final : List ℕ) (p : Position) → second_pass names image p xs ≡ Ok final → final ≡ image_from names image p xs
 unfolding image_or
 laid_image names [] image final p h = sym (ap image_or h)
 laid_image names (x ∷ xs) image final p h =
     image_last (is_end_statement (statement_of p x).deed) (with_statement_bytes names image p x) final (image_from names (with_statement_bytes names image p x) (position_behind names p x) xs) _
     (unless_image x.line _ _ final h) (λ e. laid_image names xs (with_statement_bytes names image p x) final (position_behind names p x) e)
 
-pub no_name : (names : NameTable) (n : Name) (v : ℕ) (xs : List Numbered) → (no_names n ≡ Some v) ⊎ IsLabelled names n start xs → IsLabelled names n start xs
+pub no_name : (names : NameTable) (n : Name) (v : ℕ) (xs : List NumberedStatement) → (no_names n ≡ Some v) ⊎ IsLabelled names n start xs → IsLabelled names n start xs
 no_name names n v xs (inl h) = absurd (true≢false (sym (ap is_some h)))
 no_name names n v xs (inr h) = h
 
-unfoldable pub from_passes : (source image : List ℕ) (first : Result NameTable AsmError) → first_pass no_names start (pieces source) ≡ first → second_behind (pieces source) first ≡ Ok image → Assembled source image
+unfoldable pub from_passes : (source image : List ℕ) (first : Result NameTable AsmError) → first_pass no_names start (pieces source) ≡ first → second_behind (pieces source) first ≡ Ok image → AssemblesTo source image
 from_passes source image (Ok names) p h =
     let b = one_table no_names names start (pieces source) p in
     let bytes = laid_image names (pieces source) [] image start h in
@@ -198,6 +198,6 @@ from_passes source image (Ok names) p h =
     }
 from_passes source image (Err e) p h = absurd (true≢false (ap is_ok (sym h)))
 
-pub assembled : (source image : List ℕ) → both_passes source ≡ Ok image → Assembled source image
+pub assembled : (source image : List ℕ) → both_passes source ≡ Ok image → AssemblesTo source image
 unfolding both_passes
 assembled source image h = from_passes source image (first_pass no_names start (pieces source)) refl h

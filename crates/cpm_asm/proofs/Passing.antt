@@ -2,7 +2,7 @@
 use Rattle.std.proofs.Common.{◌≡◌, ℕ, true, false, List, [], ◌∷◌, ◌++◌, ap, sym, ◌∙◌, append_assoc, append-nil}
 use Rattle.std.specs.Prelude.{None, Some, Result, Ok, Err}
 use Rattle.cpm_asm_expression.specs.Names.{NameTable}
-use Rattle.cpm_asm.specs.Pieces.{Numbered}
+use Rattle.cpm_asm.specs.Pieces.{NumberedStatement}
 use Rattle.cpm_asm.specs.Statements.{StatementParts}
 use Rattle.cpm_asm.specs.Measures.{measured}
 use Rattle.cpm_asm.specs.Emitting.{emitted, second_fault}
@@ -18,22 +18,22 @@ use Rattle.cpm_asm.specs.declared.error.AsmErrorKind.{AsmErrorKind}
 
 -- ---- the first pass
 
-abbrev first_more : NameTable → Position → Numbered → List Numbered → StatementParts → Measure → Result NameTable AsmError
+abbrev first_more : NameTable → Position → NumberedStatement → List NumberedStatement → StatementParts → Measure → Result NameTable AsmError
 first_more names p x xs s m = last_or (is_end_statement s.deed) (at_end p (table_after names s.label m.label)) (first_pass (table_after names s.label m.label) (position_after p x.line s.deed m) xs)
 
-abbrev first_step : NameTable → Position → Numbered → List Numbered → StatementParts → Measure → Result NameTable AsmError
+abbrev first_step : NameTable → Position → NumberedStatement → List NumberedStatement → StatementParts → Measure → Result NameTable AsmError
 first_step names p x xs s m = unless_first p x xs (lowest_fault names p s m) (first_more names p x xs s m)
 
-first_at : (names : NameTable) (p : Position) (x : Numbered) (xs : List Numbered) (s : StatementParts) (m : Measure) → s ≡ statement_of p x → m ≡ measured names p.address s.deed
+first_at : (names : NameTable) (p : Position) (x : NumberedStatement) (xs : List NumberedStatement) (s : StatementParts) (m : Measure) → s ≡ statement_of p x → m ≡ measured names p.address s.deed
     → first_step names p x xs s m ≡ first_pass names p (x ∷ xs)
 first_at names p x xs s m is taken = ap (first_step names p x xs s) taken ∙ ap (λ (t : StatementParts). first_step names p x xs t (measured names p.address t.deed)) is
 
-first_quiet : (names : NameTable) (p : Position) (x : Numbered) (xs : List Numbered) (s : StatementParts) (m : Measure) → s ≡ statement_of p x → m ≡ measured names p.address s.deed
+first_quiet : (names : NameTable) (p : Position) (x : NumberedStatement) (xs : List NumberedStatement) (s : StatementParts) (m : Measure) → s ≡ statement_of p x → m ≡ measured names p.address s.deed
     → lowest_fault names p s m ≡ None → first_more names p x xs s m ≡ first_pass names p (x ∷ xs)
 first_quiet names p x xs s m is taken none =
     sym (ap (λ o. unless_first p x xs o (first_more names p x xs s m)) none) ∙ first_at names p x xs s m is taken
 
-pub first-on : (names : NameTable) (p : Position) (x : Numbered) (xs : List Numbered) (s : StatementParts) (m : Measure) (later : NameTable) (q : Position)
+pub first-on : (names : NameTable) (p : Position) (x : NumberedStatement) (xs : List NumberedStatement) (s : StatementParts) (m : Measure) (later : NameTable) (q : Position)
     → s ≡ statement_of p x → m ≡ measured names p.address s.deed → lowest_fault names p s m ≡ None → is_end_statement s.deed ≡ false
     → later ≡ table_after names s.label m.label → q ≡ position_after p x.line s.deed m
     → first_pass later q xs ≡ first_pass names p (x ∷ xs)
@@ -42,7 +42,7 @@ first-on names p x xs s m later q is taken none on named there =
     ∙ sym (ap (λ b. last_or b (at_end p (table_after names s.label m.label)) (first_pass (table_after names s.label m.label) (position_after p x.line s.deed m) xs)) on)
     ∙ first_quiet names p x xs s m is taken none
 
-pub first-last : (names : NameTable) (p : Position) (x : Numbered) (xs : List Numbered) (s : StatementParts) (m : Measure) (later : NameTable)
+pub first-last : (names : NameTable) (p : Position) (x : NumberedStatement) (xs : List NumberedStatement) (s : StatementParts) (m : Measure) (later : NameTable)
     → s ≡ statement_of p x → m ≡ measured names p.address s.deed → lowest_fault names p s m ≡ None → is_end_statement s.deed ≡ true
     → later ≡ table_after names s.label m.label
     → at_end p later ≡ first_pass names p (x ∷ xs)
@@ -53,23 +53,23 @@ first-last names p x xs s m later is taken none last named =
 
 -- ---- the second pass
 
-abbrev second_more : NameTable → List ℕ → Position → Numbered → List Numbered → StatementParts → Measure → Result (List ℕ) AsmError
+abbrev second_more : NameTable → List ℕ → Position → NumberedStatement → List NumberedStatement → StatementParts → Measure → Result (List ℕ) AsmError
 second_more names image p x xs s m =
     last_or (is_end_statement s.deed) (Ok (laid image p.address (emitted names p.address m.next s.deed).bytes)) (second_pass names (laid image p.address (emitted names p.address m.next s.deed).bytes) (position_after p x.line s.deed m) xs)
 
-abbrev second_step : NameTable → List ℕ → Position → Numbered → List Numbered → StatementParts → Measure → Result (List ℕ) AsmError
+abbrev second_step : NameTable → List ℕ → Position → NumberedStatement → List NumberedStatement → StatementParts → Measure → Result (List ℕ) AsmError
 second_step names image p x xs s m = unless_second x.line (second_fault (emitted names p.address m.next s.deed).doubt) (second_more names image p x xs s m)
 
-second_at : (names : NameTable) (image : List ℕ) (p : Position) (x : Numbered) (xs : List Numbered) (s : StatementParts) (m : Measure) → s ≡ statement_of p x → m ≡ measured names p.address s.deed
+second_at : (names : NameTable) (image : List ℕ) (p : Position) (x : NumberedStatement) (xs : List NumberedStatement) (s : StatementParts) (m : Measure) → s ≡ statement_of p x → m ≡ measured names p.address s.deed
     → second_step names image p x xs s m ≡ second_pass names image p (x ∷ xs)
 second_at names image p x xs s m is taken = ap (second_step names image p x xs s) taken ∙ ap (λ (t : StatementParts). second_step names image p x xs t (measured names p.address t.deed)) is
 
-second_quiet : (names : NameTable) (image : List ℕ) (p : Position) (x : Numbered) (xs : List Numbered) (s : StatementParts) (m : Measure) (d : Doubt) → s ≡ statement_of p x → m ≡ measured names p.address s.deed
+second_quiet : (names : NameTable) (image : List ℕ) (p : Position) (x : NumberedStatement) (xs : List NumberedStatement) (s : StatementParts) (m : Measure) (d : Doubt) → s ≡ statement_of p x → m ≡ measured names p.address s.deed
     → d ≡ (emitted names p.address m.next s.deed).doubt → second_fault d ≡ None → second_more names image p x xs s m ≡ second_pass names image p (x ∷ xs)
 second_quiet names image p x xs s m d is taken doubt none =
     sym (ap (λ o. unless_second x.line o (second_more names image p x xs s m)) (ap second_fault (sym doubt) ∙ none)) ∙ second_at names image p x xs s m is taken
 
-pub second-on : (names : NameTable) (image after : List ℕ) (p : Position) (x : Numbered) (xs : List Numbered) (s : StatementParts) (m : Measure) (d : Doubt) (q : Position)
+pub second-on : (names : NameTable) (image after : List ℕ) (p : Position) (x : NumberedStatement) (xs : List NumberedStatement) (s : StatementParts) (m : Measure) (d : Doubt) (q : Position)
     → s ≡ statement_of p x → m ≡ measured names p.address s.deed → d ≡ (emitted names p.address m.next s.deed).doubt → second_fault d ≡ None → is_end_statement s.deed ≡ false
     → after ≡ laid image p.address (emitted names p.address m.next s.deed).bytes → q ≡ position_after p x.line s.deed m
     → second_pass names after q xs ≡ second_pass names image p (x ∷ xs)
@@ -78,7 +78,7 @@ second-on names image after p x xs s m d q is taken doubt none on bytes there =
     ∙ sym (ap (λ b. last_or b (Ok (laid image p.address (emitted names p.address m.next s.deed).bytes)) (second_pass names (laid image p.address (emitted names p.address m.next s.deed).bytes) (position_after p x.line s.deed m) xs)) on)
     ∙ second_quiet names image p x xs s m d is taken doubt none
 
-pub second-last : (names : NameTable) (image after : List ℕ) (p : Position) (x : Numbered) (xs : List Numbered) (s : StatementParts) (m : Measure) (d : Doubt)
+pub second-last : (names : NameTable) (image after : List ℕ) (p : Position) (x : NumberedStatement) (xs : List NumberedStatement) (s : StatementParts) (m : Measure) (d : Doubt)
     → s ≡ statement_of p x → m ≡ measured names p.address s.deed → d ≡ (emitted names p.address m.next s.deed).doubt → second_fault d ≡ None → is_end_statement s.deed ≡ true
     → after ≡ laid image p.address (emitted names p.address m.next s.deed).bytes
     → second_pass names image p (x ∷ xs) ≡ Ok after
@@ -87,7 +87,7 @@ second-last names image after p x xs s m d is taken doubt none last bytes =
     ∙ ap (λ b. last_or b (Ok (laid image p.address (emitted names p.address m.next s.deed).bytes)) (second_pass names (laid image p.address (emitted names p.address m.next s.deed).bytes) (position_after p x.line s.deed m) xs)) last
     ∙ ap (λ (i : List ℕ). Ok i) (sym bytes)
 
-pub second-ends : (names : NameTable) (image : List ℕ) (p : Position) (x : Numbered) (xs : List Numbered) (s : StatementParts) (m : Measure) (d : Doubt) (kind : AsmErrorKind)
+pub second-ends : (names : NameTable) (image : List ℕ) (p : Position) (x : NumberedStatement) (xs : List NumberedStatement) (s : StatementParts) (m : Measure) (d : Doubt) (kind : AsmErrorKind)
     → s ≡ statement_of p x → m ≡ measured names p.address s.deed → d ≡ (emitted names p.address m.next s.deed).doubt → second_fault d ≡ Some kind
     → second_pass names image p (x ∷ xs) ≡ Err (record { line = x.line; kind = kind })
 second-ends names image p x xs s m d kind is taken doubt found =
@@ -95,17 +95,17 @@ second-ends names image p x xs s m d kind is taken doubt found =
 
 -- ---- places
 
-abbrev place_at : NameTable → Position → Numbered → StatementParts → Measure → List Placement
+abbrev place_at : NameTable → Position → NumberedStatement → StatementParts → Measure → List Placement
 place_at names p x s m = placement_of (placement x.line p.address (emitted names p.address m.next s.deed).bytes) s
 
-abbrev place_step : NameTable → Position → Numbered → List Numbered → StatementParts → Measure → List Placement
+abbrev place_step : NameTable → Position → NumberedStatement → List NumberedStatement → StatementParts → Measure → List Placement
 place_step names p x xs s m = place_at names p x s m ++ last_or (is_end_statement s.deed) [] (places_from names (position_after p x.line s.deed m) xs)
 
-place_is : (names : NameTable) (p : Position) (x : Numbered) (xs : List Numbered) (s : StatementParts) (m : Measure) → s ≡ statement_of p x → m ≡ measured names p.address s.deed
+place_is : (names : NameTable) (p : Position) (x : NumberedStatement) (xs : List NumberedStatement) (s : StatementParts) (m : Measure) → s ≡ statement_of p x → m ≡ measured names p.address s.deed
     → place_step names p x xs s m ≡ places_from names p (x ∷ xs)
 place_is names p x xs s m is taken = ap (place_step names p x xs s) taken ∙ ap (λ (t : StatementParts). place_step names p x xs t (measured names p.address t.deed)) is
 
-pub place-on : (names : NameTable) (front after : List Placement) (p : Position) (x : Numbered) (xs : List Numbered) (s : StatementParts) (m : Measure) (q : Position)
+pub place-on : (names : NameTable) (front after : List Placement) (p : Position) (x : NumberedStatement) (xs : List NumberedStatement) (s : StatementParts) (m : Measure) (q : Position)
     → s ≡ statement_of p x → m ≡ measured names p.address s.deed → is_end_statement s.deed ≡ false
     → after ≡ front ++ placement_of (placement x.line p.address (emitted names p.address m.next s.deed).bytes) s → q ≡ position_after p x.line s.deed m
     → after ++ places_from names q xs ≡ front ++ places_from names p (x ∷ xs)
@@ -117,7 +117,7 @@ place-on names front after p x xs s m q is taken on added there =
     ∙ sym (ap (λ b. front ++ (own ++ last_or b [] (places_from names (position_after p x.line s.deed m) xs))) on)
     ∙ ap (λ (ps : List Placement). front ++ ps) (place_is names p x xs s m is taken)
 
-pub place-last : (names : NameTable) (front after : List Placement) (p : Position) (x : Numbered) (xs : List Numbered) (s : StatementParts) (m : Measure)
+pub place-last : (names : NameTable) (front after : List Placement) (p : Position) (x : NumberedStatement) (xs : List NumberedStatement) (s : StatementParts) (m : Measure)
     → s ≡ statement_of p x → m ≡ measured names p.address s.deed → is_end_statement s.deed ≡ true
     → after ≡ front ++ placement_of (placement x.line p.address (emitted names p.address m.next s.deed).bytes) s
     → after ≡ front ++ places_from names p (x ∷ xs)

@@ -5,7 +5,7 @@ use Rattle.std.specs.List.{All}
 use Rattle.std.proofs.lemmas.Bool.{true≢false}
 use Rattle.std.proofs.lemmas.List.Elements.{All-nil, All-cons, All-append}
 use Rattle.cpm_asm_expression.specs.Names.{NameTable, no_names}
-use Rattle.cpm_asm.specs.Pieces.{Numbered, pieces}
+use Rattle.cpm_asm.specs.Pieces.{NumberedStatement, pieces}
 use Rattle.cpm_asm.specs.Statements.{Deed, Wrong, Nothing, End, Origin, Equate, If, EndIf, Nest, Unnest, Space, Bytes, Words, Plain, Byte, Word, Restart}
 use Rattle.cpm_asm.specs.Emitting.{emitted}
 use Rattle.cpm_asm.specs.Places.{start}
@@ -68,7 +68,7 @@ lies_later : (last : Bool) (More : Type 0) → UnlessLast last More → last ≡
 lies_later true More h is = absurd (true≢false is)
 lies_later false More h is = h
 
-relaid_from : (t : NameTable) (xs : List Numbered) (image front : List ℕ) (p : Position) → EachLies t image p xs → relaid image front (places_from t p xs) ≡ image_from t front p xs
+relaid_from : (t : NameTable) (xs : List NumberedStatement) (image front : List ℕ) (p : Position) → EachLies t image p xs → relaid image front (places_from t p xs) ≡ image_from t front p xs
 relaid_from t [] image front p each = refl
 relaid_from t (x ∷ xs) image front p each =
     let s = statement_of p x in
@@ -82,7 +82,7 @@ filled_last : (last : Bool) (image : List ℕ) (more : List Placement) → (last
 filled_last true image more later = All-nil (IsFilled image)
 filled_last false image more later = later refl
 
-filled_from : (t : NameTable) (xs : List Numbered) (image : List ℕ) (p : Position) → EachLies t image p xs → All (IsFilled image) (places_from t p xs)
+filled_from : (t : NameTable) (xs : List NumberedStatement) (image : List ℕ) (p : Position) → EachLies t image p xs → All (IsFilled image) (places_from t p xs)
 filled_from t [] image p each = All-nil (IsFilled image)
 filled_from t (x ∷ xs) image p each =
     let last = is_end_statement (statement_of p x).deed in

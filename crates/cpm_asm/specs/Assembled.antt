@@ -2,7 +2,7 @@
 use Rattle.std.specs.Prelude.{◌≡◌, ◌⊎◌, ℕ, List, [], ◌∷◌, ◌-◌, Bool, true, false, Option, None, Some, take, drop, length}
 use Rattle.cpm_asm_expression.specs.Names.{NameTable}
 use Rattle.cpm_asm_expression.specs.declared.names.Name.{Name}
-use Rattle.cpm_asm.specs.Pieces.{Numbered, pieces}
+use Rattle.cpm_asm.specs.Pieces.{NumberedStatement, pieces}
 use Rattle.cpm_asm.specs.Places.{start}
 use Rattle.cpm_asm.specs.Passes.{position_behind, bytes_given, is_end_statement, last_or, statement_of, measure_of, with_statement_bytes}
 use Rattle.cpm_asm.specs.declared.place.Position.{Position}
@@ -16,7 +16,7 @@ UnlessLast true More = Unit {0}
 UnlessLast false More = More
 
 -- each label has the address of its statement and each EQU name its value, both under this same table
-abbrev pub IsTableOf : NameTable → Position → List Numbered → Type 0
+abbrev pub IsTableOf : NameTable → Position → List NumberedStatement → Type 0
 IsTableOf names p [] = Unit {0}
 IsTableOf names p (x ∷ xs) = HasLabel names (statement_of p x).label (measure_of names p x).label
     × UnlessLast (is_end_statement (statement_of p x).deed) (IsTableOf names (position_behind names p x) xs)
@@ -26,13 +26,13 @@ OrLater true More = ⊥
 OrLater false More = More
 
 -- a statement has the name as its label
-abbrev pub IsLabelled : NameTable → Name → Position → List Numbered → Type 0
+abbrev pub IsLabelled : NameTable → Name → Position → List NumberedStatement → Type 0
 IsLabelled names n p [] = ⊥
 IsLabelled names n p (x ∷ xs) = ((statement_of p x).label ≡ Some n)
     ⊎ OrLater (is_end_statement (statement_of p x).deed) (IsLabelled names n (position_behind names p x) xs)
 
 -- the bytes of each statement at its address, gaps 0, all under one table
-abbrev pub image_from : NameTable → List ℕ → Position → List Numbered → List ℕ
+abbrev pub image_from : NameTable → List ℕ → Position → List NumberedStatement → List ℕ
 image_from names image p [] = image
 image_from names image p (x ∷ xs) =
     last_or (is_end_statement (statement_of p x).deed) (with_statement_bytes names image p x)
@@ -43,14 +43,14 @@ abbrev pub LiesAt : List ℕ → ℕ → List ℕ → Type 0
 LiesAt image a bytes = take (length bytes) (drop (a - 256) image) ≡ bytes
 
 -- the bytes of each statement stand at its address
-abbrev pub EachLies : NameTable → List ℕ → Position → List Numbered → Type 0
+abbrev pub EachLies : NameTable → List ℕ → Position → List NumberedStatement → Type 0
 EachLies names image p [] = Unit {0}
 EachLies names image p (x ∷ xs) = LiesAt image p.address (bytes_given names p x).bytes
     × UnlessLast (is_end_statement (statement_of p x).deed) (EachLies names image (position_behind names p x) xs)
 
 -- There is one table of names under which each label has its value, which has no other names, and by which the image
 -- is the bytes of the statements, each at its address, and zeros between them.
-pub record Assembled (source image : List ℕ) : Type 0 where
+pub record AssemblesTo (source image : List ℕ) : Type 0 where
   pub names : NameTable
   pub table : IsTableOf names start (pieces source)
   pub only : (n : Name) (v : ℕ) → names n ≡ Some v → IsLabelled names n start (pieces source)

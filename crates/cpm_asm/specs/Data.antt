@@ -61,7 +61,7 @@ list_size is_words list = sizes is_words (parts comma false list)
 
 -- ---- bytes, and what is wrong with them
 
-pub record Emitted : Type 0 where
+pub record EmittedBytes : Type 0 where
   pub bytes : List ℕ
   pub doubt : Doubt
 
@@ -71,7 +71,7 @@ no_doubt = record { is_unknown = false; is_outside = false }
 abbrev pub either : Doubt → Doubt → Doubt
 either d e = record { is_unknown = d.is_unknown || e.is_unknown; is_outside = d.is_outside || e.is_outside }
 
-abbrev pub certain : List ℕ → Emitted
+abbrev pub certain : List ℕ → EmittedBytes
 certain bytes = record { bytes = bytes; doubt = no_doubt }
 
 -- 0 to 255, or FF80h to FFFFh
@@ -87,19 +87,19 @@ word_doubt v = record { is_unknown = v.is_unknown; is_outside = v.is_outside }
 abbrev pub low_byte : ℕ → ℕ
 low_byte n = n % 256
 
-abbrev pub emitted_byte : CheckedValue → Emitted
+abbrev pub emitted_byte : CheckedValue → EmittedBytes
 emitted_byte v = record { bytes = low_byte v.number ∷ []; doubt = byte_doubt v }
 
 -- the low byte first
-abbrev pub word_of_value : CheckedValue → Emitted
+abbrev pub word_of_value : CheckedValue → EmittedBytes
 word_of_value v = record { bytes = low_byte v.number ∷ v.number / 256 ∷ []; doubt = word_doubt v }
 
-abbrev pub byte_item : NameTable → ℕ → List ℕ → Option (List ℕ) → Emitted
+abbrev pub byte_item : NameTable → ℕ → List ℕ → Option (List ℕ) → EmittedBytes
 byte_item names here operand None = emitted_byte (expression_value names here operand)
 byte_item names here operand (Some characters) = certain characters
 
 -- the bytes of an operand of DB, or of one of DW
-abbrev pub operand_bytes : Bool → NameTable → ℕ → List ℕ → Emitted
+abbrev pub operand_bytes : Bool → NameTable → ℕ → List ℕ → EmittedBytes
 operand_bytes is_words names here operand =
     if is_words then word_of_value (expression_value names here operand) else byte_item names here operand (text_in operand)
 
@@ -113,7 +113,7 @@ all_doubts is_words names here d [] = d
 all_doubts is_words names here d (x ∷ xs) = all_doubts is_words names here (either d (operand_bytes is_words names here x).doubt) xs
 
 -- the bytes of a list of operands
-unfoldable pub list_bytes : Bool → NameTable → ℕ → List ℕ → Emitted
+unfoldable pub list_bytes : Bool → NameTable → ℕ → List ℕ → EmittedBytes
 list_bytes is_words names here list = record {
   bytes = all_bytes is_words names here (parts comma false list);
   doubt = all_doubts is_words names here no_doubt (parts comma false list);

@@ -7,7 +7,7 @@ use Rattle.cpm_asm_expression.specs.declared.values.CheckedValue.{CheckedValue}
 use Rattle.cpm_decode.specs.declared.operation.Op.TheVariants as op
 use Rattle.cpm_asm.specs.Statements.{Deed, Wrong, Nothing, End, Origin, Equate, If, EndIf, Nest, Unnest, Space, Bytes, Words, Plain, Byte, Word, Restart}
 use Rattle.cpm_asm.specs.Encoding.{encoded, op_with_byte, op_with_word}
-use Rattle.cpm_asm.specs.Data.{Emitted, byte_doubt, certain, list_bytes, low_byte, expression_value, word_doubt}
+use Rattle.cpm_asm.specs.Data.{EmittedBytes, byte_doubt, certain, list_bytes, low_byte, expression_value, word_doubt}
 use Rattle.cpm_asm.specs.declared.emit.Doubt.{Doubt}
 use Rattle.cpm_asm.specs.declared.error.AsmErrorKind.{AsmErrorKind}
 use Rattle.cpm_asm.specs.declared.error.AsmErrorKind.TheVariants as kinds
@@ -16,8 +16,8 @@ use Rattle.cpm_asm.specs.declared.error.AsmErrorKind.TheVariants as kinds
 abbrev pub restart_doubt : CheckedValue → Doubt
 restart_doubt v = record { is_unknown = v.is_unknown; is_outside = v.is_outside || nat_lt 7 v.number }
 
--- the bytes of a statement at an address, where next is the address behind it
-unfoldable pub emitted : NameTable → ℕ → ℕ → Deed → Emitted
+-- the bytes of a statement at an address, where next is the address after it
+unfoldable pub emitted : NameTable → ℕ → ℕ → Deed → EmittedBytes
 emitted names a next Wrong = certain []
 emitted names a next Nothing = certain []
 emitted names a next End = certain []

@@ -46,40 +46,40 @@ abbrev pub after_colon : List ℕ → List ℕ
 after_colon text = without_colon (after_blanks text)
 
 -- the front of a statement, and the text of its operands
-pub record Fronted : Type 0 where
+pub record StatementHead : Type 0 where
   pub label : Option Name
   pub operation : Option Operation
   pub operands : List ℕ
 
-abbrev pub seen_head : Head → Fronted
+abbrev pub seen_head : Head → StatementHead
 seen_head head = record { label = head.label; operation = head.operation; operands = head.operands.now }
 
-abbrev pub with_operation : Option Name → Option Keyword → List ℕ → Option Fronted
+abbrev pub with_operation : Option Name → Option Keyword → List ℕ → Option StatementHead
 with_operation label (Some (k.Operation o)) after = Some (record { label = label; operation = Some o; operands = after })
 with_operation label _ after = None
 
-abbrev pub behind_label_front : Name → Front → Option Fronted
+abbrev pub behind_label_front : Name → Front → Option StatementHead
 behind_label_front label Nothing = Some (record { label = Some label; operation = None; operands = [] })
 behind_label_front label (Word letters after) = with_operation (Some label) (keyword_of letters) after
 behind_label_front label Other = None
 
--- behind a label stands an operation or nothing
-abbrev pub behind_label : Name → List ℕ → Option Fronted
+-- after a label stands an operation or nothing
+abbrev pub behind_label : Name → List ℕ → Option StatementHead
 behind_label label text = behind_label_front label (word_front text)
 
 -- a first word that is no operation is a label; a register isn't one
-abbrev pub by_keyword : List ℕ → Option Keyword → List ℕ → Option Fronted
+abbrev pub by_keyword : List ℕ → Option Keyword → List ℕ → Option StatementHead
 by_keyword letters (Some (k.Operation o)) after = Some (record { label = None; operation = Some o; operands = after })
 by_keyword letters (Some (k.Register r)) after = None
 by_keyword letters (Some (k.Operator o)) after = behind_label (name_with letters) (after_colon after)
 by_keyword letters (Some k.Not) after = behind_label (name_with letters) (after_colon after)
 by_keyword letters None after = behind_label (name_with letters) (after_colon after)
 
-abbrev pub head_front : Front → Option Fronted
+abbrev pub head_front : Front → Option StatementHead
 head_front Nothing = Some (record { label = None; operation = None; operands = [] })
 head_front (Word letters after) = by_keyword letters (keyword_of letters) after
 head_front Other = None
 
 -- the front of a statement; None where a text does not begin as one
-abbrev pub statement_front : List ℕ → Option Fronted
+abbrev pub statement_front : List ℕ → Option StatementHead
 statement_front text = head_front (word_front text)

@@ -8,34 +8,34 @@ use Rattle.cpm_asm.specs.declared.pieces.Piece.{Piece}
 use Rattle.cpm_asm.specs.declared.pieces.Pieces.{Pieces}
 
 -- a statement's text, and its line
-pub record Numbered : Type 0 where
+pub record NumberedStatement : Type 0 where
   pub line : ℕ
   pub text : List ℕ
 
-abbrev pub numbered_statement : ℕ → List ℕ → Numbered
+abbrev pub numbered_statement : ℕ → List ℕ → NumberedStatement
 numbered_statement line text = record { line = line; text = text }
 
 -- ! outside quotes separates statements
 abbrev pub bang : ℕ
 bang = 0x21
 
-abbrev pub in_line : ℕ → List (List ℕ) → List Numbered
+abbrev pub in_line : ℕ → List (List ℕ) → List NumberedStatement
 in_line line texts = map (numbered_statement line) texts
 
 -- the statements of lines, of which the first has the number after this one
-abbrev pub pieces_after : ℕ → List (List ℕ) → List Numbered
+abbrev pub pieces_after : ℕ → List (List ℕ) → List NumberedStatement
 pieces_after line [] = []
 pieces_after line (l ∷ ls) = in_line (line + 1) (parts bang false (line_code l)) ++ pieces_after (line + 1) ls
 
 -- the statements of a source
-unfoldable pub pieces : List ℕ → List Numbered
+unfoldable pub pieces : List ℕ → List NumberedStatement
 pieces source = pieces_after 0 (lines (source_text source))
 
-abbrev pub seen_piece : Piece → Numbered
+abbrev pub seen_piece : Piece → NumberedStatement
 seen_piece p = numbered_statement p.line p.text.now
 
--- what is left: statements of the line that was begun, and of the lines behind it
-abbrev pub statements_left : Pieces → List Numbered
+-- what is left: statements of the line that was begun, and of the lines after it
+abbrev pub statements_left : Pieces → List NumberedStatement
 statements_left p = in_line p.line (parts_behind bang p.behind) ++ pieces_after p.line (lines p.rest.now)
 
 abbrev pub bytes_behind : Option (Bor (List ℕ)) → ℕ

@@ -7,11 +7,11 @@ use Rattle.cpm_asm_expression.specs.Names.{NameTable}
 use Rattle.cpm_asm_expression.specs.declared.names.Name.{Name}
 use Rattle.cpm_asm_expression.specs.declared.words.Operation.{Operation}
 use Rattle.cpm_asm_expression.specs.declared.words.Operation.TheVariants as o
-use Rattle.cpm_asm.specs.Heads.{Fronted, statement_front}
+use Rattle.cpm_asm.specs.Heads.{StatementHead, statement_front}
 use Rattle.cpm_asm.specs.declared.nesting.Depth.{Depth}
 use Rattle.cpm_asm.specs.declared.nesting.NestingChange.{NestingChange}
 use Rattle.cpm_asm.specs.declared.nesting.NestingChange.TheVariants as turning
-use Rattle.cpm_asm.specs.Pieces.{Numbered}
+use Rattle.cpm_asm.specs.Pieces.{NumberedStatement}
 use Rattle.cpm_asm.specs.Statements.{Deed, Equate, If, EndIf, Nest, Unnest, StatementParts}
 use Rattle.cpm_asm.specs.Measures.{is_wrong}
 use Rattle.cpm_asm.specs.declared.measure.Measure.{Measure}
@@ -36,14 +36,14 @@ position_at p a = record { address = a; held = p.held; skipped = p.skipped; oute
 abbrev pub first_open : Position → ℕ → ℕ
 first_open p line = if depth p == 0 then line else p.outermost
 
--- behind an IF, that holds or doesn't; a ninth one isn't opened
+-- after an IF, that holds or doesn't; a ninth one isn't opened
 abbrev pub in_if : Position → ℕ → Bool → Position
 in_if p line holds =
     if nat_le 8 (depth p) then p
     else if holds then record { address = p.address; held = p.held + 1; skipped = p.skipped; outermost = first_open p line }
     else record { address = p.address; held = p.held; skipped = p.skipped + 1; outermost = first_open p line }
 
--- the place behind a statement
+-- the place after a statement
 abbrev pub position_after : Position → ℕ → Deed → Measure → Position
 position_after p line (If e) k = in_if (position_at p k.next) line k.holds
 position_after p line Nest k = in_if (position_at p k.next) line false
@@ -74,7 +74,7 @@ abbrev pub is_defined : NameTable → Option Name → Bool
 is_defined names None = false
 is_defined names (Some name) = is_some (names name)
 
--- a label behind the last address, and not one of EQU
+-- a label after the last address, and not one of EQU
 abbrev pub placed_over : ℕ → StatementParts → Bool
 placed_over a s = nat_le 65536 a && is_some s.label && not (is_equate s.deed)
 
@@ -109,7 +109,7 @@ turn_by (Some o.EndIf) = Closes
 turn_by (Some o.End) = Ends
 turn_by _ = Stays
 
-abbrev pub turn_front : Option Fronted → Turn
+abbrev pub turn_front : Option StatementHead → Turn
 turn_front None = Stays
 turn_front (Some head) = turn_by head.operation
 
@@ -126,7 +126,7 @@ shallower d = if d.skipped == 0 then record { held = d.held - 1; skipped = 0 } e
 abbrev pub deeper : Depth → Depth
 deeper d = record { held = d.held; skipped = d.skipped + 1 }
 
--- what is known behind a statement: whether all IFs are closed, or how many are open
+-- what is known after a statement: whether all IFs are closed, or how many are open
 abbrev pub sought : Depth → Turn → (Depth → Bool) → Bool
 sought d Stays next = next d
 sought d Opens next = next (deeper d)
@@ -135,13 +135,23 @@ sought d Closes next = if depth_of (shallower d) == 0 then true else next (shall
 
 -- Whether the IFs that are open are closed by what follows. IFs are counted, as under one that doesn't hold; END ends
 -- the source where it is read (own).
-abbrev pub closes : Depth → List Numbered → Bool
+abbrev pub closes : Depth → List NumberedStatement → Bool
 closes d [] = false
 closes d (x ∷ xs) = sought d (nesting_change_of x.text) (λ e. closes e xs)
 
--- A fault of a statement, or that of the first IF that is open where it is left open.
-unfoldable pub blamed : Position → ℕ → AsmErrorKind → List Numbered → AsmError
+abbrev pub is_opening : Turn → Bool
+is_opening Opens = true
+is_opening _ = false
+
+-- the first of these statements opens an IF
+abbrev pub opens_first : List NumberedStatement → Bool
+opens_first [] = false
+opens_first (x ∷ xs) = is_opening (nesting_change_of x.text)
+
+-- A fault of the first of these statements. But where an IF before it or its own is left open, that of the first such IF:
+-- it stands in an earlier line, or has the lower number.
+unfoldable pub blamed : Position → ℕ → AsmErrorKind → List NumberedStatement → AsmError
 blamed p line kind rest =
-    if (depth p == 0) || closes (record { held = p.held; skipped = p.skipped }) rest
+    if ((depth p == 0) && not (opens_first rest)) || closes (record { held = p.held; skipped = p.skipped }) rest
     then record { line = line; kind = kind }
-    else record { line = p.outermost; kind = kinds.Syntax }
+    else record { line = first_open p line; kind = kinds.Syntax }

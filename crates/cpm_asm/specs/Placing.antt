@@ -2,7 +2,7 @@
 use Rattle.std.specs.Prelude.{◌≡◌, ◌⊎◌, ℕ, List, [], ◌∷◌, ◌++◌, ◌-◌, Bool, true, false, if◌then◌else◌, ◌||◌, is_some, length, take, drop, Result, Ok, Err}
 use Rattle.std.specs.List.{All}
 use Rattle.cpm_asm_expression.specs.Names.{NameTable, no_names}
-use Rattle.cpm_asm.specs.Pieces.{Numbered, pieces}
+use Rattle.cpm_asm.specs.Pieces.{NumberedStatement, pieces}
 use Rattle.cpm_asm.specs.Statements.{Deed, Wrong, Nothing, End, If, EndIf, Nest, Unnest, StatementParts}
 use Rattle.cpm_asm.specs.Places.{start}
 use Rattle.cpm_asm.specs.Passes.{position_behind, first_pass, bytes_given, is_end_statement, laid, last_or, statement_of}
@@ -36,15 +36,15 @@ abbrev pub placement : ℕ → ℕ → List ℕ → Placement
 placement line a bytes = record { line = line; address = a; length = length bytes }
 
 -- of a statement, at the address that was reached
-abbrev pub own_place : NameTable → Position → Numbered → List Placement
+abbrev pub own_place : NameTable → Position → NumberedStatement → List Placement
 own_place names p x = placement_of (placement x.line p.address (bytes_given names p x).bytes) (statement_of p x)
 
 -- of the statements up to END, one after another, under one table
-abbrev pub places_from : NameTable → Position → List Numbered → List Placement
+abbrev pub places_from : NameTable → Position → List NumberedStatement → List Placement
 places_from names p [] = []
 places_from names p (x ∷ xs) = own_place names p x ++ last_or (is_end_statement (statement_of p x).deed) [] (places_from names (position_behind names p x) xs)
 
-abbrev pub places_behind : List Numbered → Result NameTable AsmError → List Placement
+abbrev pub places_behind : List NumberedStatement → Result NameTable AsmError → List Placement
 places_behind xs (Ok names) = places_from names start xs
 places_behind xs (Err refusal) = []
 
@@ -60,7 +60,7 @@ bytes_at image p = take p.length (drop (p.address - 256) image)
 abbrev pub IsFilled : List ℕ → Placement → Type 0
 IsFilled image p = length (bytes_at image p) ≡ p.length
 
--- the bytes at places, laid one after another behind others, gaps 0
+-- the bytes at places, laid in order after what is there, gaps 0
 abbrev pub relaid : List ℕ → List ℕ → List Placement → List ℕ
 relaid image front [] = front
 relaid image front (p ∷ ps) = relaid image (laid front p.address (bytes_at image p)) ps

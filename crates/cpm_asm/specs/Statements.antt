@@ -13,7 +13,7 @@ use Rattle.cpm_decode.specs.declared.operation.Op.{Op}
 use Rattle.cpm_decode.specs.declared.operation.Op.TheVariants as op
 use Rattle.cpm_decode.specs.declared.operation.Operand.{Operand}
 use Rattle.cpm_decode.specs.declared.operation.Operand.TheVariants as p
-use Rattle.cpm_asm.specs.Heads.{Fronted, statement_front, is_blank_text}
+use Rattle.cpm_asm.specs.Heads.{StatementHead, statement_front, is_blank_text}
 use Rattle.cpm_asm.specs.Operands.{direct_pair_in, one_operand, pair_in, byte_operand_in, stack_pair_in, two_operands}
 use Rattle.cpm_asm.specs.declared.statement.Work.{Work}
 use Rattle.cpm_asm.specs.declared.statement.Work.TheVariants as works
@@ -145,11 +145,11 @@ skipped_deed (Some o.If) = Nest
 skipped_deed (Some o.EndIf) = Unnest
 skipped_deed _ = Nothing
 
-abbrev pub read_head : Option Fronted → StatementParts
+abbrev pub read_head : Option StatementHead → StatementParts
 read_head None = record { label = None; deed = Wrong }
 read_head (Some head) = record { label = head.label; deed = operated head.operation head.operands }
 
-abbrev pub skipped_head : Option Fronted → StatementParts
+abbrev pub skipped_head : Option StatementHead → StatementParts
 skipped_head None = record { label = None; deed = Nothing }
 skipped_head (Some head) = record { label = None; deed = skipped_deed head.operation }
 

@@ -10,11 +10,11 @@ use cpm_asm_expression::{Keyword, Name, Operation, keyword_of, name_of};
 pub struct Head<'a> {
     pub label: Option<Name>,
     pub operation: Option<Operation>,
-    /// What stands behind the operation.
+    /// What stands after the operation.
     pub operands: &'a [u8],
 }
 
-/// The operation behind a label, if there is one.
+/// The operation after a label, if there is one.
 fn behind_label(label: Name, text: &[u8]) -> Option<Head<'_>>
     ensures { option_map seen_head result ≡ behind_label label text.now }
 {
@@ -40,7 +40,7 @@ fn behind_label(label: Name, text: &[u8]) -> Option<Head<'_>>
 
 /// The label, the operation and the operands of a text, if it begins as a statement does.
 ///
-/// A first word that is no operation is a label, with or without a colon behind it; a register isn't one.
+/// A first word that is no operation is a label, with or without a colon after it; a register isn't one.
 pub(crate) fn statement_front(text: &[u8]) -> Option<Head<'_>>
     ensures { option_map seen_head result ≡ statement_front text.now }
 {

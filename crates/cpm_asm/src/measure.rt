@@ -17,7 +17,7 @@ use std::alloc::{AllocError, Global};
 pub struct Measure {
     /// The value of its label.
     pub label: u16,
-    /// The address behind it.
+    /// The address after it.
     pub next: usize,
     pub is_unknown: bool,
     pub is_outside: bool,

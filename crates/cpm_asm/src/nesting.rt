@@ -1,12 +1,12 @@
 //! IFs that are left open.
 ghost use Rattle.std.specs.Prelude.{◌≡◌, ◌+◌, ◌<◌, ◌^◌, length};
 ghost use Rattle.cpm_asm.specs.Pieces.{bytes_left, statements_left};
-ghost use Rattle.cpm_asm.specs.Places.{IsPlace, blamed, closes, shallower, seen_turn, nesting_change_of};
+ghost use Rattle.cpm_asm.specs.Places.{IsPlace, blamed, closes, opens_first, shallower, seen_turn, nesting_change_of};
 
 use crate::error::{AsmError, AsmErrorKind};
 use crate::head::statement_front;
 use crate::pieces::{Pieces, next_piece};
-use crate::place::Position;
+use crate::place::{Position, first_open};
 use cpm_asm_expression::Operation;
 
 /// What a statement does to the IFs that are open.
@@ -88,7 +88,21 @@ fn closes(from: Depth, start: &Pieces) -> bool
     false
 }
 
-/// A fault of the first of the statements that are left, or that of the first IF that is open where it is left open.
+/// Whether the first of the statements that are left opens an IF.
+fn opens_first(pieces: &Pieces) -> bool
+    requires { pieces.now.line + length pieces.now.rest.now < 2 ^ 64 }
+    ensures { result ≡ opens_first (statements_left pieces.now) }
+{
+    match next_piece(pieces) {
+        Some((piece, _)) => match nesting_change_of(piece.text) {
+            NestingChange::Opens => true,
+            _ => false,
+        },
+        None => false,
+    }
+}
+
+/// A fault of the first of the statements that are left. But where an IF before it or its own is left open, that of the first such IF.
 #[tactic(auto, unfolding(crate::specs::Places::blamed))]
 pub(crate) fn blamed(place: Position, line: u64, kind: AsmErrorKind, pieces: &Pieces) -> AsmError
     requires place { IsPlace place }
@@ -100,11 +114,11 @@ pub(crate) fn blamed(place: Position, line: u64, kind: AsmErrorKind, pieces: &Pi
         held: place.held,
         skipped: u128::from(place.skipped),
     };
-    if place.held + place.skipped == 0 || closes(depth, pieces) {
+    if (place.held + place.skipped == 0 && !opens_first(pieces)) || closes(depth, pieces) {
         AsmError { line, kind }
     } else {
         AsmError {
-            line: place.outermost,
+            line: first_open(place, line),
             kind: AsmErrorKind::Syntax,
         }
     }

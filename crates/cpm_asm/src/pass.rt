@@ -1,7 +1,7 @@
 //! The two passes.
 ghost use Rattle.std.specs.Prelude.{◌≡◌, ◌+◌, ◌++◌, ◌<◌, ◌≤◌, ◌^◌, [], IfOk, OnOk, length};
 ghost use Rattle.cpm_asm_expression.specs.Names.{no_names, in_table};
-ghost use Rattle.cpm_asm.specs.Assembled.{Assembled};
+ghost use Rattle.cpm_asm.specs.Assembled.{AssemblesTo};
 ghost use Rattle.cpm_asm.specs.Emitting.{emitted};
 ghost use Rattle.cpm_asm.specs.Measures.{measured};
 ghost use Rattle.cpm_asm.specs.Pieces.{bytes_left, statements_left, pieces};
@@ -106,7 +106,7 @@ fn first_pass(alloc: Global, source: &[u8]) -> Result<Names, PassStop>
     at_end(place, names)
 }
 
-/// Adds bytes at an address, behind zeros.
+/// Adds bytes at an address, after zeros.
 #[tactic(auto, unfolding(crate::specs::Passes::laid))]
 fn lay(image: &mut Vec<u8>, address: usize, bytes: &[u8]) -> Result<(), AllocError>
     ensures { OnOk result (image.new.items ≡ laid image.old.items address bytes.now) }
@@ -232,7 +232,7 @@ fn both_passes(alloc: Global, source: &[u8]) -> Result<Assembly, PassStop>
 /// It is refused as by `assemble`.
 pub fn assemble_placed(alloc: Global, source: &[u8]) -> Result<Assembly, AsmError>
     ensures exact { Assembles result (both_passes source.now) }
-    ensures assembled { IfOk result (λ a. Assembled source.now a.image.items) }
+    ensures assembled { IfOk result (λ a. AssemblesTo source.now a.image.items) }
     ensures places { IfOk result (λ a. ArePlaces source.now a.image.items a.places.items) }
 {
     match both_passes(alloc, source) {
@@ -250,10 +250,10 @@ pub fn assemble_placed(alloc: Global, source: &[u8]) -> Result<Assembly, AsmErro
 /// A refusal names the first statement with a fault of the first pass (syntax, names defined twice, addresses, and the
 /// operands of ORG, EQU, IF and DS), else of the second (names that are defined nowhere, values out of range); of several
 /// faults of a statement that of the lowest code. An IF that is left open is a fault of its line. `OutOfMemory` comes
-/// only where memory is refused, whatever is wrong behind that line.
+/// only where memory is refused, whatever is wrong after that line.
 pub fn assemble(alloc: Global, source: &[u8]) -> Result<Vec<u8>, AsmError>
     ensures exact { Answers result (both_passes source.now) }
-    ensures assembled { IfOk result (λ image. Assembled source.now image.items) }
+    ensures assembled { IfOk result (λ image. AssemblesTo source.now image.items) }
 {
     match assemble_placed(alloc, source) {
         Ok(assembly) => Ok(assembly.image),

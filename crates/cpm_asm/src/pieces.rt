@@ -14,7 +14,7 @@ pub(crate) struct Piece<'a> {
 /// The statements that are left.
 #[derive(Clone, Copy)]
 pub(crate) struct Pieces<'a> {
-    /// The lines behind the one that was begun.
+    /// The lines after the one that was begun.
     pub rest: &'a [u8],
     /// The statements of that line which are left.
     pub behind: Option<&'a [u8]>,
@@ -35,7 +35,7 @@ pub(crate) fn pieces_of(source: &[u8]) -> Pieces<'_>
     }
 }
 
-/// The next statement, and those behind it.
+/// The next statement, and those after it.
 pub(crate) fn next_piece<'a>(pieces: &Pieces<'a>) -> Option<(Piece<'a>, Pieces<'a>)>
     requires { pieces.now.line + length pieces.now.rest.now < 2 ^ 64 }
     ensures pieces { MatchOption result (statements_left pieces.now ≡ []) (λ p. statements_left pieces.now ≡ seen_piece p.0 ∷ statements_left p.1) }

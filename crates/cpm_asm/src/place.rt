@@ -2,7 +2,7 @@
 ghost use Rattle.std.specs.Prelude.{◌≡◌, ◌≤◌, IfOk};
 ghost use Rattle.cpm_asm_expression.specs.Names.{in_table};
 ghost use Rattle.cpm_asm.specs.Statements.{seen_statement, seen_work};
-ghost use Rattle.cpm_asm.specs.Places.{IsPlace, lowest_fault, in_if, is_defined, is_misplaced, is_nameless, position_after, placed_over, start};
+ghost use Rattle.cpm_asm.specs.Places.{IsPlace, lowest_fault, first_open, in_if, is_defined, is_misplaced, is_nameless, position_after, placed_over, start};
 
 use crate::error::AsmErrorKind;
 use crate::measure::{Measure, is_wrong};
@@ -38,14 +38,26 @@ pub(crate) fn start() -> Position
     }
 }
 
-/// A place behind an IF.
+/// The line of the first IF that is open behind an IF in this line.
+pub(crate) fn first_open(place: Position, line: u64) -> u64
+    requires { IsPlace place }
+    ensures { result ≡ first_open place line }
+{
+    if place.held + place.skipped == 0 {
+        line
+    } else {
+        place.outermost
+    }
+}
+
+/// A place after an IF.
 fn in_if(place: Position, line: u64, holds: bool) -> Position
     requires { IsPlace place }
     ensures place { result ≡ in_if place line holds }
     ensures within { IsPlace result }
 {
     let depth = place.held + place.skipped;
-    let outermost = if depth == 0 { line } else { place.outermost };
+    let outermost = first_open(place, line);
     if depth >= DEEPEST {
         place
     } else if holds {
@@ -63,7 +75,7 @@ fn in_if(place: Position, line: u64, holds: bool) -> Position
     }
 }
 
-/// The place behind a statement.
+/// The place after a statement.
 pub(crate) fn position_after(place: Position, line: u64, work: &Work, measure: Measure) -> Position
     requires place { IsPlace place }
     requires measure { measure.next ≤ 65536 }
@@ -118,7 +130,7 @@ fn is_defined(names: &Names, label: Option<Name>) -> bool
     }
 }
 
-/// A label behind the last address.
+/// A label after the last address.
 fn placed_over(address: usize, statement: &Statement) -> bool
     ensures { result ≡ placed_over address (seen_statement statement.now) }
 {

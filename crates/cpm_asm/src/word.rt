@@ -4,7 +4,7 @@ ghost use Rattle.cpm_asm.specs.Heads.{after_colon, is_blank_text, seen_word, wor
 
 use cpm_asm_expression::{Letters, after_blanks, begins_name, letters_of, split_word};
 
-/// What stands at the front of a text, behind its blanks.
+/// What stands at the front of a text, after its blanks.
 pub(crate) enum First<'a> {
     Nothing,
     /// A word of at most 16 characters, and what follows it.

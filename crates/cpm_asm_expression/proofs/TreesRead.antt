@@ -7,19 +7,19 @@ use Rattle.cpm_asm_expression.specs.Names.{NameTable}
 use Rattle.cpm_asm_expression.specs.Values.{atom_value, combined, changed}
 use Rattle.cpm_asm_expression.specs.Grammar.{Tree, atom, bracketed, weaker, prefixed, chained, level, prefix_level, value, spelled, prefix_token, Spells}
 use Rattle.cpm_asm_expression.specs.declared.values.CheckedValue.{CheckedValue}
-use Rattle.cpm_asm_expression.specs.Reading.{Settled, State, Wants, Has, Wrong, wanted, settled, after_token, after_all, with_left, group_closed, value_read, ended, reading}
+use Rattle.cpm_asm_expression.specs.Reading.{SettledValue, State, Wants, Has, Wrong, wanted, settled, after_token, after_all, with_left, group_closed, value_read, ended, reading}
 use Rattle.cpm_asm_expression.specs.declared.tokens.Operator.{Operator}
 use Rattle.cpm_asm_expression.specs.declared.tokens.Prefix.{Prefix}
 use Rattle.cpm_asm_expression.specs.declared.tokens.Prefix.TheVariants as prefixes
 use Rattle.cpm_asm_expression.specs.declared.tokens.Token.{Token}
 use Rattle.cpm_asm_expression.specs.declared.tokens.Token.TheVariants as tokens
-use Rattle.cpm_asm_expression.specs.declared.reader.Waiting.{Waiting}
-use Rattle.cpm_asm_expression.specs.declared.reader.Waiting.TheVariants as waiting
+use Rattle.cpm_asm_expression.specs.declared.reader.PendingOperator.{PendingOperator}
+use Rattle.cpm_asm_expression.specs.declared.reader.PendingOperator.TheVariants as waiting
 
 -- the state that has v, up to what a later operator of a level settles
-pub record Arrives (m : NameTable) (a : ℕ) (from : State) (text rest : List Token) (l : ℕ) (v : CheckedValue) (ws : List Waiting) : Type 0 where
+pub record Arrives (m : NameTable) (a : ℕ) (from : State) (text rest : List Token) (l : ℕ) (v : CheckedValue) (ws : List PendingOperator) : Type 0 where
   pub have : CheckedValue
-  pub left : List Waiting
+  pub left : List PendingOperator
   pub reads : after_all m a from text ≡ after_all m a (Has have left) rest
   pub same : (k : ℕ) → k ≤ l → settled k have left ≡ settled k v ws
 
@@ -35,25 +35,25 @@ apart prefixes.Not o h = omega (arith, not_two o, h)
 apart prefixes.Plus o h = omega (arith, not_four o, h)
 apart prefixes.Minus o h = omega (arith, not_four o, h)
 
-stays : (o : Operator) (v : CheckedValue) (ws : List Waiting) → wanted ws ≤ level o → settled (level o) v ws ≡ record { value = v; waiting = ws }
+stays : (o : Operator) (v : CheckedValue) (ws : List PendingOperator) → wanted ws ≤ level o → settled (level o) v ws ≡ record { value = v; waiting = ws }
 stays o v [] h = refl
 stays o v (waiting.Bracket ∷ ws) h = refl
 stays o v (waiting.Prefix p ∷ ws) h = ap (λ b. cond b (settled (level o) (changed p v) ws) (record { value = v; waiting = waiting.Prefix p ∷ ws })) (gt_test (level o) (prefix_level p) (apart p o h))
 stays o v (waiting.Left u q ∷ ws) h = ap (λ b. cond b (settled (level o) (combined q u v) ws) (record { value = v; waiting = waiting.Left u q ∷ ws })) (gt_test (level o) (level q) (omega (arith, right_above q, h)))
 
-takes_prefix : (m : NameTable) (a : ℕ) (ws : List Waiting) (p : Prefix) → wanted ws ≤ prefix_level p → after_token m a (Wants ws) (prefix_token p) ≡ Wants (waiting.Prefix p ∷ ws)
+takes_prefix : (m : NameTable) (a : ℕ) (ws : List PendingOperator) (p : Prefix) → wanted ws ≤ prefix_level p → after_token m a (Wants ws) (prefix_token p) ≡ Wants (waiting.Prefix p ∷ ws)
 takes_prefix m a ws prefixes.Not h = ap (λ b. cond b (Wants (waiting.Prefix prefixes.Not ∷ ws)) Wrong) (le_test _ _ h)
 takes_prefix m a ws prefixes.Plus h = ap (λ b. cond b (Wants (waiting.Prefix prefixes.Plus ∷ ws)) Wrong) (le_test _ _ h)
 takes_prefix m a ws prefixes.Minus h = ap (λ b. cond b (Wants (waiting.Prefix prefixes.Minus ∷ ws)) Wrong) (le_test _ _ h)
 
-pub reads_tree : (m : NameTable) (a : ℕ) {l : ℕ} (e : Tree l) (ws : List Waiting) (rest : List Token) → wanted ws ≤ l → Arrives m a (Wants ws) (spelled e rest) rest l (value m a e) ws
+pub reads_tree : (m : NameTable) (a : ℕ) {l : ℕ} (e : Tree l) (ws : List PendingOperator) (rest : List Token) → wanted ws ≤ l → Arrives m a (Wants ws) (spelled e rest) rest l (value m a e) ws
 reads_tree m a (atom x) ws rest h = record { have = atom_value m a x; left = ws; reads = refl; same = λ k below. refl }
 reads_tree m a (bracketed e) ws rest h =
     let inner = reads_tree m a e (waiting.Bracket ∷ ws) (tokens.Close ∷ rest) (omega arith) in
     record {
       have = value m a e;
       left = ws;
-      reads = inner.reads ∙ ap (λ (s : Settled). after_all m a (group_closed s.value s.waiting) rest) (inner.same 0 (omega arith));
+      reads = inner.reads ∙ ap (λ (s : SettledValue). after_all m a (group_closed s.value s.waiting) rest) (inner.same 0 (omega arith));
       same = λ k below. refl;
     }
 reads_tree m a (weaker l e) ws rest h =
@@ -73,7 +73,7 @@ reads_tree m a (chained o x y) ws rest h =
     record {
       have = second.have;
       left = second.left;
-      reads = first.reads ∙ ap (λ (s : Settled). after_all m a (with_left o s) (spelled y rest)) (first.same (level o) (omega arith) ∙ stays o (value m a x) ws h) ∙ second.reads;
+      reads = first.reads ∙ ap (λ (s : SettledValue). after_all m a (with_left o s) (spelled y rest)) (first.same (level o) (omega arith) ∙ stays o (value m a x) ws h) ∙ second.reads;
       same = λ k below. second.same k (omega (arith, right_above o, below)) ∙ ap (λ c. cond c (settled k (combined o (value m a x) (value m a y)) ws) (record { value = value m a y; waiting = waiting.Left (value m a x) o ∷ ws })) (le_test k (level o) below);
     }
 
@@ -81,7 +81,7 @@ reads_tree m a (chained o x y) ws rest h =
 pub reads_all : (m : NameTable) (a : ℕ) (e : Tree 0) → reading m a (spelled e []) ≡ Some (value m a e)
 reads_all m a e =
     let whole = reads_tree m a e [] [] (omega arith) in
-    ap value_read whole.reads ∙ ap (λ (s : Settled). ended s.value s.waiting) (whole.same 0 (omega arith))
+    ap value_read whole.reads ∙ ap (λ (s : SettledValue). ended s.value s.waiting) (whole.same 0 (omega arith))
 
 pub spelled_read : (m : NameTable) (a : ℕ) (ts : List Token) (v : CheckedValue) → Spells m a ts v → reading m a ts ≡ Some v
 spelled_read m a ts v s = ap (reading m a) s.written ∙ reads_all m a s.tree ∙ ap (λ n. Some n) s.is

@@ -1,6 +1,6 @@
 -- The characters of words.
 -- CP/M 2.2 Operating System Manual, "CP/M Assembler", "Labels", "Numeric Constants" and "Reserved Words". That a
--- dollar sign also falls away behind the last character is own.
+-- dollar sign also falls away after the last character is own.
 use Rattle.std.specs.Prelude.{ℕ, Bool, nat_le, ◌==◌, ◌||◌, if◌then◌else◌, List, [], ◌∷◌, length, take, drop, Option, Some, None}
 use Rattle.std.specs.Char.{is_ascii_alphabetic, is_ascii_digit, to_ascii_uppercase}
 use Rattle.std.specs.List.{prefix_len}

@@ -6,7 +6,7 @@ use Rattle.std.specs.declared.cmp.Ordering.{Ordering}
 use Rattle.std.specs.BTreeMap.{BTreeMap, get, is_at}
 use Rattle.cpm_asm_expression.specs.declared.names.Name.{Name}
 
--- the name of at most 16 letters, blanks behind them
+-- the name of at most 16 letters, blanks after them
 abbrev pub name_with : List ℕ → Name
 name_with letters = record { letters = letters ++ replicate (16 - length letters) 32 }
 

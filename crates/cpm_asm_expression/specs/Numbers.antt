@@ -31,7 +31,7 @@ digit_of c = digit_of_capital (to_ascii_uppercase c)
 abbrev pub digit_to_base : ℕ → ℕ → Option ℕ
 digit_to_base base c = option_and_then (λ d. if nat_lt d base then Some d else None) (digit_of c)
 
--- the number that digits write to a base behind those read before, modulo 65,536
+-- the number that digits write to a base after those read before, modulo 65,536
 abbrev pub number_to_base : ℕ → ℕ → List ℕ → Option ℕ
 number_to_base base number [] = Some number
 number_to_base base number (c ∷ cs) =

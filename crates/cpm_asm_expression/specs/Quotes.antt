@@ -9,7 +9,7 @@ use Rattle.cpm_asm_expression.specs.declared.quotes.Next.TheVariants as next
 abbrev pub is_quote : ℕ → Bool
 is_quote b = b == 0x27
 
--- what stands next in a text behind its first quote: a character, the last quote, or nothing
+-- what stands next in a text after its first quote: a character, the last quote, or nothing
 pub data Character : Type 0 where
   Of : ℕ → List ℕ → Character
   Last : List ℕ → Character
@@ -30,7 +30,7 @@ seen_as next.Open = Missing
 abbrev pub behind_character : ℕ → Option (List ℕ × List ℕ) → Option (List ℕ × List ℕ)
 behind_character b read = option_map (λ p. (b ∷ p.0, p.1)) read
 
--- the characters of a text behind its first quote, and what follows its last quote
+-- the characters of a text after its first quote, and what follows its last quote
 abbrev pub characters : List ℕ → Option (List ℕ × List ℕ)
 characters [] = None
 characters (b ∷ []) = if is_quote b then Some ([], []) else None

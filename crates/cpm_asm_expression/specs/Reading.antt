@@ -14,23 +14,23 @@ use Rattle.cpm_asm_expression.specs.declared.tokens.Token.TheVariants as tokens
 use Rattle.cpm_asm_expression.specs.declared.values.CheckedValue.{CheckedValue}
 use Rattle.cpm_asm_expression.specs.declared.reader.Stage.{Stage}
 use Rattle.cpm_asm_expression.specs.declared.reader.Stage.TheVariants as stages
-use Rattle.cpm_asm_expression.specs.declared.reader.Waiting.{Waiting}
-use Rattle.cpm_asm_expression.specs.declared.reader.Waiting.TheVariants as waiting
+use Rattle.cpm_asm_expression.specs.declared.reader.PendingOperator.{PendingOperator}
+use Rattle.cpm_asm_expression.specs.declared.reader.PendingOperator.TheVariants as waiting
 
 -- how strongly the operand that is wanted has to bind
-abbrev pub wanted : List Waiting → ℕ
+abbrev pub wanted : List PendingOperator → ℕ
 wanted [] = 0
 wanted (waiting.Bracket ∷ ws) = 0
 wanted (waiting.Prefix p ∷ ws) = prefix_level p
 wanted (waiting.Left v o ∷ ws) = right_level o
 
 -- a value, and what still waits
-pub record Settled : Type 0 where
+pub record SettledValue : Type 0 where
   pub value : CheckedValue
-  pub waiting : List Waiting
+  pub waiting : List PendingOperator
 
 -- the value with all that binds as strongly as a level, or more strongly
-abbrev pub settled : ℕ → CheckedValue → List Waiting → Settled
+abbrev pub settled : ℕ → CheckedValue → List PendingOperator → SettledValue
 settled l v [] = record { value = v; waiting = [] }
 settled l v (waiting.Bracket ∷ ws) = record { value = v; waiting = waiting.Bracket ∷ ws }
 settled l v (waiting.Prefix p ∷ ws) = cond (nat_le l (prefix_level p)) (settled l (changed p v) ws) (record { value = v; waiting = waiting.Prefix p ∷ ws })
@@ -43,26 +43,26 @@ sign_of _ = None
 
 -- where reading stands: an operand is wanted, or there is one, or the text is no expression
 pub data State : Type 0 where
-  Wants : List Waiting → State
-  Has : CheckedValue → List Waiting → State
+  Wants : List PendingOperator → State
+  Has : CheckedValue → List PendingOperator → State
   Wrong : State
 
-abbrev pub with_prefix : List Waiting → Prefix → State
+abbrev pub with_prefix : List PendingOperator → Prefix → State
 with_prefix ws p = cond (nat_le (wanted ws) (prefix_level p)) (Wants (waiting.Prefix p ∷ ws)) Wrong
 
-abbrev pub with_sign : List Waiting → Option Prefix → State
+abbrev pub with_sign : List PendingOperator → Option Prefix → State
 with_sign ws None = Wrong
 with_sign ws (Some p) = with_prefix ws p
 
-abbrev pub with_left : Operator → Settled → State
+abbrev pub with_left : Operator → SettledValue → State
 with_left o s = Wants (waiting.Left s.value o ∷ s.waiting)
 
-abbrev pub group_closed : CheckedValue → List Waiting → State
+abbrev pub group_closed : CheckedValue → List PendingOperator → State
 group_closed v (waiting.Bracket ∷ ws) = Has v ws
 group_closed v _ = Wrong
 
--- a token behind an operand
-abbrev pub after_operand : CheckedValue → List Waiting → Token → State
+-- a token after an operand
+abbrev pub after_operand : CheckedValue → List PendingOperator → Token → State
 after_operand v ws (tokens.Operator o) = with_left o (settled (level o) v ws)
 after_operand v ws tokens.Close = group_closed (settled 0 v ws).value (settled 0 v ws).waiting
 after_operand v ws _ = Wrong
@@ -80,7 +80,7 @@ abbrev pub after_all : NameTable → ℕ → State → List Token → State
 after_all names here s [] = s
 after_all names here s (t ∷ ts) = after_all names here (after_token names here s t) ts
 
-abbrev pub ended : CheckedValue → List Waiting → Option CheckedValue
+abbrev pub ended : CheckedValue → List PendingOperator → Option CheckedValue
 ended v [] = Some v
 ended v (w ∷ ws) = None
 
@@ -95,19 +95,19 @@ reading names here ts = value_read (after_all names here (Wants []) ts)
 unfoldable pub value_at : NameTable → ℕ → List ℕ → Option CheckedValue
 value_at names here text = option_and_then (reading names here) (tokens_of text)
 
-abbrev pub binds : ℕ → Waiting → Bool
+abbrev pub binds : ℕ → PendingOperator → Bool
 binds l waiting.Bracket = false
 binds l (waiting.Prefix p) = nat_le l (prefix_level p)
 binds l (waiting.Left u o) = nat_le l (level o)
 
--- the value behind what waited
-abbrev pub value_behind : Waiting → CheckedValue → CheckedValue
+-- the value after what waited
+abbrev pub value_behind : PendingOperator → CheckedValue → CheckedValue
 value_behind waiting.Bracket v = v
 value_behind (waiting.Prefix p) v = changed p v
 value_behind (waiting.Left u o) v = combined o u v
 
 -- where reading stands, with what waits beside it
-abbrev pub state : Stage → List Waiting → State
+abbrev pub state : Stage → List PendingOperator → State
 state stages.Wants ws = Wants ws
 state (stages.Has v) ws = Has v ws
 state stages.Wrong ws = Wrong

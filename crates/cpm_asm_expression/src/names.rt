@@ -4,7 +4,7 @@ ghost use Rattle.cpm_asm_expression.specs.Names.{name_with};
 
 use std::collections::BTreeMap;
 
-/// A name in capital letters without its dollar signs, and blanks behind it.
+/// A name in capital letters without its dollar signs, and blanks after it.
 #[derive(Clone, Copy, Debug, PartialEq, Eq, PartialOrd, Ord)]
 pub struct Name {
     pub letters: [u8; 16],

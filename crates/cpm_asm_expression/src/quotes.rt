@@ -8,7 +8,7 @@ use arrayvec::ArrayVec;
 /// The most characters of a text.
 pub const LONGEST_TEXT: usize = 64;
 
-/// What stands next in a text behind its first quote.
+/// What stands next in a text after its first quote.
 enum Next<'a> {
     /// A character, and what follows it.
     Character(u8, &'a [u8]),
@@ -32,7 +32,7 @@ fn next_character(text: &[u8]) -> Next<'_>
     }
 }
 
-/// The characters of a text behind its first quote, 1 to 64 of them, and what follows its last quote.
+/// The characters of a text after its first quote, 1 to 64 of them, and what follows its last quote.
 pub fn quoted_text(text: &[u8]) -> Option<(ArrayVec<u8, 64>, &[u8])>
     ensures { option_map (λ p. (p.0.items, p.1.now)) result ≡ quoted_text text.now }
 {

@@ -16,7 +16,7 @@ use std::alloc::{AllocError, Global};
 
 /// What waits for its right operand.
 #[derive(Clone, Copy)]
-pub enum Waiting {
+pub enum PendingOperator {
     Bracket,
     Prefix(Prefix),
     Left(CheckedValue, Operator),
@@ -71,29 +71,29 @@ fn prefix_level(prefix: Prefix) -> u8
 }
 
 /// What waits binds as strongly as a level.
-fn binds(level_of_next: u8, waiting: Waiting) -> bool
+fn binds(level_of_next: u8, waiting: PendingOperator) -> bool
     ensures { result ≡ binds level_of_next waiting }
 {
     match waiting {
-        Waiting::Bracket => false,
-        Waiting::Prefix(prefix) => level_of_next <= prefix_level(prefix),
-        Waiting::Left(_, operator) => level_of_next <= level(operator),
+        PendingOperator::Bracket => false,
+        PendingOperator::Prefix(prefix) => level_of_next <= prefix_level(prefix),
+        PendingOperator::Left(_, operator) => level_of_next <= level(operator),
     }
 }
 
-/// The value behind what waited.
-fn value_behind(waiting: Waiting, value: CheckedValue) -> CheckedValue
+/// The value after what waited.
+fn value_behind(waiting: PendingOperator, value: CheckedValue) -> CheckedValue
     ensures { result ≡ value_behind waiting value }
 {
     match waiting {
-        Waiting::Bracket => value,
-        Waiting::Prefix(prefix) => changed(prefix, value),
-        Waiting::Left(left, operator) => combined(operator, left, value),
+        PendingOperator::Bracket => value,
+        PendingOperator::Prefix(prefix) => changed(prefix, value),
+        PendingOperator::Left(left, operator) => combined(operator, left, value),
     }
 }
 
 /// The value with all that binds as strongly as a level; the last one waits for it first.
-fn settle(waiting: &mut Vec<Waiting>, own: CheckedValue, next: u8) -> CheckedValue
+fn settle(waiting: &mut Vec<PendingOperator>, own: CheckedValue, next: u8) -> CheckedValue
     ensures { settled next own (reverse waiting.old.items) ≡ record { value = result; waiting = reverse waiting.new.items } }
 {
     let mut value = own;
@@ -109,28 +109,28 @@ fn settle(waiting: &mut Vec<Waiting>, own: CheckedValue, next: u8) -> CheckedVal
 }
 
 /// How strongly the operand that is wanted has to bind.
-fn wanted(waiting: &[Waiting]) -> u8
+fn wanted(waiting: &[PendingOperator]) -> u8
     ensures { result ≡ wanted (reverse waiting.now) }
 {
     match waiting.last() {
-        Some(Waiting::Prefix(prefix)) => prefix_level(*prefix),
-        Some(Waiting::Left(_, operator)) => right_level(*operator),
-        Some(Waiting::Bracket) | None => 0,
+        Some(PendingOperator::Prefix(prefix)) => prefix_level(*prefix),
+        Some(PendingOperator::Left(_, operator)) => right_level(*operator),
+        Some(PendingOperator::Bracket) | None => 0,
     }
 }
 
-fn wait_for(waiting: &mut Vec<Waiting>, last: Waiting) -> Result<(), AllocError>
+fn wait_for(waiting: &mut Vec<PendingOperator>, last: PendingOperator) -> Result<(), AllocError>
     ensures { OnOk result (reverse waiting.new.items ≡ last ∷ reverse waiting.old.items) }
 {
     waiting.push(last)?;
     Ok(())
 }
 
-fn with_prefix(waiting: &mut Vec<Waiting>, prefix: Prefix) -> Result<Stage, AllocError>
+fn with_prefix(waiting: &mut Vec<PendingOperator>, prefix: Prefix) -> Result<Stage, AllocError>
     ensures { IfOk result (λ next. state next (reverse waiting.new.items) ≡ with_prefix (reverse waiting.old.items) prefix) }
 {
     if wanted(waiting) <= prefix_level(prefix) {
-        wait_for(waiting, Waiting::Prefix(prefix))?;
+        wait_for(waiting, PendingOperator::Prefix(prefix))?;
         Ok(Stage::Wants)
     } else {
         Ok(Stage::Wrong)
@@ -139,7 +139,7 @@ fn with_prefix(waiting: &mut Vec<Waiting>, prefix: Prefix) -> Result<Stage, Allo
 
 /// A token where an operand is wanted.
 fn operand(
-    waiting: &mut Vec<Waiting>,
+    waiting: &mut Vec<PendingOperator>,
     names: &Names,
     here: usize,
     token: Token,
@@ -153,7 +153,7 @@ fn operand(
         Token::Operator(Operator::Subtract) => with_prefix(waiting, Prefix::Minus),
         Token::Not => with_prefix(waiting, Prefix::Not),
         Token::Open => {
-            wait_for(waiting, Waiting::Bracket)?;
+            wait_for(waiting, PendingOperator::Bracket)?;
             Ok(Stage::Wants)
         }
         Token::Operator(_) | Token::Close => Ok(Stage::Wrong),
@@ -161,18 +161,18 @@ fn operand(
 }
 
 /// The last bracket is closed.
-fn close(waiting: &mut Vec<Waiting>, value: CheckedValue) -> Stage
+fn close(waiting: &mut Vec<PendingOperator>, value: CheckedValue) -> Stage
     ensures { state result (reverse waiting.new.items) ≡ group_closed value (reverse waiting.old.items) }
 {
     match waiting.pop() {
-        Some(Waiting::Bracket) => Stage::Has(value),
+        Some(PendingOperator::Bracket) => Stage::Has(value),
         _ => Stage::Wrong,
     }
 }
 
-/// A token behind an operand.
+/// A token after an operand.
 fn operator(
-    waiting: &mut Vec<Waiting>,
+    waiting: &mut Vec<PendingOperator>,
     value: CheckedValue,
     token: Token,
 ) -> Result<Stage, AllocError>
@@ -181,7 +181,7 @@ fn operator(
     match token {
         Token::Operator(operator) => {
             let left = settle(waiting, value, level(operator));
-            wait_for(waiting, Waiting::Left(left, operator))?;
+            wait_for(waiting, PendingOperator::Left(left, operator))?;
             Ok(Stage::Wants)
         }
         Token::Close => {
@@ -193,7 +193,7 @@ fn operator(
 }
 
 fn step(
-    waiting: &mut Vec<Waiting>,
+    waiting: &mut Vec<PendingOperator>,
     names: &Names,
     here: usize,
     stage: Stage,
@@ -209,7 +209,7 @@ fn step(
     }
 }
 
-fn value_read(waiting: &mut Vec<Waiting>, stage: Stage) -> Option<CheckedValue>
+fn value_read(waiting: &mut Vec<PendingOperator>, stage: Stage) -> Option<CheckedValue>
     ensures { result ≡ value_read (state stage (reverse waiting.old.items)) }
 {
     match stage {
@@ -234,7 +234,7 @@ pub fn value_of(
 ) -> Result<Option<CheckedValue>, AllocError>
     ensures { IfOk result (λ found. found ≡ value_at (in_table names.now) here text.now) }
 {
-    let mut waiting: Vec<Waiting> = Vec::new(alloc);
+    let mut waiting: Vec<PendingOperator> = Vec::new(alloc);
     let mut stage = Stage::Wants;
     let mut rest = after_blanks(text);
     while !rest.is_empty() {

@@ -9,43 +9,43 @@ use Rattle.cpm_config.specs.declared.config.Origin.TheVariants as origin
 use Rattle.cpm_config.specs.declared.config.SessionConfig.{SessionConfig}
 use Rattle.cpm_geom.specs.Disk.{Disk}
 use Rattle.cpm_script.specs.Fork.{keys_before}
-use Rattle.cpm_store.specs.Files.{Files, StoreName}
+use Rattle.cpm_store.specs.Files.{StoreFiles, StoreName}
 use Rattle.cpm_batch.specs.declared.error.ReadError.{ReadError}
 use Rattle.cpm_batch.specs.declared.input.Input.{Input}
 use Rattle.cpm_batch.specs.Inputs.{AllImages, AllInputs, given, HasInput, ImageIn, IsFirstFault, IsImageIn, IsMet, IsNeedRefusal, IsReadRefusal, IsSessionRefusal, AreFirstFault, Need, SessionInput, forked_script_needs, image_needs, keys_of_session, needs_from, needs_of}
 
 -- each of the needs is met
-abbrev pub AllMet : Option Files → List Need → Type 0
+abbrev pub AllMet : Option StoreFiles → List Need → Type 0
 AllMet files [] = ⊤
 AllMet files (n ∷ ns) = IsMet files n × AllMet files ns
 
-first_front : (files : Option Files) (ns ms : List Need) (e : ReadError) → IsFirstFault files ns e → IsFirstFault files (ns ++ ms) e
+first_front : (files : Option StoreFiles) (ns ms : List Need) (e : ReadError) → IsFirstFault files ns e → IsFirstFault files (ns ++ ms) e
 first_front files [] ms e h = absurd h
 first_front files (n ∷ ns) ms e h = ⊎_elim (λ f. inl f) (λ m. inr (m.0, first_front files ns ms e m.1)) h
 
-first_behind : (files : Option Files) (ns ms : List Need) (e : ReadError) → AllMet files ns → IsFirstFault files ms e → IsFirstFault files (ns ++ ms) e
+first_behind : (files : Option StoreFiles) (ns ms : List Need) (e : ReadError) → AllMet files ns → IsFirstFault files ms e → IsFirstFault files (ns ++ ms) e
 first_behind files [] ms e met h = h
 first_behind files (n ∷ ns) ms e met h = inr (met.0, first_behind files ns ms e met.1 h)
 
 -- a fault of the first needs is one of more, and so is one behind needs that are met
-pub refused_front : (files : Option Files) (ns ms : List Need) (e : ReadError) → IsNeedRefusal files ns e → IsNeedRefusal files (ns ++ ms) e
+pub refused_front : (files : Option StoreFiles) (ns ms : List Need) (e : ReadError) → IsNeedRefusal files ns e → IsNeedRefusal files (ns ++ ms) e
 refused_front files ns ms e h = ⊎_elim (λ m. inl m) (λ f. inr (first_front files ns ms e f)) h
 
-pub refused_behind : (files : Option Files) (ns ms : List Need) (e : ReadError) → AllMet files ns → IsNeedRefusal files ms e → IsNeedRefusal files (ns ++ ms) e
+pub refused_behind : (files : Option StoreFiles) (ns ms : List Need) (e : ReadError) → AllMet files ns → IsNeedRefusal files ms e → IsNeedRefusal files (ns ++ ms) e
 refused_behind files ns ms e met h = ⊎_elim (λ m. inl m) (λ f. inr (first_behind files ns ms e met f)) h
 
-met_more : (files : Option Files) (ns ms : List Need) → AllMet files ns → AllMet files ms → AllMet files (ns ++ ms)
+met_more : (files : Option StoreFiles) (ns ms : List Need) → AllMet files ns → AllMet files ms → AllMet files (ns ++ ms)
 met_more files [] ms h g = g
 met_more files (n ∷ ns) ms h g = (h.0, met_more files ns ms h.1 g)
 
 -- ---- images
 
-pub images_met : (files : Option Files) (names : List (String Global)) (ds : List Disk) → AllImages files names ds → AllMet files (image_needs names)
+pub images_met : (files : Option StoreFiles) (names : List (String Global)) (ds : List Disk) → AllImages files names ds → AllMet files (image_needs names)
 images_met files [] ds h = tt
 images_met files (name ∷ names) [] h = absurd h
 images_met files (name ∷ names) (d ∷ ds) h = ((d, h.0), images_met files names ds h.1)
 
-images_push : (files : Option Files) (names : List (String Global)) (ds : List Disk) (name : String Global) (d : Disk) → AllImages files names ds → IsImageIn files (string_bytes name) d
+images_push : (files : Option StoreFiles) (names : List (String Global)) (ds : List Disk) (name : String Global) (d : Disk) → AllImages files names ds → IsImageIn files (string_bytes name) d
     → AllImages files (names ++ name ∷ []) (ds ++ d ∷ [])
 images_push files [] [] name d h g = (g, tt)
 images_push files [] (x ∷ ds) name d h g = absurd h
@@ -55,7 +55,7 @@ images_push files (n ∷ names) (x ∷ ds) name d h g = (h.0, images_push files 
 -- ---- one more of a list that is gone through
 
 -- a fault at the name in turn is one of all names
-pub name_refused : (files : Option Files) (names : List (String Global)) (i : ℕ) (name : String Global) (ds : List Disk) (e : ReadError) → i < length names → name ≡ get_or names i name
+pub name_refused : (files : Option StoreFiles) (names : List (String Global)) (i : ℕ) (name : String Global) (ds : List Disk) (e : ReadError) → i < length names → name ≡ get_or names i name
     → AllImages files (take i names) ds → IsNeedRefusal files (ImageIn (string_bytes name) ∷ []) e → IsNeedRefusal files (image_needs names) e
 name_refused files names i name ds e within is done h =
     let parts : names ≡ take i names ++ name ∷ drop (suc i) names = split_at names i name within ∙ ap (λ x. take i names ++ x ∷ drop (suc i) names) (sym is) in
@@ -64,7 +64,7 @@ name_refused files names i name ds e within is done h =
     (refused_behind files (image_needs (take i names)) (image_needs (name ∷ drop (suc i) names)) e (images_met files (take i names) ds done)
     (refused_front files (ImageIn (string_bytes name) ∷ []) (image_needs (drop (suc i) names)) e h))
 
-pub name_read : (files : Option Files) (names : List (String Global)) (i : ℕ) (name : String Global) (ds all : List Disk) (d : Disk) → i < length names → name ≡ get_or names i name
+pub name_read : (files : Option StoreFiles) (names : List (String Global)) (i : ℕ) (name : String Global) (ds all : List Disk) (d : Disk) → i < length names → name ≡ get_or names i name
     → all ≡ ds ++ d ∷ [] → AllImages files (take i names) ds → IsImageIn files (string_bytes name) d → AllImages files (take (i + 1) names) all
 name_read files names i name ds all d within is pushed done h =
     let more : take (i + 1) names ≡ take i names ++ name ∷ [] = take_more names i name within ∙ ap (λ x. take i names ++ x ∷ []) (sym is) in
@@ -74,14 +74,14 @@ name_read files names i name ds all d within is pushed done h =
 -- ---- sessions, each behind those before it
 
 -- what is refused behind sessions that were read is refused of all
-fault_behind : (files : Option Files) (before is : List SessionInput) (rest : List SessionConfig) (e : ReadError) → AllInputs files before is → AreFirstFault files (before ++ is) rest e
+fault_behind : (files : Option StoreFiles) (before is : List SessionInput) (rest : List SessionConfig) (e : ReadError) → AllInputs files before is → AreFirstFault files (before ++ is) rest e
     → AreFirstFault files before (map (λ i. i.session) is ++ rest) e
 fault_behind files before [] rest e h g = subst (λ (b : List SessionInput). AreFirstFault files b rest e) (append-nil before) g
 fault_behind files before (i ∷ is) rest e h g =
     inr (i, refl, h.0, fault_behind files (before ++ i ∷ []) is rest e h.1 (subst (λ (b : List SessionInput). AreFirstFault files b rest e) (sym (append_assoc before (i ∷ []) is)) g))
 
 -- the session in turn is refused
-pub session_refused : (files : Option Files) (sessions : List SessionConfig) (i : ℕ) (s : SessionConfig) (is : List SessionInput) (e : ReadError) → i < length sessions → s ≡ get_or sessions i s
+pub session_refused : (files : Option StoreFiles) (sessions : List SessionConfig) (i : ℕ) (s : SessionConfig) (is : List SessionInput) (e : ReadError) → i < length sessions → s ≡ get_or sessions i s
     → map (λ x. x.session) is ≡ take i sessions → AllInputs files [] is → IsNeedRefusal files (needs_of is s) e → IsSessionRefusal files [] sessions e
 session_refused files sessions i s is e within at same done h =
     let parts : sessions ≡ take i sessions ++ s ∷ drop (suc i) sessions = split_at sessions i s within ∙ ap (λ x. take i sessions ++ x ∷ drop (suc i) sessions) (sym at) in
@@ -89,12 +89,12 @@ session_refused files sessions i s is e within at same done h =
     subst (λ (ss : List SessionConfig). IsSessionRefusal files [] ss e) all
     (⊎_elim (λ m. inl m) (λ f. inr (fault_behind files [] is (s ∷ drop (suc i) sessions) e done (inl f))) h)
 
-inputs_push : (files : Option Files) (before is : List SessionInput) (x : SessionInput) → AllInputs files before is → HasInput files (before ++ is) x → AllInputs files before (is ++ x ∷ [])
+inputs_push : (files : Option StoreFiles) (before is : List SessionInput) (x : SessionInput) → AllInputs files before is → HasInput files (before ++ is) x → AllInputs files before (is ++ x ∷ [])
 inputs_push files before [] x h g = (subst (λ (b : List SessionInput). HasInput files b x) (append-nil before) g, tt)
 inputs_push files before (i ∷ is) x h g =
     (h.0, inputs_push files (before ++ i ∷ []) is x h.1 (subst (λ (b : List SessionInput). HasInput files b x) (sym (append_assoc before (i ∷ []) is)) g))
 
-pub inputs_more : (files : Option Files) (is all : List Input) (x : Input) → all ≡ is ++ x ∷ [] → AllInputs files [] (map given is) → HasInput files (map given is) (given x)
+pub inputs_more : (files : Option StoreFiles) (is all : List Input) (x : Input) → all ≡ is ++ x ∷ [] → AllInputs files [] (map given is) → HasInput files (map given is) (given x)
     → AllInputs files [] (map given all)
 inputs_more files is all x pushed h g =
     subst (λ (ys : List SessionInput). AllInputs files [] ys) (sym (ap (map given) pushed ∙ map-append given is (x ∷ []))) (inputs_push files [] (map given is) (given x) h g)
@@ -107,17 +107,17 @@ sessions_more is all x sessions i s within at pushed same one =
 
 -- ---- the same of the store as it was, and of the text of a name
 
-pub image_refusal_as : (files now : Option Files) (name text : StoreName) (e : ReadError) → now ≡ files → text ≡ name → IsNeedRefusal now (ImageIn text ∷ []) e → IsNeedRefusal files (ImageIn name ∷ []) e
-image_refusal_as files now name text e same is h = subst (λ (f : Option Files). IsNeedRefusal f (ImageIn name ∷ []) e) same (subst (λ (t : StoreName). IsNeedRefusal now (ImageIn t ∷ []) e) is h)
+pub image_refusal_as : (files now : Option StoreFiles) (name text : StoreName) (e : ReadError) → now ≡ files → text ≡ name → IsNeedRefusal now (ImageIn text ∷ []) e → IsNeedRefusal files (ImageIn name ∷ []) e
+image_refusal_as files now name text e same is h = subst (λ (f : Option StoreFiles). IsNeedRefusal f (ImageIn name ∷ []) e) same (subst (λ (t : StoreName). IsNeedRefusal now (ImageIn t ∷ []) e) is h)
 
-pub image_as : (files now : Option Files) (name text : StoreName) (d : Disk) → now ≡ files → text ≡ name → IsImageIn now text d → IsImageIn files name d
-image_as files now name text d same is h = subst (λ (f : Option Files). IsImageIn f name d) same (subst (λ (t : StoreName). IsImageIn now t d) is h)
+pub image_as : (files now : Option StoreFiles) (name text : StoreName) (d : Disk) → now ≡ files → text ≡ name → IsImageIn now text d → IsImageIn files name d
+image_as files now name text d same is h = subst (λ (f : Option StoreFiles). IsImageIn f name d) same (subst (λ (t : StoreName). IsImageIn now t d) is h)
 
-pub refusal_as : (files now : Option Files) (ns ms : List Need) (e : ReadError) → now ≡ files → ms ≡ ns → IsNeedRefusal now ms e → IsNeedRefusal files ns e
-refusal_as files now ns ms e same is h = subst (λ (f : Option Files). IsNeedRefusal f ns e) same (subst (λ (xs : List Need). IsNeedRefusal now xs e) is h)
+pub refusal_as : (files now : Option StoreFiles) (ns ms : List Need) (e : ReadError) → now ≡ files → ms ≡ ns → IsNeedRefusal now ms e → IsNeedRefusal files ns e
+refusal_as files now ns ms e same is h = subst (λ (f : Option StoreFiles). IsNeedRefusal f ns e) same (subst (λ (xs : List Need). IsNeedRefusal now xs e) is h)
 
-pub inputs_as : (files now : Option Files) (is : List SessionInput) → now ≡ files → AllInputs now [] is → AllInputs files [] is
-inputs_as files now is same h = subst (λ (f : Option Files). AllInputs f [] is) same h
+pub inputs_as : (files now : Option StoreFiles) (is : List SessionInput) → now ≡ files → AllInputs now [] is → AllInputs files [] is
+inputs_as files now is same h = subst (λ (f : Option StoreFiles). AllInputs f [] is) same h
 
 -- the needs of a forked session
 pub forked_needs : (before : List SessionInput) (session : SessionConfig) (parent : String Global) (at : ℕ) (name : StoreName) → session.origin ≡ origin.Forked parent at → name ≡ string_bytes parent
@@ -127,11 +127,11 @@ forked_needs before session parent at name is named =
 
 -- ---- a configuration
 
-pub system_refused : (files : Option Files) (config : Config) (e : ReadError) → IsNeedRefusal files (ImageIn (string_bytes config.system) ∷ []) e → IsReadRefusal files config e
+pub system_refused : (files : Option StoreFiles) (config : Config) (e : ReadError) → IsNeedRefusal files (ImageIn (string_bytes config.system) ∷ []) e → IsReadRefusal files config e
 system_refused files config e h = ⊎_elim (λ m. inl m) (λ f. inr (⊎_elim (λ x. inl x) (λ m. absurd m.1) f)) h
 
-pub sessions_refused : (files now : Option Files) (config : Config) (sessions : List SessionConfig) (d : Disk) (e : ReadError) → IsImageIn files (string_bytes config.system) d → now ≡ files
+pub sessions_refused : (files now : Option StoreFiles) (config : Config) (sessions : List SessionConfig) (d : Disk) (e : ReadError) → IsImageIn files (string_bytes config.system) d → now ≡ files
     → sessions ≡ config.sessions.items → IsSessionRefusal now [] sessions e → IsReadRefusal files config e
 sessions_refused files now config sessions d e system same is h =
-    let told = subst (λ (f : Option Files). IsSessionRefusal f [] config.sessions.items e) same (subst (λ (ss : List SessionConfig). IsSessionRefusal now [] ss e) is h) in
+    let told = subst (λ (f : Option StoreFiles). IsSessionRefusal f [] config.sessions.items e) same (subst (λ (ss : List SessionConfig). IsSessionRefusal now [] ss e) is h) in
     ⊎_elim (λ m. inl m) (λ f. inr (inr ((d, system), f))) told

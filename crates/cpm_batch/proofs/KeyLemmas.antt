@@ -9,12 +9,12 @@ use Rattle.std.proofs.lemmas.List.{length-map}
 use Rattle.std.proofs.lemmas.Result.{IfOk-weaker}
 use Rattle.cpm_script.specs.Fork.{forked_script, keys_before}
 use Rattle.cpm_script.specs.KeyText.{count_of, keys_of}
-use Rattle.cpm_script.specs.Script.{is_after, is_skipped, is_script_space, keys_at, at_line, or_fault, script, script_from, with_counted, keys_added, with_line, with_text}
+use Rattle.cpm_script.specs.Script.{is_after, is_skipped, is_script_space, keys_at, at_line, or_fault, script, script_from, keys_with_counted, keys_added, keys_with_line, keys_with_text}
 use Rattle.cpm_script.specs.declared.fault.LineFault.{LineFault}
 use Rattle.cpm_script.specs.declared.fault.LineFault.TheVariants.{CountFalls, NoCount, NotAKey, TooManyKeys}
 use Rattle.cpm_script.specs.declared.script.Key.{Key}
 use Rattle.cpm_script.proofs.ForkLemmas.{forked_script-keys, length-keys_before}
-use Rattle.cpm_store.specs.Files.{Files}
+use Rattle.cpm_store.specs.Files.{StoreFiles}
 use Rattle.cpm_batch.specs.Inputs.{HasForkedKeys, HasKeys}
 
 abbrev pub AreFew : List Key → Type 0
@@ -36,18 +36,18 @@ few-text : (keys : List Key) (count : ℕ) (o : Option (List ℕ)) → IfOk (or_
 few-text keys count None = tt
 few-text keys count (Some bytes) = few-keys keys count bytes
 
-few-counted : (keys : List Key) (o : Option ℕ) (text : List ℕ) → IfOk (or_fault NoCount o (λ count. if is_after keys count then with_text keys count text else Err CountFalls)) AreFew
+few-counted : (keys : List Key) (o : Option ℕ) (text : List ℕ) → IfOk (or_fault NoCount o (λ count. if is_after keys count then keys_with_text keys count text else Err CountFalls)) AreFew
 few-counted keys None text = tt
 few-counted keys (Some count) text = by_test (is_after keys count)
   where
-    by_test : (t : Bool) → IfOk (if t then with_text keys count text else Err CountFalls) AreFew
+    by_test : (t : Bool) → IfOk (if t then keys_with_text keys count text else Err CountFalls) AreFew
     by_test true = few-text keys count (keys_of text)
     by_test false = tt
 
-few-line : (keys : List Key) (line : List ℕ) → AreFew keys → IfOk (with_line keys line) AreFew
+few-line : (keys : List Key) (line : List ℕ) → AreFew keys → IfOk (keys_with_line keys line) AreFew
 few-line keys line few = by_test (is_skipped line)
   where
-    by_test : (t : Bool) → IfOk (if t then Ok keys else with_counted keys (before_first is_script_space line) (after_first is_script_space line)) AreFew
+    by_test : (t : Bool) → IfOk (if t then Ok keys else keys_with_counted keys (before_first is_script_space line) (after_first is_script_space line)) AreFew
     by_test true = few
     by_test false = few-counted keys (count_of (before_first is_script_space line)) (after_first is_script_space line)
 
@@ -59,7 +59,7 @@ few-numbered number (Err fault) next goes few = tt
 few-from : (number : ℕ) (keys : List Key) (rest : List (List ℕ)) → AreFew keys → IfOk (script_from number keys rest) AreFew
 few-from number keys [] few = few
 few-from number keys (line ∷ rest) few =
-    few-numbered number (with_line keys line) (λ more. script_from (number + 1) more rest) (λ more f. few-from (number + 1) more rest f) (few-line keys line few)
+    few-numbered number (keys_with_line keys line) (λ more. script_from (number + 1) more rest) (λ more f. few-from (number + 1) more rest f) (few-line keys line few)
 
 few-script : (text : List ℕ) (keys : List Key) → script text ≡ Ok keys → AreFew keys
 few-script text keys is = subst (λ (r : Result (List Key) (ℕ × LineFault)). IfOk r AreFew) is (few-from 1 [] (lines text) (omega arith))
@@ -74,10 +74,10 @@ few-forked at before text keys few is =
     (IfOk-weaker (forked_script at before text) _ AreFew (λ more forked. forked.room) (forked_script-keys at before text few))
 
 -- those of a session that is opened, and of one that is forked
-pub few-opened : (files : Option Files) (name : Option (String Global)) (keys : List Key) → HasKeys files name keys → AreFew keys
+pub few-opened : (files : Option StoreFiles) (name : Option (String Global)) (keys : List Key) → HasKeys files name keys → AreFew keys
 few-opened files None keys none = subst AreFew (sym none) (omega arith)
 few-opened files (Some name) keys some = few-script some.text keys some.read
 
-pub few-behind : (files : Option Files) (name : Option (String Global)) (at : ℕ) (before keys : List Key) → AreFew before → HasForkedKeys files name at before keys → AreFew keys
+pub few-behind : (files : Option StoreFiles) (name : Option (String Global)) (at : ℕ) (before keys : List Key) → AreFew before → HasForkedKeys files name at before keys → AreFew keys
 few-behind files None at before keys few same = subst AreFew (sym same) few
 few-behind files (Some name) at before keys few some = few-forked at before some.text keys few some.read

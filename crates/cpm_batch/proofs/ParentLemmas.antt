@@ -16,7 +16,7 @@ use Rattle.cpm_config.specs.declared.config.Origin.TheVariants as origin
 use Rattle.cpm_config.specs.declared.config.SessionConfig.{SessionConfig}
 use Rattle.cpm_script.specs.Fork.{keys_before}
 use Rattle.cpm_script.specs.declared.script.Key.{Key}
-use Rattle.cpm_store.specs.Files.{Files, StoreName}
+use Rattle.cpm_store.specs.Files.{StoreFiles, StoreName}
 use Rattle.cpm_batch.specs.Inputs.{AllInputs, HasInputOf, IsOpened, IsParent, SessionInput, given, keys_if_any, keys_of_session, session_place}
 use Rattle.cpm_batch.specs.declared.input.Input.{Input}
 use Rattle.cpm_batch.proofs.KeyLemmas.{AreFew, few-before, few-behind, few-opened}
@@ -30,7 +30,7 @@ sound_at : (is : List SessionInput) (place : ℕ) (i : SessionInput) → All IsS
 sound_at is place i all there =
     subst IsSound (get_or_from_slice_get is place i i there) (All-get_or IsSound is place i (slice_get_within is place i there) all)
 
-sound_opened : (files : Option Files) (o : Origin) (before : List SessionInput) (i : SessionInput) → All IsSound before → i.session.origin ≡ o → HasInputOf files before o i → IsSound i
+sound_opened : (files : Option StoreFiles) (o : Origin) (before : List SessionInput) (i : SessionInput) → All IsSound before → i.session.origin ≡ o → HasInputOf files before o i → IsSound i
 sound_opened files (origin.Opened cpu quota drives) before i all is h = record {
   few = few-opened files i.session.keys i.keys h.keys;
   opened = λ opened. subst IsOpened (sym h.start) tt;
@@ -40,7 +40,7 @@ sound_opened files (origin.Forked parent at) before i all is h = record {
   opened = λ opened. let no = sym (ap (λ (x : Origin). is_opened (origin_view x)) is) ∙ opened in absurd (cc);
 }
 
-sound_more : (files : Option Files) (before is : List SessionInput) → All IsSound before → AllInputs files before is → All IsSound (before ++ is)
+sound_more : (files : Option StoreFiles) (before is : List SessionInput) → All IsSound before → AllInputs files before is → All IsSound (before ++ is)
 sound_more files before [] all h = All-same IsSound (before ++ []) before (append-nil before) all
 sound_more files before (i ∷ is) all h =
     All-same IsSound (before ++ i ∷ is) ((before ++ i ∷ []) ++ is) (sym (append_assoc before (i ∷ []) is))
@@ -99,7 +99,7 @@ parent_by is name (Some s) all found some = by_test (is_opened s.origin) refl so
     by_test true e g = parent_at is name s all (find-first seen (is_session_named name) is s found) e
     by_test false e g = absurd (cc)
 
-pub parent_found : (files : Option Files) (is : List SessionInput) (name : StoreName) → AllInputs files [] is → is_some (parent_in (map (λ i. session_view i.session) is) name) ≡ true → HasParent is name
+pub parent_found : (files : Option StoreFiles) (is : List SessionInput) (name : StoreName) → AllInputs files [] is → is_some (parent_in (map (λ i. session_view i.session) is) name) ≡ true → HasParent is name
 parent_found files is name h some = parent_by is name (named_in (map seen is) name) (sound_more files [] is (All-nil IsSound) h) refl some
 
 -- the parent at a place, and the first keys of a session that is forked from it
@@ -110,7 +110,7 @@ pub record IsReadParent (is : List Input) (name : StoreName) (place at : ℕ) (f
   pub keys : first ≡ keys_before at parent.keys
   pub named : first ≡ keys_before at (keys_of_session (map given is) name)
 
-pub parent_read : (files : Option Files) (is : List Input) (name : StoreName) (place at : ℕ) (i : Input) (own first : List Key) → AllInputs files [] (map given is)
+pub parent_read : (files : Option StoreFiles) (is : List Input) (name : StoreName) (place at : ℕ) (i : Input) (own first : List Key) → AllInputs files [] (map given is)
     → is_some (parent_in (map (λ i. session_view i.session) (map given is)) name) ≡ true → Some place ≡ session_place (map given is) name → place < length is → i ≡ get_or is place i
     → own ≡ (get_or is place i).keys.items → first ≡ keys_before at own → IsReadParent is name place at first
 parent_read files is name place at i own first all some named within is_at own_is first_is =

@@ -4,8 +4,8 @@ use Rattle.std.proofs.lemmas.List.{map-append, take_more}
 use Rattle.std.specs.Prelude.{string_bytes}
 use Rattle.std.specs.declared.alloc.Global.{Global}
 use Rattle.cpm_geom.specs.Disk.{Disk}
-use Rattle.cpm_store.specs.Files.{CountsFailure, Files, StoreName}
-use Rattle.cpm_store.specs.Log.{Access, Gave, RanBy, Then}
+use Rattle.cpm_store.specs.Files.{CountsFailure, StoreFiles, StoreName}
+use Rattle.cpm_store.specs.Log.{StoreAccess, Gave, LogLeadsBy, Then}
 use Rattle.cpm_store.proofs.LogLemmas.{ran_more, ran_one, unwritten_more}
 use Rattle.cpm_script.specs.Fork.{forked_script}
 use Rattle.cpm_script.specs.Script.{script}
@@ -22,76 +22,76 @@ use Rattle.cpm_batch.specs.Reads.{AreForkedKeysRead, AreImagesRead, AreInputsRea
 use Rattle.cpm_batch.specs.declared.input.Input.{Input}
 
 -- one read
-pub image_read : {S : Type 0} (does : S → Access → S → Type 0) (name : StoreName) (bytes : List ℕ) (d : Disk) (s t : S) → does s (Gave name bytes) t → IsImage bytes d → RanBy does (IsImageRead name d) s t
+pub image_read : {S : Type 0} (does : S → StoreAccess → S → Type 0) (name : StoreName) (bytes : List ℕ) (d : Disk) (s t : S) → does s (Gave name bytes) t → IsImage bytes d → LogLeadsBy does (IsImageRead name d) s t
 image_read does name bytes d s t call image = (Gave name bytes ∷ [], record { bytes = bytes; image = image; calls = refl }, ran_one does (Gave name bytes) s t call)
 
-pub script_read : {S : Type 0} (does : S → Access → S → Type 0) (name : StoreName) (text : List ℕ) (keys : List Key) (s t : S) → does s (Gave name text) t → script text ≡ Ok keys → RanBy does (IsScriptRead name keys) s t
+pub script_read : {S : Type 0} (does : S → StoreAccess → S → Type 0) (name : StoreName) (text : List ℕ) (keys : List Key) (s t : S) → does s (Gave name text) t → script text ≡ Ok keys → LogLeadsBy does (IsScriptRead name keys) s t
 script_read does name text keys s t call read = (Gave name text ∷ [], record { text = text; read = read; calls = refl }, ran_one does (Gave name text) s t call)
 
-pub forked_script_read : {S : Type 0} (does : S → Access → S → Type 0) (name text : StoreName) (at : ℕ) (before keys : List Key) (s t : S) → does s (Gave name text) t → forked_script at before text ≡ Ok keys
-    → RanBy does (IsForkedScriptRead name at before keys) s t
+pub forked_script_read : {S : Type 0} (does : S → StoreAccess → S → Type 0) (name text : StoreName) (at : ℕ) (before keys : List Key) (s t : S) → does s (Gave name text) t → forked_script at before text ≡ Ok keys
+    → LogLeadsBy does (IsForkedScriptRead name at before keys) s t
 forked_script_read does name text at before keys s t call read =
     (Gave name text ∷ [], record { text = text; read = read; calls = refl }, ran_one does (Gave name text) s t call)
 
 -- the same of the text of a name
-pub image_read_as : {S : Type 0} (does : S → Access → S → Type 0) (name text : StoreName) (d : Disk) (s t : S) → text ≡ name → RanBy does (IsImageRead text d) s t → RanBy does (IsImageRead name d) s t
-image_read_as does name text d s t is h = subst (λ (n : StoreName). RanBy does (IsImageRead n d) s t) is h
+pub image_read_as : {S : Type 0} (does : S → StoreAccess → S → Type 0) (name text : StoreName) (d : Disk) (s t : S) → text ≡ name → LogLeadsBy does (IsImageRead text d) s t → LogLeadsBy does (IsImageRead name d) s t
+image_read_as does name text d s t is h = subst (λ (n : StoreName). LogLeadsBy does (IsImageRead n d) s t) is h
 
 -- the keys of a script that is named, and of none
-pub script_named : {S : Type 0} (does : S → Access → S → Type 0) (script : Option (String Global)) (name : String Global) (text : StoreName) (keys : List Key) (s t : S) → script ≡ Some name → text ≡ string_bytes name
-    → RanBy does (IsScriptRead text keys) s t → RanBy does (AreKeysRead script keys) s t
+pub script_named : {S : Type 0} (does : S → StoreAccess → S → Type 0) (script : Option (String Global)) (name : String Global) (text : StoreName) (keys : List Key) (s t : S) → script ≡ Some name → text ≡ string_bytes name
+    → LogLeadsBy does (IsScriptRead text keys) s t → LogLeadsBy does (AreKeysRead script keys) s t
 script_named does script name text keys s t is named h =
-    subst (λ (o : Option (String Global)). RanBy does (AreKeysRead o keys) s t) (sym is) (subst (λ (n : StoreName). RanBy does (IsScriptRead n keys) s t) named h)
+    subst (λ (o : Option (String Global)). LogLeadsBy does (AreKeysRead o keys) s t) (sym is) (subst (λ (n : StoreName). LogLeadsBy does (IsScriptRead n keys) s t) named h)
 
-pub no_script : {S : Type 0} (does : S → Access → S → Type 0) (script : Option (String Global)) (keys : List Key) (s : S) → script ≡ None → keys ≡ [] → RanBy does (AreKeysRead script keys) s s
-no_script does script keys s is none = subst (λ (o : Option (String Global)). RanBy does (AreKeysRead o keys) s s) (sym is) ([], (none, refl), refl)
+pub no_script : {S : Type 0} (does : S → StoreAccess → S → Type 0) (script : Option (String Global)) (keys : List Key) (s : S) → script ≡ None → keys ≡ [] → LogLeadsBy does (AreKeysRead script keys) s s
+no_script does script keys s is none = subst (λ (o : Option (String Global)). LogLeadsBy does (AreKeysRead o keys) s s) (sym is) ([], (none, refl), refl)
 
-pub forked_script_named : {S : Type 0} (does : S → Access → S → Type 0) (script : Option (String Global)) (name : String Global) (text : StoreName) (at : ℕ) (before keys : List Key) (s t : S)
-    → script ≡ Some name → text ≡ string_bytes name → RanBy does (IsForkedScriptRead text at before keys) s t → RanBy does (AreForkedKeysRead script at before keys) s t
+pub forked_script_named : {S : Type 0} (does : S → StoreAccess → S → Type 0) (script : Option (String Global)) (name : String Global) (text : StoreName) (at : ℕ) (before keys : List Key) (s t : S)
+    → script ≡ Some name → text ≡ string_bytes name → LogLeadsBy does (IsForkedScriptRead text at before keys) s t → LogLeadsBy does (AreForkedKeysRead script at before keys) s t
 forked_script_named does script name text at before keys s t is named h =
-    subst (λ (o : Option (String Global)). RanBy does (AreForkedKeysRead o at before keys) s t) (sym is) (subst (λ (n : StoreName). RanBy does (IsForkedScriptRead n at before keys) s t) named h)
+    subst (λ (o : Option (String Global)). LogLeadsBy does (AreForkedKeysRead o at before keys) s t) (sym is) (subst (λ (n : StoreName). LogLeadsBy does (IsForkedScriptRead n at before keys) s t) named h)
 
-pub no_forked_script : {S : Type 0} (does : S → Access → S → Type 0) (script : Option (String Global)) (at : ℕ) (before keys : List Key) (s : S) → script ≡ None → keys ≡ before
-    → RanBy does (AreForkedKeysRead script at before keys) s s
-no_forked_script does script at before keys s is same = subst (λ (o : Option (String Global)). RanBy does (AreForkedKeysRead o at before keys) s s) (sym is) ([], (same, refl), refl)
+pub no_forked_script : {S : Type 0} (does : S → StoreAccess → S → Type 0) (script : Option (String Global)) (at : ℕ) (before keys : List Key) (s : S) → script ≡ None → keys ≡ before
+    → LogLeadsBy does (AreForkedKeysRead script at before keys) s s
+no_forked_script does script at before keys s is same = subst (λ (o : Option (String Global)). LogLeadsBy does (AreForkedKeysRead o at before keys) s s) (sym is) ([], (same, refl), refl)
 
 -- the reads of a session that begins so
-pub opened_read : {S : Type 0} (does : S → Access → S → Type 0) (r : Result Input ReadError) (before : List SessionInput) (session : SessionConfig) (cpu : Cpu) (quota : ℕ) (drives : Vec (String Global) Global)
+pub opened_read : {S : Type 0} (does : S → StoreAccess → S → Type 0) (r : Result Input ReadError) (before : List SessionInput) (session : SessionConfig) (cpu : Cpu) (quota : ℕ) (drives : Vec (String Global) Global)
     (names : List (String Global)) (s t : S) → session.origin ≡ origin.Opened cpu quota drives → names ≡ drives.items → IfOk r (λ i. i.session.now ≡ session)
-    → IfOk r (λ i. RanBy does (IsOpenedRead cpu quota names (given i)) s t) → IfOk r (λ i. RanBy does (IsInputRead before (given i)) s t)
+    → IfOk r (λ i. LogLeadsBy does (IsOpenedRead cpu quota names (given i)) s t) → IfOk r (λ i. LogLeadsBy does (IsInputRead before (given i)) s t)
 opened_read does (Err e) before session cpu quota drives names s t is named same log = tt
 opened_read does (Ok i) before session cpu quota drives names s t is named same log =
-    subst (λ (o : Origin). RanBy does (IsInputReadOf before o (given i)) s t) (sym (ap (λ (x : SessionConfig). x.origin) same ∙ is))
-    (subst (λ (ns : List (String Global)). RanBy does (IsOpenedRead cpu quota ns (given i)) s t) named log)
+    subst (λ (o : Origin). LogLeadsBy does (IsInputReadOf before o (given i)) s t) (sym (ap (λ (x : SessionConfig). x.origin) same ∙ is))
+    (subst (λ (ns : List (String Global)). LogLeadsBy does (IsOpenedRead cpu quota ns (given i)) s t) named log)
 
-pub forked_read : {S : Type 0} (does : S → Access → S → Type 0) (r : Result Input ReadError) (before : List SessionInput) (session : SessionConfig) (parent : String Global) (at : ℕ) (name : StoreName) (s t : S)
-    → session.origin ≡ origin.Forked parent at → name ≡ string_bytes parent → IfOk r (λ i. i.session.now ≡ session) → IfOk r (λ i. RanBy does (IsForkedRead before name at (given i)) s t)
-    → IfOk r (λ i. RanBy does (IsInputRead before (given i)) s t)
+pub forked_read : {S : Type 0} (does : S → StoreAccess → S → Type 0) (r : Result Input ReadError) (before : List SessionInput) (session : SessionConfig) (parent : String Global) (at : ℕ) (name : StoreName) (s t : S)
+    → session.origin ≡ origin.Forked parent at → name ≡ string_bytes parent → IfOk r (λ i. i.session.now ≡ session) → IfOk r (λ i. LogLeadsBy does (IsForkedRead before name at (given i)) s t)
+    → IfOk r (λ i. LogLeadsBy does (IsInputRead before (given i)) s t)
 forked_read does (Err e) before session parent at name s t is named same log = tt
 forked_read does (Ok i) before session parent at name s t is named same log =
-    subst (λ (o : Origin). RanBy does (IsInputReadOf before o (given i)) s t) (sym (ap (λ (x : SessionConfig). x.origin) same ∙ is))
-    (subst (λ (n : StoreName). RanBy does (IsForkedRead before n at (given i)) s t) named log)
+    subst (λ (o : Origin). LogLeadsBy does (IsInputReadOf before o (given i)) s t) (sym (ap (λ (x : SessionConfig). x.origin) same ∙ is))
+    (subst (λ (n : StoreName). LogLeadsBy does (IsForkedRead before n at (given i)) s t) named log)
 
 -- the reads of a list, and one more
-pub then_more : (Before After All : List Access → Type 0) (xs ys : List Access) (h : Then Before After xs) → All (h.rest ++ ys) → Then Before All (xs ++ ys)
+pub then_more : (Before After All : List StoreAccess → Type 0) (xs ys : List StoreAccess) (h : Then Before After xs) → All (h.rest ++ ys) → Then Before All (xs ++ ys)
 then_more Before After All xs ys h more = record {
   first = h.first;
   rest = h.rest ++ ys;
-  order = ap (λ (zs : List Access). zs ++ ys) h.order ∙ append_assoc h.first h.rest ys;
+  order = ap (λ (zs : List StoreAccess). zs ++ ys) h.order ∙ append_assoc h.first h.rest ys;
   begins = h.begins;
   goes_on = more;
 }
 
-then_last : (Before : List Access → Type 0) (xs ys : List Access) → xs ≡ [] → Before ys → Then Before (λ log. log ≡ []) (xs ++ ys)
+then_last : (Before : List StoreAccess → Type 0) (xs ys : List StoreAccess) → xs ≡ [] → Before ys → Then Before (λ log. log ≡ []) (xs ++ ys)
 then_last Before xs ys none one = record {
   first = ys;
   rest = [];
-  order = ap (λ (zs : List Access). zs ++ ys) none ∙ sym (append-nil ys);
+  order = ap (λ (zs : List StoreAccess). zs ++ ys) none ∙ sym (append-nil ys);
   begins = one;
   goes_on = refl;
 }
 
-images_push : (names : List (String Global)) (ds : List Disk) (name : String Global) (d : Disk) (xs ys : List Access) → AreImagesRead names ds xs → IsImageRead (string_bytes name) d ys
+images_push : (names : List (String Global)) (ds : List Disk) (name : String Global) (d : Disk) (xs ys : List StoreAccess) → AreImagesRead names ds xs → IsImageRead (string_bytes name) d ys
     → AreImagesRead (names ++ name ∷ []) (ds ++ d ∷ []) (xs ++ ys)
 images_push [] [] name d xs ys h g = then_last (IsImageRead (string_bytes name) d) xs ys h g
 images_push [] (x ∷ ds) name d xs ys h g = absurd h
@@ -99,31 +99,31 @@ images_push (n ∷ names) [] name d xs ys h g = absurd h
 images_push (n ∷ names) (x ∷ ds) name d xs ys h g =
     then_more (IsImageRead (string_bytes n) x) (AreImagesRead names ds) (AreImagesRead (names ++ name ∷ []) (ds ++ d ∷ [])) xs ys h (images_push names ds name d h.rest ys h.goes_on g)
 
-inputs_push : (before is : List SessionInput) (x : SessionInput) (xs ys : List Access) → AreInputsRead before is xs → IsInputRead (before ++ is) x ys → AreInputsRead before (is ++ x ∷ []) (xs ++ ys)
+inputs_push : (before is : List SessionInput) (x : SessionInput) (xs ys : List StoreAccess) → AreInputsRead before is xs → IsInputRead (before ++ is) x ys → AreInputsRead before (is ++ x ∷ []) (xs ++ ys)
 inputs_push before [] x xs ys h g = then_last (IsInputRead before x) xs ys h (subst (λ (b : List SessionInput). IsInputRead b x ys) (append-nil before) g)
 inputs_push before (i ∷ is) x xs ys h g =
     then_more (IsInputRead before i) (AreInputsRead (before ++ i ∷ []) is) (AreInputsRead (before ++ i ∷ []) (is ++ x ∷ [])) xs ys h
     (inputs_push (before ++ i ∷ []) is x h.rest ys h.goes_on (subst (λ (b : List SessionInput). IsInputRead b x ys) (sym (append_assoc before (i ∷ []) is)) g))
 
 -- one more of a list that is gone through
-pub images_more : {S : Type 0} (does : S → Access → S → Type 0) (names : List (String Global)) (i : ℕ) (name : String Global) (ds all : List Disk) (d : Disk) (s m t : S) → i < length names
-    → name ≡ get_or names i name → all ≡ ds ++ d ∷ [] → RanBy does (AreImagesRead (take i names) ds) s m → RanBy does (IsImageRead (string_bytes name) d) m t
-    → RanBy does (AreImagesRead (take (i + 1) names) all) s t
+pub images_more : {S : Type 0} (does : S → StoreAccess → S → Type 0) (names : List (String Global)) (i : ℕ) (name : String Global) (ds all : List Disk) (d : Disk) (s m t : S) → i < length names
+    → name ≡ get_or names i name → all ≡ ds ++ d ∷ [] → LogLeadsBy does (AreImagesRead (take i names) ds) s m → LogLeadsBy does (IsImageRead (string_bytes name) d) m t
+    → LogLeadsBy does (AreImagesRead (take (i + 1) names) all) s t
 images_more does names i name ds all d s m t within is pushed h g =
     let more : take (i + 1) names ≡ take i names ++ name ∷ [] = take_more names i name within ∙ ap (λ x. take i names ++ x ∷ []) (sym is) in
-    subst (λ (xs : List Disk). RanBy does (AreImagesRead (take (i + 1) names) xs) s t) (sym pushed)
-    (subst (λ (ns : List (String Global)). RanBy does (AreImagesRead ns (ds ++ d ∷ [])) s t) (sym more)
+    subst (λ (xs : List Disk). LogLeadsBy does (AreImagesRead (take (i + 1) names) xs) s t) (sym pushed)
+    (subst (λ (ns : List (String Global)). LogLeadsBy does (AreImagesRead ns (ds ++ d ∷ [])) s t) (sym more)
     (h.0 ++ g.0, images_push (take i names) ds name d h.0 g.0 h.1 g.1, ran_more does h.0 g.0 s m t h.2 g.2))
 
-pub sessions_read : {S : Type 0} (does : S → Access → S → Type 0) (is all : List Input) (x : Input) (s m t : S) → all ≡ is ++ x ∷ [] → RanBy does (AreInputsRead [] (map given is)) s m
-    → RanBy does (IsInputRead (map given is) (given x)) m t → RanBy does (AreInputsRead [] (map given all)) s t
+pub sessions_read : {S : Type 0} (does : S → StoreAccess → S → Type 0) (is all : List Input) (x : Input) (s m t : S) → all ≡ is ++ x ∷ [] → LogLeadsBy does (AreInputsRead [] (map given is)) s m
+    → LogLeadsBy does (IsInputRead (map given is) (given x)) m t → LogLeadsBy does (AreInputsRead [] (map given all)) s t
 sessions_read does is all x s m t pushed h g =
-    subst (λ (ys : List SessionInput). RanBy does (AreInputsRead [] ys) s t) (sym (ap (map given) pushed ∙ map-append given is (x ∷ [])))
+    subst (λ (ys : List SessionInput). LogLeadsBy does (AreInputsRead [] ys) s t) (sym (ap (map given) pushed ∙ map-append given is (x ∷ [])))
     (h.0 ++ g.0, inputs_push [] (map given is) (given x) h.0 g.0 h.1 g.1, ran_more does h.0 g.0 s m t h.2 g.2)
 
 -- ---- a store that was only read
 
-module _ {S : Type 0} {does : S → Access → S → Type 0} {files : S → Option Files} {failed : S → ℕ} where
+module _ {S : Type 0} {does : S → StoreAccess → S → Type 0} {files : S → Option StoreFiles} {failed : S → ℕ} where
   -- reading that went well, and more behind it
   pub only_read_then : {X Y : Type 0} {x : X} {r : Result Y ReadError} {s m t : S} → OnlyRead does files failed (Ok x) s m → OnlyRead does files failed r m t → OnlyRead does files failed r s t
   only_read_then {r = r} {s = s} {m = m} {t = t} h g = record {

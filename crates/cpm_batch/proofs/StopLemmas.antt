@@ -12,7 +12,7 @@ use Rattle.cpm_geom.specs.Disk.{Disk}
 use Rattle.cpm_script.specs.Fork.{keys_before}
 use Rattle.cpm_script.specs.declared.script.Key.{Key}
 use Rattle.cpm_store.specs.Files.{StoreName}
-use Rattle.cpm_store.specs.Log.{Access, AreNoWrites, Missed, RanBy, Then}
+use Rattle.cpm_store.specs.Log.{StoreAccess, AreNoWrites, Missed, LogLeadsBy, Then}
 use Rattle.cpm_store.proofs.LogLemmas.{no_writes_more, ran_more, ran_one}
 use Rattle.cpm_batch.specs.declared.error.ReadError.{ReadError}
 use Rattle.cpm_batch.specs.declared.error.ReadError.TheVariants.{File, OutOfMemory}
@@ -21,56 +21,56 @@ use Rattle.cpm_batch.specs.Reads.{AreForkedKeysRead, AreImagesRead, AreInputsRea
 use Rattle.cpm_batch.proofs.ReadLemmas.{then_more}
 
 -- a read of each of the needs in order, in which it was met
-abbrev pub AreNeedsRead : List Need → List Access → Type 0
+abbrev pub AreNeedsRead : List Need → List StoreAccess → Type 0
 AreNeedsRead [] log = log ≡ []
 AreNeedsRead (n ∷ ns) log = Then (IsNeedRead n) (AreNeedsRead ns) log
 
 -- ---- of logs
 
-stops_front : (ns ms : List Need) (e : ReadError) (log : List Access) → StopsAtFault ns e log → StopsAtFault (ns ++ ms) e log
+stops_front : (ns ms : List Need) (e : ReadError) (log : List StoreAccess) → StopsAtFault ns e log → StopsAtFault (ns ++ ms) e log
 stops_front [] ms e log h = absurd h
 stops_front (n ∷ ns) ms e log h =
     ⊎_elim (λ f. inl f) (λ t. inr (record { first = t.first; rest = t.rest; order = t.order; begins = t.begins; goes_on = stops_front ns ms e t.rest t.goes_on })) h
 
-stops_behind : (ns ms : List Need) (e : ReadError) (xs ys : List Access) → AreNeedsRead ns xs → StopsAtFault ms e ys → StopsAtFault (ns ++ ms) e (xs ++ ys)
-stops_behind [] ms e xs ys h g = subst (λ (zs : List Access). StopsAtFault ms e (zs ++ ys)) (sym h) g
+stops_behind : (ns ms : List Need) (e : ReadError) (xs ys : List StoreAccess) → AreNeedsRead ns xs → StopsAtFault ms e ys → StopsAtFault (ns ++ ms) e (xs ++ ys)
+stops_behind [] ms e xs ys h g = subst (λ (zs : List StoreAccess). StopsAtFault ms e (zs ++ ys)) (sym h) g
 stops_behind (n ∷ ns) ms e xs ys h g = inr (then_more (IsNeedRead n) (AreNeedsRead ns) (StopsAtFault (ns ++ ms) e) xs ys h (stops_behind ns ms e h.rest ys h.goes_on g))
 
-need_unwritten : (n : Need) (log : List Access) → IsNeedRead n log → AreNoWrites log
+need_unwritten : (n : Need) (log : List StoreAccess) → IsNeedRead n log → AreNoWrites log
 need_unwritten (ImageIn name) log h = subst AreNoWrites (sym h.1.calls) (tt, tt)
 need_unwritten (ScriptIn name) log h = subst AreNoWrites (sym h.1.calls) (tt, tt)
 need_unwritten (ForkedScriptIn name at before) log h = subst AreNoWrites (sym h.1.calls) (tt, tt)
 
-needs_unwritten : (ns : List Need) (log : List Access) → AreNeedsRead ns log → AreNoWrites log
+needs_unwritten : (ns : List Need) (log : List StoreAccess) → AreNeedsRead ns log → AreNoWrites log
 needs_unwritten [] log h = subst AreNoWrites (sym h) tt
 needs_unwritten (n ∷ ns) log h = subst AreNoWrites (sym h.order) (no_writes_more h.first h.rest (need_unwritten n h.first h.begins) (needs_unwritten ns h.rest h.goes_on))
 
-needs_read_append : (ns ms : List Need) (xs ys : List Access) → AreNeedsRead ns xs → AreNeedsRead ms ys → AreNeedsRead (ns ++ ms) (xs ++ ys)
-needs_read_append [] ms xs ys h g = subst (λ (zs : List Access). AreNeedsRead ms (zs ++ ys)) (sym h) g
+needs_read_append : (ns ms : List Need) (xs ys : List StoreAccess) → AreNeedsRead ns xs → AreNeedsRead ms ys → AreNeedsRead (ns ++ ms) (xs ++ ys)
+needs_read_append [] ms xs ys h g = subst (λ (zs : List StoreAccess). AreNeedsRead ms (zs ++ ys)) (sym h) g
 needs_read_append (n ∷ ns) ms xs ys h g = then_more (IsNeedRead n) (AreNeedsRead ns) (AreNeedsRead (ns ++ ms)) xs ys h (needs_read_append ns ms h.rest ys h.goes_on g)
 
 -- ---- what was read meets the needs
 
-one_need : (n : Need) (log : List Access) → IsNeedRead n log → AreNeedsRead (n ∷ []) log
+one_need : (n : Need) (log : List StoreAccess) → IsNeedRead n log → AreNeedsRead (n ∷ []) log
 one_need n log h = record { first = log; rest = []; order = sym (append-nil log); begins = h; goes_on = refl }
 
-images_need : (names : List (String Global)) (ds : List Disk) (log : List Access) → AreImagesRead names ds log → AreNeedsRead (image_needs names) log
+images_need : (names : List (String Global)) (ds : List Disk) (log : List StoreAccess) → AreImagesRead names ds log → AreNeedsRead (image_needs names) log
 images_need [] [] log h = h
 images_need [] (d ∷ ds) log h = absurd h
 images_need (name ∷ names) [] log h = absurd h
 images_need (name ∷ names) (d ∷ ds) log h = record { first = h.first; rest = h.rest; order = h.order; begins = (d, h.begins); goes_on = images_need names ds h.rest h.goes_on }
 
-keys_need : (name : Option (String Global)) (keys : List Key) (log : List Access) → AreKeysRead name keys log → AreNeedsRead (script_needs name) log
+keys_need : (name : Option (String Global)) (keys : List Key) (log : List StoreAccess) → AreKeysRead name keys log → AreNeedsRead (script_needs name) log
 keys_need None keys log h = h.1
 keys_need (Some name) keys log h = one_need (ScriptIn (string_bytes name)) log (keys, h)
 
-forked_keys_need : (name : Option (String Global)) (at : ℕ) (before keys : List Key) (log : List Access) → AreForkedKeysRead name at before keys log → AreNeedsRead (forked_script_needs at before name) log
+forked_keys_need : (name : Option (String Global)) (at : ℕ) (before keys : List Key) (log : List StoreAccess) → AreForkedKeysRead name at before keys log → AreNeedsRead (forked_script_needs at before name) log
 forked_keys_need None at before keys log h = h.1
 forked_keys_need (Some name) at before keys log h = one_need (ForkedScriptIn (string_bytes name) at before) log (keys, h)
 
 -- ---- sessions, each behind those before it
 
-input_unwritten : (before : List SessionInput) (o : Origin) (i : SessionInput) (log : List Access) → IsInputReadOf before o i log → AreNoWrites log
+input_unwritten : (before : List SessionInput) (o : Origin) (i : SessionInput) (log : List StoreAccess) → IsInputReadOf before o i log → AreNoWrites log
 input_unwritten before (origin.Opened cpu quota names) i log h =
     needs_unwritten (image_needs names.items ++ script_needs i.session.keys) log
     (subst (AreNeedsRead (image_needs names.items ++ script_needs i.session.keys)) (sym h.calls.order)
@@ -79,16 +79,16 @@ input_unwritten before (origin.Opened cpu quota names) i log h =
 input_unwritten before (origin.Forked parent at) i log h =
     needs_unwritten (forked_script_needs at (keys_before at h.parent.keys) i.session.keys) log (forked_keys_need i.session.keys at (keys_before at h.parent.keys) i.keys log h.calls)
 
-inputs_unwritten : (before is : List SessionInput) (log : List Access) → AreInputsRead before is log → AreNoWrites log
+inputs_unwritten : (before is : List SessionInput) (log : List StoreAccess) → AreInputsRead before is log → AreNoWrites log
 inputs_unwritten before [] log h = subst AreNoWrites (sym h) tt
 inputs_unwritten before (i ∷ is) log h =
     subst AreNoWrites (sym h.order)
     (no_writes_more h.first h.rest (input_unwritten before i.session.origin i h.first h.begins) (inputs_unwritten (before ++ i ∷ []) is h.rest h.goes_on))
 
-inputs_behind : (before is : List SessionInput) (rest : List SessionConfig) (e : ReadError) (xs ys : List Access) → AreInputsRead before is xs → StopsAtSession (before ++ is) rest e ys
+inputs_behind : (before is : List SessionInput) (rest : List SessionConfig) (e : ReadError) (xs ys : List StoreAccess) → AreInputsRead before is xs → StopsAtSession (before ++ is) rest e ys
     → StopsAtSession before (map (λ i. i.session) is ++ rest) e (xs ++ ys)
 inputs_behind before [] rest e xs ys h g =
-    subst (λ (zs : List Access). StopsAtSession before rest e (zs ++ ys)) (sym h) (subst (λ (b : List SessionInput). StopsAtSession b rest e ys) (append-nil before) g)
+    subst (λ (zs : List StoreAccess). StopsAtSession before rest e (zs ++ ys)) (sym h) (subst (λ (b : List SessionInput). StopsAtSession b rest e ys) (append-nil before) g)
 inputs_behind before (i ∷ is) rest e xs ys h g =
     inr (
       i,
@@ -102,55 +102,55 @@ missed_fault : (n : Need) (e : ReadError) → IsMissed (needed_name n) e → IsF
 missed_fault n (File name) h = (h, refl)
 missed_fault n _ h = absurd h
 
-module _ {S : Type 0} (does : S → Access → S → Type 0) where
+module _ {S : Type 0} (does : S → StoreAccess → S → Type 0) where
   -- ---- one read that is refused
 
-  pub stopped_missed : (n : Need) (e : ReadError) (s t : S) → (e ≡ OutOfMemory) ⊎ IsMissed (needed_name n) e → does s (Missed (needed_name n)) t → RanBy does (StopsAmongNeeds (n ∷ []) e) s t
+  pub stopped_missed : (n : Need) (e : ReadError) (s t : S) → (e ≡ OutOfMemory) ⊎ IsMissed (needed_name n) e → does s (Missed (needed_name n)) t → LogLeadsBy does (StopsAmongNeeds (n ∷ []) e) s t
   stopped_missed n e s t h call = (
     Missed (needed_name n) ∷ [],
     ⊎_elim (λ m. inl (m, (tt, tt))) (λ f. inr (inl (missed_fault n e f))) h,
     ran_one does (Missed (needed_name n)) s t call,
   )
 
-  pub stopped_at : (n : Need) (e : ReadError) (a : Access) (s t : S) → does s a t → IsFaultRead n e (a ∷ []) → RanBy does (StopsAmongNeeds (n ∷ []) e) s t
+  pub stopped_at : (n : Need) (e : ReadError) (a : StoreAccess) (s t : S) → does s a t → IsFaultRead n e (a ∷ []) → LogLeadsBy does (StopsAmongNeeds (n ∷ []) e) s t
   stopped_at n e a s t call fault = (a ∷ [], inr (inl fault), ran_one does a s t call)
 
   -- memory was refused
-  pub stopped_memory : (ns : List Need) (s t : S) → RanBy does AreNoWrites s t → RanBy does (StopsAmongNeeds ns OutOfMemory) s t
+  pub stopped_memory : (ns : List Need) (s t : S) → LogLeadsBy does AreNoWrites s t → LogLeadsBy does (StopsAmongNeeds ns OutOfMemory) s t
   stopped_memory ns s t h = (h.0, inl (refl, h.1), h.2)
 
   -- ---- among more needs
 
-  pub stopped_front : (ns ms : List Need) (e : ReadError) (s t : S) → RanBy does (StopsAmongNeeds ns e) s t → RanBy does (StopsAmongNeeds (ns ++ ms) e) s t
+  pub stopped_front : (ns ms : List Need) (e : ReadError) (s t : S) → LogLeadsBy does (StopsAmongNeeds ns e) s t → LogLeadsBy does (StopsAmongNeeds (ns ++ ms) e) s t
   stopped_front ns ms e s t h = (h.0, ⊎_elim (λ m. inl m) (λ f. inr (stops_front ns ms e h.0 f)) h.1, h.2)
 
-  stopped_behind : (ns ms : List Need) (e : ReadError) (s m t : S) → RanBy does (AreNeedsRead ns) s m → RanBy does (StopsAmongNeeds ms e) m t → RanBy does (StopsAmongNeeds (ns ++ ms) e) s t
+  stopped_behind : (ns ms : List Need) (e : ReadError) (s m t : S) → LogLeadsBy does (AreNeedsRead ns) s m → LogLeadsBy does (StopsAmongNeeds ms e) m t → LogLeadsBy does (StopsAmongNeeds (ns ++ ms) e) s t
   stopped_behind ns ms e s m t h g = (
     h.0 ++ g.0,
     ⊎_elim (λ no. inl (no.0, no_writes_more h.0 g.0 (needs_unwritten ns h.0 h.1) no.1)) (λ f. inr (stops_behind ns ms e h.0 g.0 h.1 f)) g.1,
     ran_more does h.0 g.0 s m t h.2 g.2,
   )
 
-  pub behind_images : (names : List (String Global)) (ds : List Disk) (ms : List Need) (e : ReadError) (s m t : S) → RanBy does (AreImagesRead names ds) s m → RanBy does (StopsAmongNeeds ms e) m t
-      → RanBy does (StopsAmongNeeds (image_needs names ++ ms) e) s t
+  pub behind_images : (names : List (String Global)) (ds : List Disk) (ms : List Need) (e : ReadError) (s m t : S) → LogLeadsBy does (AreImagesRead names ds) s m → LogLeadsBy does (StopsAmongNeeds ms e) m t
+      → LogLeadsBy does (StopsAmongNeeds (image_needs names ++ ms) e) s t
   behind_images names ds ms e s m t h g = stopped_behind (image_needs names) ms e s m t (h.0, images_need names ds h.0 h.1, h.2) g
 
   -- a fault at the name in turn is the first of all names
   pub name_stopped : (names : List (String Global)) (i : ℕ) (name : String Global) (ds : List Disk) (e : ReadError) (s m t : S) → i < length names → name ≡ get_or names i name
-      → RanBy does (AreImagesRead (take i names) ds) s m → RanBy does (StopsAmongNeeds (ImageIn (string_bytes name) ∷ []) e) m t → RanBy does (StopsAmongNeeds (image_needs names) e) s t
+      → LogLeadsBy does (AreImagesRead (take i names) ds) s m → LogLeadsBy does (StopsAmongNeeds (ImageIn (string_bytes name) ∷ []) e) m t → LogLeadsBy does (StopsAmongNeeds (image_needs names) e) s t
   name_stopped names i name ds e s m t within is done h =
       let parts : names ≡ take i names ++ name ∷ drop (suc i) names = split_at names i name within ∙ ap (λ x. take i names ++ x ∷ drop (suc i) names) (sym is) in
       let needs : image_needs names ≡ image_needs (take i names) ++ image_needs (name ∷ drop (suc i) names) = ap image_needs parts ∙ map-append _ (take i names) (name ∷ drop (suc i) names) in
-      subst (λ (ns : List Need). RanBy does (StopsAmongNeeds ns e) s t) (sym needs)
+      subst (λ (ns : List Need). LogLeadsBy does (StopsAmongNeeds ns e) s t) (sym needs)
       (behind_images (take i names) ds (image_needs (name ∷ drop (suc i) names)) e s m t done
       (stopped_front (ImageIn (string_bytes name) ∷ []) (image_needs (drop (suc i) names)) e m t h))
 
   pub session_stopped : (sessions : List SessionConfig) (i : ℕ) (x : SessionConfig) (is : List SessionInput) (e : ReadError) (s m t : S) → i < length sessions → x ≡ get_or sessions i x
-      → map (λ y. y.session) is ≡ take i sessions → RanBy does (AreInputsRead [] is) s m → RanBy does (StopsAmongNeeds (needs_of is x) e) m t → RanBy does (StopsAmongSessions [] sessions e) s t
+      → map (λ y. y.session) is ≡ take i sessions → LogLeadsBy does (AreInputsRead [] is) s m → LogLeadsBy does (StopsAmongNeeds (needs_of is x) e) m t → LogLeadsBy does (StopsAmongSessions [] sessions e) s t
   session_stopped sessions i x is e s m t within at same done h =
       let parts : sessions ≡ take i sessions ++ x ∷ drop (suc i) sessions = split_at sessions i x within ∙ ap (λ y. take i sessions ++ y ∷ drop (suc i) sessions) (sym at) in
       let all : map (λ y. y.session) is ++ x ∷ drop (suc i) sessions ≡ sessions = ap (λ ss. ss ++ x ∷ drop (suc i) sessions) same ∙ sym parts in
-      subst (λ (ss : List SessionConfig). RanBy does (StopsAmongSessions [] ss e) s t) all (
+      subst (λ (ss : List SessionConfig). LogLeadsBy does (StopsAmongSessions [] ss e) s t) all (
         done.0 ++ h.0,
         ⊎_elim (λ no. inl (no.0, no_writes_more done.0 h.0 (inputs_unwritten [] is done.0 done.1) no.1))
             (λ f. inr (inputs_behind [] is (x ∷ drop (suc i) sessions) e done.0 h.0 done.1 (inl f))) h.1,
@@ -158,18 +158,18 @@ module _ {S : Type 0} (does : S → Access → S → Type 0) where
       )
 
   -- memory was refused
-  pub sessions_memory : (sessions : List SessionConfig) (s t : S) → RanBy does AreNoWrites s t → RanBy does (StopsAmongSessions [] sessions OutOfMemory) s t
+  pub sessions_memory : (sessions : List SessionConfig) (s t : S) → LogLeadsBy does AreNoWrites s t → LogLeadsBy does (StopsAmongSessions [] sessions OutOfMemory) s t
   sessions_memory sessions s t h = (h.0, inl (refl, h.1), h.2)
 
   -- ---- a configuration
 
-  pub system_stopped : (config : Config) (e : ReadError) (s t : S) → RanBy does (StopsAmongNeeds (ImageIn (string_bytes config.system) ∷ []) e) s t → RanBy does (StopsReading config e) s t
+  pub system_stopped : (config : Config) (e : ReadError) (s t : S) → LogLeadsBy does (StopsAmongNeeds (ImageIn (string_bytes config.system) ∷ []) e) s t → LogLeadsBy does (StopsReading config e) s t
   system_stopped config e s t h = (h.0, ⊎_elim (λ m. inl m) (λ f. inr (⊎_elim (λ x. inl x) (λ m. absurd m.goes_on) f)) h.1, h.2)
 
   pub sessions_stopped : (config : Config) (sessions : List SessionConfig) (d : Disk) (e : ReadError) (s m t : S) → sessions ≡ config.sessions.items
-      → RanBy does (IsImageRead (string_bytes config.system) d) s m → RanBy does (StopsAmongSessions [] sessions e) m t → RanBy does (StopsReading config e) s t
+      → LogLeadsBy does (IsImageRead (string_bytes config.system) d) s m → LogLeadsBy does (StopsAmongSessions [] sessions e) m t → LogLeadsBy does (StopsReading config e) s t
   sessions_stopped config sessions d e s m t is system h =
-      let g = subst (λ (ss : List SessionConfig). RanBy does (StopsAmongSessions [] ss e) m t) is h in (
+      let g = subst (λ (ss : List SessionConfig). LogLeadsBy does (StopsAmongSessions [] ss e) m t) is h in (
         system.0 ++ g.0,
         ⊎_elim (λ no. inl (no.0, no_writes_more system.0 g.0 (need_unwritten (ImageIn (string_bytes config.system)) system.0 (d, system.1)) no.1))
             (λ f. inr (inr (record { first = system.0; rest = g.0; order = refl; begins = (d, system.1); goes_on = f }))) g.1,
@@ -177,19 +177,19 @@ module _ {S : Type 0} (does : S → Access → S → Type 0) where
       )
 
   -- ---- the same of other words for the needs
-  pub stopped_as : (ns ms : List Need) (e : ReadError) (s t : S) → ms ≡ ns → RanBy does (StopsAmongNeeds ms e) s t → RanBy does (StopsAmongNeeds ns e) s t
-  stopped_as ns ms e s t is h = subst (λ (xs : List Need). RanBy does (StopsAmongNeeds xs e) s t) is h
+  pub stopped_as : (ns ms : List Need) (e : ReadError) (s t : S) → ms ≡ ns → LogLeadsBy does (StopsAmongNeeds ms e) s t → LogLeadsBy does (StopsAmongNeeds ns e) s t
+  stopped_as ns ms e s t is h = subst (λ (xs : List Need). LogLeadsBy does (StopsAmongNeeds xs e) s t) is h
 
-  pub image_stopped_as : (name text : StoreName) (e : ReadError) (s t : S) → text ≡ name → RanBy does (StopsAmongNeeds (ImageIn text ∷ []) e) s t → RanBy does (StopsAmongNeeds (ImageIn name ∷ []) e) s t
-  image_stopped_as name text e s t is h = subst (λ (n : StoreName). RanBy does (StopsAmongNeeds (ImageIn n ∷ []) e) s t) is h
+  pub image_stopped_as : (name text : StoreName) (e : ReadError) (s t : S) → text ≡ name → LogLeadsBy does (StopsAmongNeeds (ImageIn text ∷ []) e) s t → LogLeadsBy does (StopsAmongNeeds (ImageIn name ∷ []) e) s t
+  image_stopped_as name text e s t is h = subst (λ (n : StoreName). LogLeadsBy does (StopsAmongNeeds (ImageIn n ∷ []) e) s t) is h
 
   pub keys_stopped : (script : Option (String Global)) (name : String Global) (text : StoreName) (e : ReadError) (s t : S) → script ≡ Some name → text ≡ string_bytes name
-      → RanBy does (StopsAmongNeeds (ScriptIn text ∷ []) e) s t → RanBy does (StopsAmongNeeds (script_needs script) e) s t
+      → LogLeadsBy does (StopsAmongNeeds (ScriptIn text ∷ []) e) s t → LogLeadsBy does (StopsAmongNeeds (script_needs script) e) s t
   keys_stopped script name text e s t is named h =
-      subst (λ (o : Option (String Global)). RanBy does (StopsAmongNeeds (script_needs o) e) s t) (sym is) (subst (λ (n : StoreName). RanBy does (StopsAmongNeeds (ScriptIn n ∷ []) e) s t) named h)
+      subst (λ (o : Option (String Global)). LogLeadsBy does (StopsAmongNeeds (script_needs o) e) s t) (sym is) (subst (λ (n : StoreName). LogLeadsBy does (StopsAmongNeeds (ScriptIn n ∷ []) e) s t) named h)
 
   pub forked_keys_stopped : (script : Option (String Global)) (name : String Global) (text : StoreName) (at : ℕ) (before : List Key) (e : ReadError) (s t : S) → script ≡ Some name → text ≡ string_bytes name
-      → RanBy does (StopsAmongNeeds (ForkedScriptIn text at before ∷ []) e) s t → RanBy does (StopsAmongNeeds (forked_script_needs at before script) e) s t
+      → LogLeadsBy does (StopsAmongNeeds (ForkedScriptIn text at before ∷ []) e) s t → LogLeadsBy does (StopsAmongNeeds (forked_script_needs at before script) e) s t
   forked_keys_stopped script name text at before e s t is named h =
-      subst (λ (o : Option (String Global)). RanBy does (StopsAmongNeeds (forked_script_needs at before o) e) s t) (sym is)
-      (subst (λ (n : StoreName). RanBy does (StopsAmongNeeds (ForkedScriptIn n at before ∷ []) e) s t) named h)
+      subst (λ (o : Option (String Global)). LogLeadsBy does (StopsAmongNeeds (forked_script_needs at before o) e) s t) (sym is)
+      (subst (λ (n : StoreName). LogLeadsBy does (StopsAmongNeeds (ForkedScriptIn n at before ∷ []) e) s t) named h)

@@ -16,7 +16,7 @@ use Rattle.cpm_script.specs.Fork.{forked_script, keys_before}
 use Rattle.cpm_script.specs.Script.{script}
 use Rattle.cpm_script.specs.declared.fault.LineFault.{LineFault}
 use Rattle.cpm_script.specs.declared.script.Key.{Key}
-use Rattle.cpm_store.specs.Files.{Files, Finds, StoreName}
+use Rattle.cpm_store.specs.Files.{StoreFiles, Finds, StoreName}
 use Rattle.cpm_batch.specs.declared.error.ReadError.{ReadError}
 use Rattle.cpm_batch.specs.declared.error.ReadError.TheVariants.{File, Image, Script, OutOfMemory}
 use Rattle.cpm_batch.specs.declared.input.Input.{Input}
@@ -32,38 +32,38 @@ pub record IsImage (bytes : List ℕ) (d : Disk) : Type 0 where
   pub whole : IsDisk d
 
 -- the file has the image of the disk
-pub record IsImageIn (files : Option Files) (name : StoreName) (d : Disk) : Type 0 where
+pub record IsImageIn (files : Option StoreFiles) (name : StoreName) (d : Disk) : Type 0 where
   pub bytes : List ℕ
   pub found : Finds files name bytes
   pub image : IsImage bytes d
 
 -- the file has a key script of these keys
-pub record IsScriptIn (files : Option Files) (name : StoreName) (keys : List Key) : Type 0 where
+pub record IsScriptIn (files : Option StoreFiles) (name : StoreName) (keys : List Key) : Type 0 where
   pub text : List ℕ
   pub found : Finds files name text
   pub read : script text ≡ Ok keys
 
--- the file has a key script with which a session that is forked at this count of steps, behind the keys that its parent had before, has these keys
-pub record IsForkedScriptIn (files : Option Files) (name : StoreName) (at : ℕ) (before keys : List Key) : Type 0 where
+-- the file has a key script with which a session that is forked at this count of steps, after the keys that its parent had before, has these keys
+pub record IsForkedScriptIn (files : Option StoreFiles) (name : StoreName) (at : ℕ) (before keys : List Key) : Type 0 where
   pub text : List ℕ
   pub found : Finds files name text
   pub read : forked_script at before text ≡ Ok keys
 
 -- the file has so many bytes, which no image has
-pub record IsNoImageIn (files : Option Files) (name : StoreName) (count : ℕ) : Type 0 where
+pub record IsNoImageIn (files : Option StoreFiles) (name : StoreName) (count : ℕ) : Type 0 where
   pub bytes : List ℕ
   pub found : Finds files name bytes
   pub size : count ≡ length bytes
   pub format : format_of_length (length bytes) ≡ None
 
 -- the file's first line with a fault has this number
-pub record IsNoScriptIn (files : Option Files) (name : StoreName) (line : ℕ) (fault : LineFault) : Type 0 where
+pub record IsNoScriptIn (files : Option StoreFiles) (name : StoreName) (line : ℕ) (fault : LineFault) : Type 0 where
   pub text : List ℕ
   pub found : Finds files name text
   pub read : script text ≡ Err (line, fault)
 
--- the same of a session that is forked at this count of steps, behind these keys
-pub record IsNoForkedScriptIn (files : Option Files) (name : StoreName) (at : ℕ) (before : List Key) (line : ℕ) (fault : LineFault) : Type 0 where
+-- the same of a session that is forked at this count of steps, after these keys
+pub record IsNoForkedScriptIn (files : Option StoreFiles) (name : StoreName) (at : ℕ) (before : List Key) (line : ℕ) (fault : LineFault) : Type 0 where
   pub text : List ℕ
   pub found : Finds files name text
   pub read : forked_script at before text ≡ Err (line, fault)
@@ -91,24 +91,24 @@ given i = record { session = i.session.now; start = start_view i.start; keys = i
 -- ---- for one that is opened
 
 -- the disks are the images in these files, in order
-abbrev pub AllImages : Option Files → List (String Global) → List Disk → Type 0
+abbrev pub AllImages : Option StoreFiles → List (String Global) → List Disk → Type 0
 AllImages files [] [] = ⊤
 AllImages files (name ∷ names) (d ∷ ds) = IsImageIn files (string_bytes name) d × AllImages files names ds
 AllImages files [] (d ∷ ds) = ⊥
 AllImages files (name ∷ names) [] = ⊥
 
 -- the keys are those of the script, if there is one
-abbrev pub HasKeys : Option Files → Option (String Global) → List Key → Type 0
+abbrev pub HasKeys : Option StoreFiles → Option (String Global) → List Key → Type 0
 HasKeys files None keys = keys ≡ []
 HasKeys files (Some name) keys = IsScriptIn files (string_bytes name) keys
 
-pub record IsOpenedInput (files : Option Files) (cpu : Cpu) (quota : ℕ) (names : List (String Global)) (i : SessionInput) : Type 0 where
+pub record IsOpenedInput (files : Option StoreFiles) (cpu : Cpu) (quota : ℕ) (names : List (String Global)) (i : SessionInput) : Type 0 where
   pub drives : List Disk
   pub start : i.start ≡ Opens cpu quota drives
   pub images : AllImages files names drives
   pub keys : HasKeys files i.session.keys i.keys
 
--- ---- for one that is forked, behind what was read for the sessions before it
+-- ---- for one that is forked, after what was read for the sessions before it
 
 abbrev pub IsOpened : StartInput → Type 0
 IsOpened (Opens cpu quota drives) = ⊤
@@ -124,12 +124,12 @@ pub record IsParent (before : List SessionInput) (name : StoreName) (place : ℕ
   pub there : slice_get before place ≡ Some parent
   pub opened : IsOpened parent.start
 
--- the keys are those before the fork, and behind them those of the script, if there is one
-abbrev pub HasForkedKeys : Option Files → Option (String Global) → (at : ℕ) → (before keys : List Key) → Type 0
+-- the keys are those before the fork, and after them those of the script, if there is one
+abbrev pub HasForkedKeys : Option StoreFiles → Option (String Global) → (at : ℕ) → (before keys : List Key) → Type 0
 HasForkedKeys files None at before keys = keys ≡ before
 HasForkedKeys files (Some name) at before keys = IsForkedScriptIn files (string_bytes name) at before keys
 
-pub record IsForkedInput (files : Option Files) (before : List SessionInput) (name : StoreName) (at : ℕ) (i : SessionInput) : Type 0 where
+pub record IsForkedInput (files : Option StoreFiles) (before : List SessionInput) (name : StoreName) (at : ℕ) (i : SessionInput) : Type 0 where
   pub place : ℕ
   pub parent : SessionInput
   pub found : IsParent before name place parent
@@ -139,27 +139,27 @@ pub record IsForkedInput (files : Option Files) (before : List SessionInput) (na
 -- ---- for each
 
 -- for a session that begins so
-abbrev pub HasInputOf : Option Files → (before : List SessionInput) → Origin → SessionInput → Type 0
+abbrev pub HasInputOf : Option StoreFiles → (before : List SessionInput) → Origin → SessionInput → Type 0
 HasInputOf files before (origin.Opened cpu quota drives) i = IsOpenedInput files cpu quota drives.items i
 HasInputOf files before (origin.Forked parent at) i = IsForkedInput files before (string_bytes parent) at i
 
-abbrev pub HasInput : Option Files → (before : List SessionInput) → SessionInput → Type 0
+abbrev pub HasInput : Option StoreFiles → (before : List SessionInput) → SessionInput → Type 0
 HasInput files before i = HasInputOf files before i.session.origin i
 
--- behind those before them
-abbrev pub AllInputs : Option Files → (before is : List SessionInput) → Type 0
+-- for each session in order, after what was read for those before it
+abbrev pub AllInputs : Option StoreFiles → (before is : List SessionInput) → Type 0
 AllInputs files before [] = ⊤
 AllInputs files before (i ∷ is) = HasInput files before i × AllInputs files (before ++ i ∷ []) is
 
 -- the system drive and the sessions of the configuration, in its order, with what the files hold
-pub record AreInputs (files : Option Files) (config : Config) (system : Disk) (inputs : List SessionInput) : Type 0 where
+pub record AreInputs (files : Option StoreFiles) (config : Config) (system : Disk) (inputs : List SessionInput) : Type 0 where
   pub drive : IsImageIn files (string_bytes config.system) system
   pub sessions : map (λ i. i.session) inputs ≡ config.sessions.items
   pub all : AllInputs files [] inputs
 
 -- ---- what a session needs, in the order in which it is read
 
--- a file that is to hold an image, or a key script; one of a session that is forked at a count of steps stands behind the keys that its parent had before
+-- a file that is to hold an image, or a key script; one of a session that is forked at a count of steps stands after the keys that its parent had before
 pub data Need : Type 0 where
   ImageIn : (name : StoreName) → Need
   ScriptIn : (name : StoreName) → Need
@@ -190,14 +190,14 @@ abbrev pub needs_from : (before : List SessionInput) → Option (String Global) 
 needs_from before keys (origin.Opened cpu quota drives) = image_needs drives.items ++ script_needs keys
 needs_from before keys (origin.Forked parent at) = forked_script_needs at (keys_before at (keys_of_session before (string_bytes parent))) keys
 
--- of a session, behind what was read for those before it
+-- of a session, after what was read for those before it
 abbrev pub needs_of : (before : List SessionInput) → SessionConfig → List Need
 needs_of before s = needs_from before s.keys s.origin
 
 -- ---- the first fault
 
 -- the file holds what is needed
-abbrev pub IsMet : Option Files → Need → Type 0
+abbrev pub IsMet : Option StoreFiles → Need → Type 0
 IsMet files (ImageIn name) = (d : Disk) × IsImageIn files name d
 IsMet files (ScriptIn name) = (keys : List Key) × IsScriptIn files name keys
 IsMet files (ForkedScriptIn name at before) = (keys : List Key) × IsForkedScriptIn files name at before keys
@@ -214,7 +214,7 @@ IsMissed name (File shown) = shown.bytes ≡ shown_of (chars name)
 IsMissed name _ = ⊥
 
 -- it doesn't, as the error says, with the file's name as it is shown; any file may be one that can't be read
-abbrev pub IsFault : Option Files → Need → ReadError → Type 0
+abbrev pub IsFault : Option StoreFiles → Need → ReadError → Type 0
 IsFault files need (File shown) = shown.bytes ≡ shown_of (chars (needed_name need))
 IsFault files (ImageIn name) (Image shown count) = (shown.bytes ≡ shown_of (chars name)) × IsNoImageIn files name count
 IsFault files (ScriptIn name) (Script shown line fault) = (shown.bytes ≡ shown_of (chars name)) × IsNoScriptIn files name line fault
@@ -223,30 +223,30 @@ IsFault files (ForkedScriptIn name at before) (Script shown line fault) =
 IsFault files need _ = ⊥
 
 -- the first of the needs that isn't met is refused so
-abbrev pub IsFirstFault : Option Files → List Need → ReadError → Type 0
+abbrev pub IsFirstFault : Option StoreFiles → List Need → ReadError → Type 0
 IsFirstFault files [] e = ⊥
 IsFirstFault files (need ∷ needs) e = IsFault files need e ⊎ (IsMet files need × IsFirstFault files needs e)
 
--- the first need that isn't met of sessions, behind what was read for those before them, is refused so
-abbrev pub AreFirstFault : Option Files → (before : List SessionInput) → List SessionConfig → ReadError → Type 0
+-- the first need that isn't met of sessions, after what was read for those before them, is refused so
+abbrev pub AreFirstFault : Option StoreFiles → (before : List SessionInput) → List SessionConfig → ReadError → Type 0
 AreFirstFault files before [] e = ⊥
 AreFirstFault files before (s ∷ ss) e =
     IsFirstFault files (needs_of before s) e ⊎ ((i : SessionInput) × (i.session ≡ s) × HasInput files before i × AreFirstFault files (before ++ i ∷ []) ss e)
 
 -- the first need of a configuration that isn't met is refused so: the image of the system drive, or what its sessions need
-abbrev pub IsInputFault : Option Files → Config → ReadError → Type 0
+abbrev pub IsInputFault : Option StoreFiles → Config → ReadError → Type 0
 IsInputFault files config e =
     IsFault files (ImageIn (string_bytes config.system)) e
     ⊎ (IsMet files (ImageIn (string_bytes config.system)) × AreFirstFault files [] config.sessions.items e)
 
--- how reading is refused: for the first fault, or for want of memory
-abbrev pub IsNeedRefusal : Option Files → List Need → ReadError → Type 0
+-- how reading is refused: for the first fault, or if out of memory
+abbrev pub IsNeedRefusal : Option StoreFiles → List Need → ReadError → Type 0
 IsNeedRefusal files needs e = (e ≡ OutOfMemory) ⊎ IsFirstFault files needs e
 
-abbrev pub IsSessionRefusal : Option Files → (before : List SessionInput) → List SessionConfig → ReadError → Type 0
+abbrev pub IsSessionRefusal : Option StoreFiles → (before : List SessionInput) → List SessionConfig → ReadError → Type 0
 IsSessionRefusal files before sessions e = (e ≡ OutOfMemory) ⊎ AreFirstFault files before sessions e
 
-abbrev pub IsReadRefusal : Option Files → Config → ReadError → Type 0
+abbrev pub IsReadRefusal : Option StoreFiles → Config → ReadError → Type 0
 IsReadRefusal files config e = (e ≡ OutOfMemory) ⊎ IsInputFault files config e
 
 -- the exit status of each

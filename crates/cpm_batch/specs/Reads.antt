@@ -14,56 +14,56 @@ use Rattle.cpm_script.specs.Fork.{forked_script, keys_before}
 use Rattle.cpm_script.specs.Script.{script}
 use Rattle.cpm_script.specs.declared.fault.LineFault.{LineFault}
 use Rattle.cpm_script.specs.declared.script.Key.{Key}
-use Rattle.cpm_store.specs.Files.{CountsFailure, Files, StoreName}
-use Rattle.cpm_store.specs.Log.{Access, AreNoWrites, Gave, Missed, RanBy, Then}
+use Rattle.cpm_store.specs.Files.{CountsFailure, StoreFiles, StoreName}
+use Rattle.cpm_store.specs.Log.{StoreAccess, AreNoWrites, Gave, Missed, LogLeadsBy, Then}
 use Rattle.cpm_batch.specs.Inputs.{Forks, ForkedScriptIn, ImageIn, IsFileFault, IsImage, IsParent, Need, Opens, ScriptIn, SessionInput, needed_name, needs_of}
 use Rattle.cpm_batch.specs.declared.error.ReadError.{ReadError}
 use Rattle.cpm_batch.specs.declared.error.ReadError.TheVariants.{File, Image, Script, OutOfMemory}
 
 -- one read, in which the file gave the image of the disk
-pub record IsImageRead (name : StoreName) (d : Disk) (log : List Access) : Type 0 where
+pub record IsImageRead (name : StoreName) (d : Disk) (log : List StoreAccess) : Type 0 where
   pub bytes : List ℕ
   pub image : IsImage bytes d
   pub calls : log ≡ Gave name bytes ∷ []
 
 -- one read, in which the file gave a key script of these keys
-pub record IsScriptRead (name : StoreName) (keys : List Key) (log : List Access) : Type 0 where
+pub record IsScriptRead (name : StoreName) (keys : List Key) (log : List StoreAccess) : Type 0 where
   pub text : List ℕ
   pub read : script text ≡ Ok keys
   pub calls : log ≡ Gave name text ∷ []
 
--- one read, in which the file gave a key script with which a session that is forked at this count of steps, behind the keys that its parent had before,
+-- one read, in which the file gave a key script with which a session that is forked at this count of steps, after the keys that its parent had before,
 -- has these keys
-pub record IsForkedScriptRead (name : StoreName) (at : ℕ) (before keys : List Key) (log : List Access) : Type 0 where
+pub record IsForkedScriptRead (name : StoreName) (at : ℕ) (before keys : List Key) (log : List StoreAccess) : Type 0 where
   pub text : List ℕ
   pub read : forked_script at before text ≡ Ok keys
   pub calls : log ≡ Gave name text ∷ []
 
 -- a read of each of these files in order, in which it gave the image of its disk
-abbrev pub AreImagesRead : List (String Global) → List Disk → List Access → Type 0
+abbrev pub AreImagesRead : List (String Global) → List Disk → List StoreAccess → Type 0
 AreImagesRead [] [] log = log ≡ []
 AreImagesRead (name ∷ names) (d ∷ ds) log = Then (IsImageRead (string_bytes name) d) (AreImagesRead names ds) log
 AreImagesRead [] (d ∷ ds) log = ⊥
 AreImagesRead (name ∷ names) [] log = ⊥
 
 -- a read of the script, if there is one, in which it gave the keys
-abbrev pub AreKeysRead : Option (String Global) → List Key → List Access → Type 0
+abbrev pub AreKeysRead : Option (String Global) → List Key → List StoreAccess → Type 0
 AreKeysRead None keys log = (keys ≡ []) × (log ≡ [])
 AreKeysRead (Some name) keys log = IsScriptRead (string_bytes name) keys log
 
--- a read of the script of a forked session, if there is one, in which it gave the keys behind those before the fork
-abbrev pub AreForkedKeysRead : Option (String Global) → (at : ℕ) → (before keys : List Key) → List Access → Type 0
+-- a read of the script of a forked session, if there is one, in which it gave the keys after those before the fork
+abbrev pub AreForkedKeysRead : Option (String Global) → (at : ℕ) → (before keys : List Key) → List StoreAccess → Type 0
 AreForkedKeysRead None at before keys log = (keys ≡ before) × (log ≡ [])
 AreForkedKeysRead (Some name) at before keys log = IsForkedScriptRead (string_bytes name) at before keys log
 
 -- the reads of a session that is opened: its drives, then its keys
-pub record IsOpenedRead (cpu : Cpu) (quota : ℕ) (names : List (String Global)) (i : SessionInput) (log : List Access) : Type 0 where
+pub record IsOpenedRead (cpu : Cpu) (quota : ℕ) (names : List (String Global)) (i : SessionInput) (log : List StoreAccess) : Type 0 where
   pub drives : List Disk
   pub start : i.start ≡ Opens cpu quota drives
   pub calls : Then (AreImagesRead names drives) (AreKeysRead i.session.keys i.keys) log
 
--- those of a session that is forked, behind what was read for the sessions before it: its keys
-pub record IsForkedRead (before : List SessionInput) (name : StoreName) (at : ℕ) (i : SessionInput) (log : List Access) : Type 0 where
+-- those of a session that is forked, after what was read for the sessions before it: its keys
+pub record IsForkedRead (before : List SessionInput) (name : StoreName) (at : ℕ) (i : SessionInput) (log : List StoreAccess) : Type 0 where
   pub place : ℕ
   pub parent : SessionInput
   pub found : IsParent before name place parent
@@ -71,52 +71,52 @@ pub record IsForkedRead (before : List SessionInput) (name : StoreName) (at : �
   pub calls : AreForkedKeysRead i.session.keys at (keys_before at parent.keys) i.keys log
 
 -- those of a session that begins so
-abbrev pub IsInputReadOf : (before : List SessionInput) → Origin → SessionInput → List Access → Type 0
+abbrev pub IsInputReadOf : (before : List SessionInput) → Origin → SessionInput → List StoreAccess → Type 0
 IsInputReadOf before (origin.Opened cpu quota drives) i log = IsOpenedRead cpu quota drives.items i log
 IsInputReadOf before (origin.Forked parent at) i log = IsForkedRead before (string_bytes parent) at i log
 
-abbrev pub IsInputRead : (before : List SessionInput) → SessionInput → List Access → Type 0
+abbrev pub IsInputRead : (before : List SessionInput) → SessionInput → List StoreAccess → Type 0
 IsInputRead before i log = IsInputReadOf before i.session.origin i log
 
--- those of each session in order, behind what was read for those before them
-abbrev pub AreInputsRead : (before is : List SessionInput) → List Access → Type 0
+-- those of each session in order, after what was read for those before them
+abbrev pub AreInputsRead : (before is : List SessionInput) → List StoreAccess → Type 0
 AreInputsRead before [] log = log ≡ []
 AreInputsRead before (i ∷ is) log = Then (IsInputRead before i) (AreInputsRead (before ++ i ∷ []) is) log
 
 -- those of a configuration: the system drive, then the sessions in its order
-pub record AreRead (config : Config) (system : Disk) (inputs : List SessionInput) (log : List Access) : Type 0 where
+pub record AreRead (config : Config) (system : Disk) (inputs : List SessionInput) (log : List StoreAccess) : Type 0 where
   pub sessions : map (λ i. i.session) inputs ≡ config.sessions.items
   pub calls : Then (IsImageRead (string_bytes config.system) system) (AreInputsRead [] inputs) log
 
 -- ---- where reading is given up
 
 -- one read, in which the file gave so many bytes, which no image has
-pub record IsNoImageRead (name : StoreName) (count : ℕ) (log : List Access) : Type 0 where
+pub record IsNoImageRead (name : StoreName) (count : ℕ) (log : List StoreAccess) : Type 0 where
   pub bytes : List ℕ
   pub size : count ≡ length bytes
   pub format : format_of_length (length bytes) ≡ None
   pub calls : log ≡ Gave name bytes ∷ []
 
 -- one read, in which the file gave a text whose first line with a fault has this number
-pub record IsNoScriptRead (name : StoreName) (line : ℕ) (fault : LineFault) (log : List Access) : Type 0 where
+pub record IsNoScriptRead (name : StoreName) (line : ℕ) (fault : LineFault) (log : List StoreAccess) : Type 0 where
   pub text : List ℕ
   pub read : script text ≡ Err (line, fault)
   pub calls : log ≡ Gave name text ∷ []
 
--- the same of a session that is forked at this count of steps, behind these keys
-pub record IsNoForkedScriptRead (name : StoreName) (at : ℕ) (before : List Key) (line : ℕ) (fault : LineFault) (log : List Access) : Type 0 where
+-- the same of a session that is forked at this count of steps, after these keys
+pub record IsNoForkedScriptRead (name : StoreName) (at : ℕ) (before : List Key) (line : ℕ) (fault : LineFault) (log : List StoreAccess) : Type 0 where
   pub text : List ℕ
   pub read : forked_script at before text ≡ Err (line, fault)
   pub calls : log ≡ Gave name text ∷ []
 
 -- one read, in which the file held what is needed
-abbrev pub IsNeedRead : Need → List Access → Type 0
+abbrev pub IsNeedRead : Need → List StoreAccess → Type 0
 IsNeedRead (ImageIn name) log = (d : Disk) × IsImageRead name d log
 IsNeedRead (ScriptIn name) log = (keys : List Key) × IsScriptRead name keys log
 IsNeedRead (ForkedScriptIn name at before) log = (keys : List Key) × IsForkedScriptRead name at before keys log
 
 -- one read, which failed, or in which the file didn't hold it, as the error says
-abbrev pub IsFaultRead : Need → ReadError → List Access → Type 0
+abbrev pub IsFaultRead : Need → ReadError → List StoreAccess → Type 0
 IsFaultRead need (File shown) log = (shown.bytes ≡ shown_of (chars (needed_name need))) × (log ≡ Missed (needed_name need) ∷ [])
 IsFaultRead (ImageIn name) (Image shown count) log = (shown.bytes ≡ shown_of (chars name)) × IsNoImageRead name count log
 IsFaultRead (ScriptIn name) (Script shown line fault) log = (shown.bytes ≡ shown_of (chars name)) × IsNoScriptRead name line fault log
@@ -124,45 +124,45 @@ IsFaultRead (ForkedScriptIn name at before) (Script shown line fault) log =
     (shown.bytes ≡ shown_of (chars name)) × IsNoForkedScriptRead name at before line fault log
 IsFaultRead need _ log = ⊥
 
--- a read of each of the needs in order, up to the first that isn't met, and none behind it
-abbrev pub StopsAtFault : List Need → ReadError → List Access → Type 0
+-- a read of each of the needs in order, up to the first that isn't met, and none after it
+abbrev pub StopsAtFault : List Need → ReadError → List StoreAccess → Type 0
 StopsAtFault [] e log = ⊥
 StopsAtFault (need ∷ needs) e log = IsFaultRead need e log ⊎ Then (IsNeedRead need) (StopsAtFault needs e) log
 
--- the reads of sessions in order, each behind what was read for those before it, up to the first need that isn't met, and none behind it
-abbrev pub StopsAtSession : (before : List SessionInput) → List SessionConfig → ReadError → List Access → Type 0
+-- the reads of sessions in order, each after what was read for those before it, up to the first need that isn't met, and none after it
+abbrev pub StopsAtSession : (before : List SessionInput) → List SessionConfig → ReadError → List StoreAccess → Type 0
 StopsAtSession before [] e log = ⊥
 StopsAtSession before (s ∷ ss) e log =
     StopsAtFault (needs_of before s) e log
     ⊎ ((i : SessionInput) × (i.session ≡ s) × Then (IsInputRead before i) (StopsAtSession (before ++ i ∷ []) ss e) log)
 
--- the reads of a configuration, the system drive and then its sessions, up to the first need that isn't met, and none behind it
-abbrev pub StopsAtInput : Config → ReadError → List Access → Type 0
+-- the reads of a configuration, the system drive and then its sessions, up to the first need that isn't met, and none after it
+abbrev pub StopsAtInput : Config → ReadError → List StoreAccess → Type 0
 StopsAtInput config e log =
     IsFaultRead (ImageIn (string_bytes config.system)) e log
     ⊎ Then (IsNeedRead (ImageIn (string_bytes config.system))) (StopsAtSession [] config.sessions.items e) log
 
--- the calls of reading that is refused: for want of memory none that writes, else those up to the first fault
-abbrev pub StopsAmongNeeds : List Need → ReadError → List Access → Type 0
+-- the calls of reading that is refused: if out of memory, none that writes; else those up to the first fault
+abbrev pub StopsAmongNeeds : List Need → ReadError → List StoreAccess → Type 0
 StopsAmongNeeds needs e log = ((e ≡ OutOfMemory) × AreNoWrites log) ⊎ StopsAtFault needs e log
 
-abbrev pub StopsAmongSessions : (before : List SessionInput) → List SessionConfig → ReadError → List Access → Type 0
+abbrev pub StopsAmongSessions : (before : List SessionInput) → List SessionConfig → ReadError → List StoreAccess → Type 0
 StopsAmongSessions before sessions e log = ((e ≡ OutOfMemory) × AreNoWrites log) ⊎ StopsAtSession before sessions e log
 
-abbrev pub StopsReading : Config → ReadError → List Access → Type 0
+abbrev pub StopsReading : Config → ReadError → List StoreAccess → Type 0
 StopsReading config e log = ((e ≡ OutOfMemory) × AreNoWrites log) ⊎ StopsAtInput config e log
 
 -- ---- what reading leaves of the store
 
 -- a store that was only read: its files hold what they held, nothing was written, and a failure is counted where a file couldn't be read
-pub record OnlyRead {S X : Type 0} (does : S → Access → S → Type 0) (files : S → Option Files) (failed : S → ℕ)
+pub record OnlyRead {S X : Type 0} (does : S → StoreAccess → S → Type 0) (files : S → Option StoreFiles) (failed : S → ℕ)
     (result : Result X ReadError) (old new : S) : Type 0 where
   -- where a file couldn't be read, a failure was counted
   pub device : IfErr result (λ e. IsFileFault e → CountsFailure (failed old) (failed new))
   -- the files hold what they held, where the store tells it
   pub same : files new ≡ files old
   -- none of the calls was a write
-  pub unwritten : RanBy does AreNoWrites old new
+  pub unwritten : LogLeadsBy does AreNoWrites old new
   -- where all was read, no failure was counted
   pub uncounted : OnOk result (failed new ≡ failed old)
   -- nor was one where memory was refused

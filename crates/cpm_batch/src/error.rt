@@ -8,7 +8,7 @@ use cpm_script::LineFault;
 use std::alloc::{AllocError, AllocFailed};
 use thiserror::Error;
 
-/// Why what the sessions of a configuration need can't be read. The text begins with the code, but for want of memory.
+/// Why what the sessions of a configuration need can't be read. The text begins with the code, unless it is out of memory.
 #[derive(Clone, Copy, Debug, PartialEq, Eq, Drop, Error)]
 pub enum ReadError {
     /// A file can't be read, or has more than 16,777,216 bytes.

@@ -2,7 +2,7 @@
 ghost use Rattle.std.specs.Prelude.{◌≡◌, ◌<◌, ◌≤◌, ◌∷◌, [], IfErr, IfOk, IfSome, is_some, length, map, true};
 ghost use Rattle.cpm_config.specs.Rules.{parent_in, session_view};
 ghost use Rattle.cpm_script.specs.Fork.{keys_before};
-ghost use Rattle.cpm_store.specs.Log.{RanBy};
+ghost use Rattle.cpm_store.specs.Log.{LogLeadsBy};
 ghost use Rattle.cpm_batch.specs.Inputs.{AllInputs, ForkedScriptIn, HasForkedKeys, IsForkedInput, IsForkedScriptIn, IsNeedRefusal};
 ghost use Rattle.cpm_batch.specs.Inputs.{forked_script_needs, given, keys_of_session, session_place};
 ghost use Rattle.cpm_batch.specs.Reads.{AreForkedKeysRead, IsForkedRead, IsForkedScriptRead, OnlyRead, StopsAmongNeeds};
@@ -36,9 +36,9 @@ fn read_forked_script<S: Store>(
 ) -> Result<Vec<Key>, ReadError>
     requires { length before.items ≤ most_keys }
     ensures keys { IfOk result (λ v. IsForkedScriptIn (S.files store.old) name.now at before.items v.items) }
-    ensures log { IfOk result (λ v. RanBy S.does (IsForkedScriptRead name.now at before.items v.items) store.old store.new) }
+    ensures log { IfOk result (λ v. LogLeadsBy S.does (IsForkedScriptRead name.now at before.items v.items) store.old store.new) }
     ensures refusal { IfErr result (IsNeedRefusal (S.files store.old) (ForkedScriptIn name.now at before.items ∷ [])) }
-    ensures refused_log { IfErr result (λ e. RanBy S.does (StopsAmongNeeds (ForkedScriptIn name.now at before.items ∷ []) e) store.old store.new) }
+    ensures refused_log { IfErr result (λ e. LogLeadsBy S.does (StopsAmongNeeds (ForkedScriptIn name.now at before.items ∷ []) e) store.old store.new) }
     ensures store { OnlyRead S.does S.files S.failed result store.old store.new }
 {
     let text = read_bytes(alloc, store, name)?;
@@ -63,9 +63,9 @@ fn read_forked_keys_of<S: Store>(
 ) -> Result<Vec<Key>, ReadError>
     requires { length before.items ≤ most_keys }
     ensures keys { IfOk result (λ v. HasForkedKeys (S.files store.old) name.now at before.items v.items) }
-    ensures log { IfOk result (λ v. RanBy S.does (AreForkedKeysRead name.now at before.items v.items) store.old store.new) }
+    ensures log { IfOk result (λ v. LogLeadsBy S.does (AreForkedKeysRead name.now at before.items v.items) store.old store.new) }
     ensures refusal { IfErr result (IsNeedRefusal (S.files store.old) (forked_script_needs at before.items name.now)) }
-    ensures refused_log { IfErr result (λ e. RanBy S.does (StopsAmongNeeds (forked_script_needs at before.items name.now) e) store.old store.new) }
+    ensures refused_log { IfErr result (λ e. LogLeadsBy S.does (StopsAmongNeeds (forked_script_needs at before.items name.now) e) store.old store.new) }
     ensures store { OnlyRead S.does S.files S.failed result store.old store.new }
 {
     match name {
@@ -86,13 +86,13 @@ pub(crate) fn read_forked<'a, S: Store>(
     requires before { AllInputs (S.files store.old) [] (map given before.now) }
     requires parent { is_some (parent_in (map (λ i. session_view i.session) (map given before.now)) name.now) ≡ true }
     ensures input { IfOk result (λ i. IsForkedInput (S.files store.old) (map given before.now) name.now at (given i)) }
-    ensures log { IfOk result (λ i. RanBy S.does (IsForkedRead (map given before.now) name.now at (given i)) store.old store.new) }
+    ensures log { IfOk result (λ i. LogLeadsBy S.does (IsForkedRead (map given before.now) name.now at (given i)) store.old store.new) }
     ensures session { IfOk result (λ i. i.session.now ≡ session.entry.now) }
     ensures refusal { let first = keys_before at (keys_of_session (map given before.now) name.now) in
         IfErr result (IsNeedRefusal (S.files store.old) (forked_script_needs at first session.entry.now.keys)) }
     ensures refused_log { let first = keys_before at (keys_of_session (map given before.now) name.now) in
         let needs = forked_script_needs at first session.entry.now.keys in
-        IfErr result (λ e. RanBy S.does (StopsAmongNeeds needs e) store.old store.new) }
+        IfErr result (λ e. LogLeadsBy S.does (StopsAmongNeeds needs e) store.old store.new) }
     ensures store { OnlyRead S.does S.files S.failed result store.old store.new }
 {
     let Some(parent) = session_place(before, name) else {

@@ -2,7 +2,7 @@
 ghost use Rattle.std.specs.Prelude.{◌≡◌, ◌∷◌, ◌++◌, ◌⊎◌, [], IfErr, IfOk, None, OnErr, map};
 ghost use Rattle.cpm_config.specs.Rules.{config_view, fork_field_fault, forks_fault, session_view};
 ghost use Rattle.cpm_store.specs.Files.{Finds};
-ghost use Rattle.cpm_store.specs.Log.{Gave, Missed, RanBy};
+ghost use Rattle.cpm_store.specs.Log.{Gave, Missed, LogLeadsBy};
 ghost use Rattle.cpm_batch.specs.Inputs.{AllImages, AllInputs, AreInputs, HasInput, HasKeys, ImageIn, IsImageIn, IsMissed, IsNeedRefusal};
 ghost use Rattle.cpm_batch.specs.Inputs.{IsOpenedInput, IsReadRefusal, IsScriptIn, IsSessionRefusal, ScriptIn, given, image_needs, needs_of, script_needs};
 ghost use Rattle.cpm_batch.specs.Reads.{AreImagesRead, AreInputsRead, AreKeysRead, AreRead, IsImageRead, IsInputRead, IsOpenedRead};
@@ -76,9 +76,9 @@ pub(crate) fn read_bytes<S: Store>(
 /// The image in a file.
 fn read_image<S: Store>(alloc: Global, store: &mut S, name: &str) -> Result<Image, ReadError>
     ensures image { IfOk result (IsImageIn (S.files store.old) name.now) }
-    ensures log { IfOk result (λ d. RanBy S.does (IsImageRead name.now d) store.old store.new) }
+    ensures log { IfOk result (λ d. LogLeadsBy S.does (IsImageRead name.now d) store.old store.new) }
     ensures refusal { IfErr result (IsNeedRefusal (S.files store.old) (ImageIn name.now ∷ [])) }
-    ensures refused_log { IfErr result (λ e. RanBy S.does (StopsAmongNeeds (ImageIn name.now ∷ []) e) store.old store.new) }
+    ensures refused_log { IfErr result (λ e. LogLeadsBy S.does (StopsAmongNeeds (ImageIn name.now ∷ []) e) store.old store.new) }
     ensures store { OnlyRead S.does S.files S.failed result store.old store.new }
 {
     let bytes = read_bytes(alloc, store, name)?;
@@ -98,9 +98,9 @@ fn read_images<S: Store>(
     names: &[String],
 ) -> Result<Vec<Image>, ReadError>
     ensures images { IfOk result (λ v. AllImages (S.files store.old) names.now v.items) }
-    ensures log { IfOk result (λ v. RanBy S.does (AreImagesRead names.now v.items) store.old store.new) }
+    ensures log { IfOk result (λ v. LogLeadsBy S.does (AreImagesRead names.now v.items) store.old store.new) }
     ensures refusal { IfErr result (IsNeedRefusal (S.files store.old) (image_needs names.now)) }
-    ensures refused_log { IfErr result (λ e. RanBy S.does (StopsAmongNeeds (image_needs names.now) e) store.old store.new) }
+    ensures refused_log { IfErr result (λ e. LogLeadsBy S.does (StopsAmongNeeds (image_needs names.now) e) store.old store.new) }
     ensures store { OnlyRead S.does S.files S.failed result store.old store.new }
 {
     let mut images = Vec::new(alloc);
@@ -113,9 +113,9 @@ fn read_images<S: Store>(
 /// The keys of the script in a file.
 fn read_script<S: Store>(alloc: Global, store: &mut S, name: &str) -> Result<Vec<Key>, ReadError>
     ensures keys { IfOk result (λ v. IsScriptIn (S.files store.old) name.now v.items) }
-    ensures log { IfOk result (λ v. RanBy S.does (IsScriptRead name.now v.items) store.old store.new) }
+    ensures log { IfOk result (λ v. LogLeadsBy S.does (IsScriptRead name.now v.items) store.old store.new) }
     ensures refusal { IfErr result (IsNeedRefusal (S.files store.old) (ScriptIn name.now ∷ [])) }
-    ensures refused_log { IfErr result (λ e. RanBy S.does (StopsAmongNeeds (ScriptIn name.now ∷ []) e) store.old store.new) }
+    ensures refused_log { IfErr result (λ e. LogLeadsBy S.does (StopsAmongNeeds (ScriptIn name.now ∷ []) e) store.old store.new) }
     ensures store { OnlyRead S.does S.files S.failed result store.old store.new }
 {
     let text = read_bytes(alloc, store, name)?;
@@ -137,9 +137,9 @@ fn read_keys_of<S: Store>(
     name: &Option<String>,
 ) -> Result<Vec<Key>, ReadError>
     ensures keys { IfOk result (λ v. HasKeys (S.files store.old) name.now v.items) }
-    ensures log { IfOk result (λ v. RanBy S.does (AreKeysRead name.now v.items) store.old store.new) }
+    ensures log { IfOk result (λ v. LogLeadsBy S.does (AreKeysRead name.now v.items) store.old store.new) }
     ensures refusal { IfErr result (IsNeedRefusal (S.files store.old) (script_needs name.now)) }
-    ensures refused_log { IfErr result (λ e. RanBy S.does (StopsAmongNeeds (script_needs name.now) e) store.old store.new) }
+    ensures refused_log { IfErr result (λ e. LogLeadsBy S.does (StopsAmongNeeds (script_needs name.now) e) store.old store.new) }
     ensures store { OnlyRead S.does S.files S.failed result store.old store.new }
 {
     match name {
@@ -158,11 +158,11 @@ fn read_opened<'a, S: Store>(
     names: &[String],
 ) -> Result<Input<'a>, ReadError>
     ensures input { IfOk result (λ i. IsOpenedInput (S.files store.old) cpu quota names.now (given i)) }
-    ensures log { IfOk result (λ i. RanBy S.does (IsOpenedRead cpu quota names.now (given i)) store.old store.new) }
+    ensures log { IfOk result (λ i. LogLeadsBy S.does (IsOpenedRead cpu quota names.now (given i)) store.old store.new) }
     ensures session { IfOk result (λ i. i.session.now ≡ session.entry.now) }
     ensures refusal { IfErr result (IsNeedRefusal (S.files store.old) (image_needs names.now ++ script_needs session.entry.now.keys)) }
     ensures refused_log { let needs = image_needs names.now ++ script_needs session.entry.now.keys in
-        IfErr result (λ e. RanBy S.does (StopsAmongNeeds needs e) store.old store.new) }
+        IfErr result (λ e. LogLeadsBy S.does (StopsAmongNeeds needs e) store.old store.new) }
     ensures store { OnlyRead S.does S.files S.failed result store.old store.new }
 {
     let drives = read_images(alloc, store, names)?;
@@ -175,7 +175,7 @@ fn read_opened<'a, S: Store>(
     })
 }
 
-/// What a session needs, behind what was read for those before it.
+/// What a session needs, after what was read for those before it.
 fn read_session<'a, S: Store>(
     alloc: Global,
     store: &mut S,
@@ -185,10 +185,10 @@ fn read_session<'a, S: Store>(
     requires before { AllInputs (S.files store.old) [] (map given before.now) }
     requires fork { fork_field_fault (map (λ i. session_view i.session) (map given before.now)) (session_view session.now) ≡ None }
     ensures input { IfOk result (λ i. HasInput (S.files store.old) (map given before.now) (given i)) }
-    ensures log { IfOk result (λ i. RanBy S.does (IsInputRead (map given before.now) (given i)) store.old store.new) }
+    ensures log { IfOk result (λ i. LogLeadsBy S.does (IsInputRead (map given before.now) (given i)) store.old store.new) }
     ensures session { IfOk result (λ i. i.session.now ≡ session.entry.now) }
     ensures refusal { IfErr result (IsNeedRefusal (S.files store.old) (needs_of (map given before.now) session.entry.now)) }
-    ensures refused_log { IfErr result (λ e. RanBy S.does (StopsAmongNeeds (needs_of (map given before.now) session.entry.now) e) store.old store.new) }
+    ensures refused_log { IfErr result (λ e. LogLeadsBy S.does (StopsAmongNeeds (needs_of (map given before.now) session.entry.now) e) store.old store.new) }
     ensures store { OnlyRead S.does S.files S.failed result store.old store.new }
 {
     match &session.origin {
@@ -209,10 +209,10 @@ fn read_sessions<'a, S: Store>(
 ) -> Result<Vec<Input<'a>>, ReadError>
     requires forks { forks_fault 1 [] (map session_view sessions.now) ≡ None }
     ensures inputs { IfOk result (λ v. AllInputs (S.files store.old) [] (map given v.items)) }
-    ensures log { IfOk result (λ v. RanBy S.does (AreInputsRead [] (map given v.items)) store.old store.new) }
+    ensures log { IfOk result (λ v. LogLeadsBy S.does (AreInputsRead [] (map given v.items)) store.old store.new) }
     ensures sessions { IfOk result (λ v. map (λ i. i.session) (map given v.items) ≡ sessions.entry.now) }
     ensures refusal { IfErr result (IsSessionRefusal (S.files store.old) [] sessions.entry.now) }
-    ensures refused_log { IfErr result (λ e. RanBy S.does (StopsAmongSessions [] sessions.entry.now e) store.old store.new) }
+    ensures refused_log { IfErr result (λ e. LogLeadsBy S.does (StopsAmongSessions [] sessions.entry.now e) store.old store.new) }
     ensures store { OnlyRead S.does S.files S.failed result store.old store.new }
 {
     let mut inputs = Vec::new(alloc);
@@ -237,10 +237,10 @@ pub fn read_inputs<'a, S: Store>(
     requires forks { forks_fault 1 [] (config_view config.now).sessions ≡ None }
     ensures read { IfOk result (λ i. AreInputs (S.files store.old) config.entry.now i.system (map given i.sessions.items)) }
     // The calls were these reads and no others, of whichever store.
-    ensures log { IfOk result (λ i. RanBy S.does (AreRead config.entry.now i.system (map given i.sessions.items)) store.old store.new) }
+    ensures log { IfOk result (λ i. LogLeadsBy S.does (AreRead config.entry.now i.system (map given i.sessions.items)) store.old store.new) }
     ensures refusal { IfErr result (IsReadRefusal (S.files store.old) config.entry.now) }
     // It was refused at the first fault: no read but those before it and its own, of whichever store.
-    ensures refused_log { IfErr result (λ e. RanBy S.does (StopsReading config.entry.now e) store.old store.new) }
+    ensures refused_log { IfErr result (λ e. LogLeadsBy S.does (StopsReading config.entry.now e) store.old store.new) }
     ensures store { OnlyRead S.does S.files S.failed result store.old store.new }
 {
     let system = read_image(alloc, store, config.system.as_str())?;

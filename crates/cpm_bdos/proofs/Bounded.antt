@@ -7,8 +7,8 @@ use Rattle.cpm_geom.specs.Geometry.{dpb_of}
 use Rattle.cpm_geom.specs.declared.format.Format.{Format}
 use Rattle.cpm_geom.specs.declared.format.Format.TheVariants.{Ibm3740, Large}
 use Rattle.cpm_console.specs.Terminal.{Terminal, expanded, printed, key_read, said, IsWithin}
-use Rattle.cpm_console.specs.Draft.{Draft}
-use Rattle.cpm_console.specs.Editing.{Edited, begun_line, edited, key_into_line}
+use Rattle.cpm_console.specs.EditedLine.{EditedLine}
+use Rattle.cpm_console.specs.Editing.{EditResult, begun_line, edited, key_into_line}
 use Rattle.cpm_console.specs.declared.line.LineState.{LineState}
 use Rattle.cpm_console.specs.declared.line.LineState.TheVariants as line
 use Rattle.cpm_console.proofs.Growth.{IsWithin-said, IsWithin-shown, IsWithin-same, length-expanded, IsWithin-key_into_line, length-key_into_line}
@@ -17,7 +17,7 @@ use Rattle.cpm_memory.proofs.Runs.{touched_of-run, limit-run}
 use Rattle.cpm_bdos.proofs.Limits.{limit-rebooted, limit-line_ended}
 use Rattle.cpm_bdos.specs.Registers.{pair_de}
 use Rattle.cpm_bdos.specs.Function.{function_of, bios_call_of}
-use Rattle.cpm_bdos.specs.Did.{Did, did, answered, rebooted}
+use Rattle.cpm_bdos.specs.StepResult.{StepResult, did, answered, rebooted}
 use Rattle.cpm_bdos.specs.Keys.{first_key, took_key}
 use Rattle.cpm_bdos.specs.Hold.{is_stop, held_at, resumed, release}
 use Rattle.cpm_bdos.specs.Output.{wrote, list_byte, showed, write_byte, write_text}
@@ -50,12 +50,12 @@ use Rattle.cpm_bdos.specs.declared.session.Mode.{Mode}
 use Rattle.cpm_bdos.specs.declared.session.Mode.TheVariants.{Program, Text, Line, Hold, Fault as FaultMode, Command}
 use Rattle.cpm_bdos.specs.declared.session.Went.TheVariants.{GoesOn}
 
-bounded_if : (b : Bool) (s : Session) (m : Contents) (x y : Did) → IsBounded s m x → IsBounded s m y → IsBounded s m (if b then x else y)
+bounded_if : (b : Bool) (s : Session) (m : Contents) (x y : StepResult) → IsBounded s m x → IsBounded s m y → IsBounded s m (if b then x else y)
 bounded_if true s m x y hx hy = hx
 bounded_if false s m x y hx hy = hy
 
 -- a step that leaves the memory
-bounded_kept : (s : Session) (m : Contents) (d : Did) → d.memory ≡ m → IsWithin 4096 s.console d.session.console → IsBounded s m d
+bounded_kept : (s : Session) (m : Contents) (d : StepResult) → d.memory ≡ m → IsWithin 4096 s.console d.session.console → IsBounded s m d
 bounded_kept s m d same output = rw same (record { pages = omega arith; limit = refl; output = output })
 
 -- ---- what is put on the devices
@@ -159,7 +159,7 @@ bounded_line_ended s t m few output =
 
 -- a line's reader that is bounded, from a session whose line was edited
 abbrev pub ReaderIsBounded : LineReader → Type 0
-ReaderIsBounded goes_on = (p : LineState) (s : Session) (m : Contents) (e : Edited) → IsWithin 4096 s.console e.terminal → length e.line.characters ≤ 256 → IsBounded s m (goes_on p (with_edited s e) m)
+ReaderIsBounded goes_on = (p : LineState) (s : Session) (m : Contents) (e : EditResult) → IsWithin 4096 s.console e.terminal → length e.line.characters ≤ 256 → IsBounded s m (goes_on p (with_edited s e) m)
 
 bounded_after_key : ReaderIsBounded after_key
 bounded_after_key line.GoesOn s m e output few = bounded_kept s m _ refl output
@@ -167,11 +167,11 @@ bounded_after_key line.Ended s m e output few = bounded_line_ended s (with_edite
 bounded_after_key line.Interrupted s m e output few = bounded_rebooted s (with_edited s e) m m (omega arith) refl output
 
 -- a line whose numbers are bytes
-pub record IsFitLine (l : Draft) : Type 0 where
+pub record IsFitLine (l : EditedLine) : Type 0 where
   pub start : l.start ≤ 255
   pub characters : length l.characters ≤ 255
 
-bounded_take_key : (goes_on : LineReader) → ReaderIsBounded goes_on → (k : Option ℕ) (l : Draft) (s : Session) (m : Contents) → IsFitLine l → IsBounded s m (take_key goes_on k l s m)
+bounded_take_key : (goes_on : LineReader) → ReaderIsBounded goes_on → (k : Option ℕ) (l : EditedLine) (s : Session) (m : Contents) → IsFitLine l → IsBounded s m (take_key goes_on k l s m)
 bounded_take_key goes_on bounded None l s m fit = bounded_kept s m _ refl (IsWithin-same 4096 s.console)
 bounded_take_key goes_on bounded (Some k) l s m fit =
     let e = key_into_line (key_read s.console) l k in
@@ -179,11 +179,11 @@ bounded_take_key goes_on bounded (Some k) l s m fit =
     let more = length-key_into_line (key_read s.console) l k in
     bounded e.progress s m e (record { screen = omega (arith, shows.screen); printer = omega (arith, shows.printer) }) (omega (arith, more, fit.characters))
 
-bounded_no_more : (goes_on : LineReader) → ReaderIsBounded goes_on → (l : Draft) (s : Session) (m : Contents) → IsFitLine l → IsBounded s m (no_more goes_on l s m)
+bounded_no_more : (goes_on : LineReader) → ReaderIsBounded goes_on → (l : EditedLine) (s : Session) (m : Contents) → IsFitLine l → IsBounded s m (no_more goes_on l s m)
 bounded_no_more goes_on bounded l s m fit =
     bounded line.Ended s m (edited (said s.console (13 ∷ [])) l line.Ended) (IsWithin-said 4096 s.console (13 ∷ []) (omega arith)) (omega (arith, fit.characters))
 
-pub bounded_line_step : (goes_on : LineReader) → ReaderIsBounded goes_on → (l : Draft) (s : Session) (m : Contents) → IsFitLine l → IsBounded s m (line_step goes_on l s m)
+pub bounded_line_step : (goes_on : LineReader) → ReaderIsBounded goes_on → (l : EditedLine) (s : Session) (m : Contents) → IsFitLine l → IsBounded s m (line_step goes_on l s m)
 bounded_line_step goes_on bounded l s m fit =
     bounded_if (is_open l) s m _ _ (bounded_take_key goes_on bounded (first_key s) l s m fit) (bounded_no_more goes_on bounded l s m fit)
 
@@ -195,9 +195,9 @@ bounded_by_answer (Err which) drive s m n disks pages limit =
     let output = within_fault (with_disks s disks) which drive in
     record { pages = pages; limit = limit; output = record { screen = output.screen; printer = output.printer } }
 
-bounded_file_function : (f : FileFunction) (system : Disk) (s : Session) (m : Contents) → IsFit s → IsBounded s m (call_file_function f system s m)
+bounded_call_file_function : (f : FileFunction) (system : Disk) (s : Session) (m : Contents) → IsFit s → IsBounded s m (call_file_function f system s m)
 unfolding call_file_function
-bounded_file_function f system s m fit =
+bounded_call_file_function f system s m fit =
     let c = call_of f system s m in
     let at = pair_de s.regs in
     let old = run_at m at fcb_size in
@@ -265,7 +265,7 @@ bounded_translate s m = bounded_kept s m _ refl (IsWithin-same 4096 s.console)
 -- ---- steps
 
 -- a call that leaves the memory and the console
-bounded_quiet : (s : Session) (m : Contents) (d : Did) → d.memory ≡ m → d.session.console ≡ s.console → IsBounded s m d
+bounded_quiet : (s : Session) (m : Contents) (d : StepResult) → d.memory ≡ m → d.session.console ≡ s.console → IsBounded s m d
 bounded_quiet s m d same quiet = bounded_kept s m d same (rw quiet (IsWithin-same 4096 s.console))
 
 bounded_called : (f : Function) (system : Disk) (s : Session) (m : Contents) → IsFit s → IsBounded s m (function_called f system s m)
@@ -289,7 +289,7 @@ bounded_called ConsoleStatus system s m fit = bounded_quiet s m _ refl refl
 bounded_called Version system s m fit = bounded_quiet s m _ refl refl
 bounded_called ResetDisks system s m fit = bounded_quiet s m _ refl refl
 bounded_called SelectDisk system s m fit = bounded_select_disk system s m
-bounded_called (File f) system s m fit = bounded_file_function f system s m fit
+bounded_called (File f) system s m fit = bounded_call_file_function f system s m fit
 bounded_called LoginVector system s m fit = bounded_quiet s m _ refl refl
 bounded_called CurrentDisk system s m fit = bounded_quiet s m _ refl refl
 bounded_called SetBuffer system s m fit = bounded_quiet s m _ refl refl

@@ -4,7 +4,7 @@ use Rattle.std.specs.Prelude.{if◌then◌else◌, ◌==◌, ◌-◌, ◌%◌}
 use Rattle.std.proofs.lemmas.List.{length-replicate}
 use Rattle.cpm_geom.specs.Disk.{Disk}
 use Rattle.cpm_console.specs.Terminal.{Terminal, said, key_read, expanded}
-use Rattle.cpm_console.specs.Draft.{Draft}
+use Rattle.cpm_console.specs.EditedLine.{EditedLine}
 use Rattle.cpm_console.specs.Editing.{begun_line, key_into_line}
 use Rattle.cpm_console.specs.declared.line.LineState.{LineState}
 use Rattle.cpm_console.specs.declared.line.LineState.TheVariants as line
@@ -16,7 +16,7 @@ use Rattle.cpm_drives.specs.Functions.{file_function_bytes}
 use Rattle.cpm_drives.specs.Selecting.{select}
 use Rattle.cpm_bdos.specs.Registers.{pair_de}
 use Rattle.cpm_bdos.specs.Function.{function_of}
-use Rattle.cpm_bdos.specs.Did.{Did, did, answered}
+use Rattle.cpm_bdos.specs.StepResult.{StepResult, did, answered}
 use Rattle.cpm_bdos.specs.Keys.{first_key}
 use Rattle.cpm_bdos.specs.Hold.{is_stop, held_at}
 use Rattle.cpm_bdos.specs.Output.{wrote, write_byte, write_text}
@@ -56,14 +56,14 @@ wrote_grows t byte same =
 
 -- ---- steps that are never held
 
-abbrev Free : Did → Type 0
+abbrev Free : StepResult → Type 0
 Free d = is_hold d.session.mode ≡ false
 
-free_if : (b : Bool) (x y : Did) → Free x → Free y → Free (if b then x else y)
+free_if : (b : Bool) (x y : StepResult) → Free x → Free y → Free (if b then x else y)
 free_if true x y hx hy = hx
 free_if false x y hx hy = hy
 
-free_unless : (b : Bool) (x y : Did) → b ≡ false → Free y → Free (if b then x else y)
+free_unless : (b : Bool) (x y : StepResult) → b ≡ false → Free y → Free (if b then x else y)
 free_unless true x y h hy = absurd cc
 free_unless false x y h hy = hy
 
@@ -80,12 +80,12 @@ free_after_key line.GoesOn s m h = refl
 free_after_key line.Ended s m h = refl
 free_after_key line.Interrupted s m h = refl
 
-free_take_key : (goes_on : LineReader) → ReaderIsFree goes_on → (k : Option ℕ) (draft : Draft) (s : Session) (m : Contents) → is_hold s.mode ≡ false → Free (take_key goes_on k draft s m)
+free_take_key : (goes_on : LineReader) → ReaderIsFree goes_on → (k : Option ℕ) (draft : EditedLine) (s : Session) (m : Contents) → is_hold s.mode ≡ false → Free (take_key goes_on k draft s m)
 free_take_key goes_on free None draft s m h = h
 free_take_key goes_on free (Some key) draft s m h =
     let e = key_into_line (key_read s.console) draft key in free e.progress (with_edited s e) m h
 
-pub free_line_step : (goes_on : LineReader) → ReaderIsFree goes_on → (draft : Draft) (s : Session) (m : Contents) → is_hold s.mode ≡ false → Free (line_step goes_on draft s m)
+pub free_line_step : (goes_on : LineReader) → ReaderIsFree goes_on → (draft : EditedLine) (s : Session) (m : Contents) → is_hold s.mode ≡ false → Free (line_step goes_on draft s m)
 free_line_step goes_on free draft s m h =
     free_if (is_open draft) _ _ (free_take_key goes_on free (first_key s) draft s m h) (free line.Ended (record s { console = said s.console (13 ∷ []); line = draft }) m h)
 
@@ -93,9 +93,9 @@ free_by_answer : (a : Result ℕ Failure) (drive : ℕ) (s : Session) (m : Conte
 free_by_answer (Ok code) drive s m = refl
 free_by_answer (Err which) drive s m = refl
 
-free_file_function : (function : FileFunction) (system : Disk) (s : Session) (m : Contents) → Free (call_file_function function system s m)
+free_call_file_function : (function : FileFunction) (system : Disk) (s : Session) (m : Contents) → Free (call_file_function function system s m)
 unfolding call_file_function
-free_file_function function system s m =
+free_call_file_function function system s m =
     let c = file_function_bytes function s.disks system (run_at m (pair_de s.regs) fcb_size) (run_at m s.buffer record_size) in
     free_by_answer c.answer _ _ _
 
@@ -143,7 +143,7 @@ module _ (system : Disk) (s : Session) (m : Contents) (now : is_hold s.mode ≡ 
   free_called f.Version h = refl
   free_called f.ResetDisks h = refl
   free_called f.SelectDisk h = free_select_disk system s m
-  free_called (f.File function) h = free_file_function function system s m
+  free_called (f.File function) h = free_call_file_function function system s m
   free_called f.LoginVector h = refl
   free_called f.CurrentDisk h = refl
   free_called f.SetBuffer h = refl
@@ -170,16 +170,16 @@ module _ (system : Disk) (s : Session) (m : Contents) (now : is_hold s.mode ≡ 
 
 -- ---- steps that look for ^S
 
-held_if : (b : Bool) (x y : Did) → b ≡ true → (if b then x else y) ≡ x
+held_if : (b : Bool) (x y : StepResult) → b ≡ true → (if b then x else y) ≡ x
 held_if true x y h = refl
 held_if false x y h = absurd cc
 
 -- a text's step: `$` shows nothing, and another byte does
-text_shows : (dollar stop : Bool) (held ends ends_free on on_free : Did) (screen : List ℕ) → stop ≡ true → ends_free.session.console.screen ≡ screen → (if dollar then ends_free else on_free).session.console.screen ≢ screen → (if dollar then ends else if stop then held else on) ≡ held
+text_shows : (dollar stop : Bool) (held ends ends_free on on_free : StepResult) (screen : List ℕ) → stop ≡ true → ends_free.session.console.screen ≡ screen → (if dollar then ends_free else on_free).session.console.screen ≢ screen → (if dollar then ends else if stop then held else on) ≡ held
 text_shows true stop held ends ends_free on on_free screen h same shows = absurd (shows same)
 text_shows false stop held ends ends_free on on_free screen h same shows = held_if stop held on h
 
-text_silent : (dollar : Bool) (keys : List ℕ) (ends ends_free on on_free : Did) (screen : List ℕ) → ends ≡ did_with_keys keys ends_free → (on_free.session.console.screen ≡ screen → ⊥) → (if dollar then ends_free else on_free).session.console.screen ≡ screen → (if dollar then ends else on) ≡ did_with_keys keys (if dollar then ends_free else on_free)
+text_silent : (dollar : Bool) (keys : List ℕ) (ends ends_free on on_free : StepResult) (screen : List ℕ) → ends ≡ did_with_keys keys ends_free → (on_free.session.console.screen ≡ screen → ⊥) → (if dollar then ends_free else on_free).session.console.screen ≡ screen → (if dollar then ends else on) ≡ did_with_keys keys (if dollar then ends_free else on_free)
 text_silent true keys ends ends_free on on_free screen same grows is = same
 text_silent false keys ends ends_free on on_free screen same grows is = absurd (grows is)
 

@@ -4,8 +4,8 @@ use Rattle.std.specs.Prelude.{if◌then◌else◌, ◌==◌, slice_index}
 use Rattle.std.proofs.lemmas.List.{length-drop}
 use Rattle.cpm_geom.specs.Disk.{Disk}
 use Rattle.cpm_console.specs.Terminal.{Terminal, said, shown, printed, key_read}
-use Rattle.cpm_console.specs.Draft.{Draft}
-use Rattle.cpm_console.specs.Editing.{Edited, begun_line, edited, edit, echo_at, columns, keystroke, key_into_line, with_character}
+use Rattle.cpm_console.specs.EditedLine.{EditedLine}
+use Rattle.cpm_console.specs.Editing.{EditResult, begun_line, edited, edit, echo_at, columns, keystroke, key_into_line, with_character}
 use Rattle.cpm_console.specs.declared.line.Keystroke.{Keystroke}
 use Rattle.cpm_console.specs.declared.line.Keystroke.TheVariants.{Interrupt, NewLine, Erase, Repeat, End, ListEcho, Retype, Restart, EraseAll, Character}
 use Rattle.cpm_console.specs.declared.line.LineState.{LineState}
@@ -13,7 +13,7 @@ use Rattle.cpm_console.specs.declared.line.LineState.TheVariants as line
 use Rattle.cpm_memory.specs.Contents.{Contents, byte_at, run_at}
 use Rattle.cpm_bdos.specs.Registers.{pair_de}
 use Rattle.cpm_bdos.specs.Function.{function_of, bios_call_of}
-use Rattle.cpm_bdos.specs.Did.{Did}
+use Rattle.cpm_bdos.specs.StepResult.{StepResult}
 use Rattle.cpm_bdos.specs.Keys.{first_key, took_key}
 use Rattle.cpm_bdos.specs.KeysTaken.{IsFromFront}
 use Rattle.cpm_bdos.specs.Hold.{is_stop, release}
@@ -53,10 +53,10 @@ first_taken keys = record { count = 1; few = omega arith; rest = refl }
 pub length-left : (old new : List ℕ) → IsFromFront old new → length new ≤ length old
 length-left old new taken = rw taken.rest (omega (arith, length-drop taken.count old))
 
-abbrev Takes : Session → Did → Type 0
+abbrev Takes : Session → StepResult → Type 0
 Takes s d = IsFromFront s.console.keys d.session.console.keys
 
-takes_if : (b : Bool) (s : Session) (x y : Did) → Takes s x → Takes s y → Takes s (if b then x else y)
+takes_if : (b : Bool) (s : Session) (x y : StepResult) → Takes s x → Takes s y → Takes s (if b then x else y)
 takes_if true s x y hx hy = hx
 takes_if false s x y hx hy = hy
 
@@ -105,7 +105,7 @@ takes_after_fault (Some k) s m = first_taken s.console.keys
 
 -- ---- lines
 
-keys-edit : (k : Keystroke) (t : Terminal) (l : Draft) (key : ℕ) → (edit k t l key).terminal.keys ≡ t.keys
+keys-edit : (k : Keystroke) (t : Terminal) (l : EditedLine) (key : ℕ) → (edit k t l key).terminal.keys ≡ t.keys
 unfolding said
 keys-edit Interrupt t l key = refl
 keys-edit NewLine t l key = refl
@@ -123,25 +123,25 @@ keys-edit Character t l key = by_end (length l.characters + 1 == l.limit)
     by_end false = refl
 
 -- a key of a line is taken, and its editing leaves the others
-pub keys-key_into_line : (t : Terminal) (l : Draft) (key : ℕ) → IsFromFront t.keys (key_into_line (key_read t) l key).terminal.keys
+pub keys-key_into_line : (t : Terminal) (l : EditedLine) (key : ℕ) → IsFromFront t.keys (key_into_line (key_read t) l key).terminal.keys
 keys-key_into_line t l key =
     record { count = 1; few = omega arith; rest = keys-edit (keystroke (length l.characters == 0) key) (key_read t) l key }
 
 -- a line's reader that takes no key more
 abbrev pub ReaderTakes : LineReader → Type 0
-ReaderTakes goes_on = (p : LineState) (s : Session) (m : Contents) (e : Edited) → IsFromFront s.console.keys e.terminal.keys → Takes s (goes_on p (with_edited s e) m)
+ReaderTakes goes_on = (p : LineState) (s : Session) (m : Contents) (e : EditResult) → IsFromFront s.console.keys e.terminal.keys → Takes s (goes_on p (with_edited s e) m)
 
 takes_after_key : ReaderTakes after_key
 takes_after_key line.GoesOn s m e taken = taken
 takes_after_key line.Ended s m e taken = taken
 takes_after_key line.Interrupted s m e taken = taken
 
-takes_take_key : (goes_on : LineReader) → ReaderTakes goes_on → (k : Option ℕ) (l : Draft) (s : Session) (m : Contents) → Takes s (take_key goes_on k l s m)
+takes_take_key : (goes_on : LineReader) → ReaderTakes goes_on → (k : Option ℕ) (l : EditedLine) (s : Session) (m : Contents) → Takes s (take_key goes_on k l s m)
 takes_take_key goes_on takes None l s m = none_taken s.console.keys
 takes_take_key goes_on takes (Some k) l s m =
     let e = key_into_line (key_read s.console) l k in takes e.progress s m e (keys-key_into_line s.console l k)
 
-pub takes_line_step : (goes_on : LineReader) → ReaderTakes goes_on → (l : Draft) (s : Session) (m : Contents) → Takes s (line_step goes_on l s m)
+pub takes_line_step : (goes_on : LineReader) → ReaderTakes goes_on → (l : EditedLine) (s : Session) (m : Contents) → Takes s (line_step goes_on l s m)
 unfolding said
 takes_line_step goes_on takes l s m =
     takes_if (is_open l) s _ _ (takes_take_key goes_on takes (first_key s) l s m) (takes line.Ended s m (edited (said s.console (13 ∷ [])) l line.Ended) (none_taken s.console.keys))
@@ -152,9 +152,9 @@ takes_by_answer : (a : Result ℕ Fault) (drive : ℕ) (s : Session) (m : Conten
 takes_by_answer (Ok code) drive s m = none_taken s.console.keys
 takes_by_answer (Err which) drive s m = takes_fault s which drive
 
-takes_file_function : (f : FileFunction) (system : Disk) (s : Session) (m : Contents) → Takes s (call_file_function f system s m)
+takes_call_file_function : (f : FileFunction) (system : Disk) (s : Session) (m : Contents) → Takes s (call_file_function f system s m)
 unfolding call_file_function
-takes_file_function f system s m =
+takes_call_file_function f system s m =
     let c = call_of f system s m in
     let at = pair_de s.regs in
     let old = run_at m at fcb_size in
@@ -192,7 +192,7 @@ takes_called ConsoleStatus system s m = none_taken s.console.keys
 takes_called Version system s m = none_taken s.console.keys
 takes_called ResetDisks system s m = none_taken s.console.keys
 takes_called SelectDisk system s m = takes_select_disk system s m
-takes_called (File f) system s m = takes_file_function f system s m
+takes_called (File f) system s m = takes_call_file_function f system s m
 takes_called LoginVector system s m = none_taken s.console.keys
 takes_called CurrentDisk system s m = none_taken s.console.keys
 takes_called SetBuffer system s m = none_taken s.console.keys

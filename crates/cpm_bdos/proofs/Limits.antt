@@ -3,7 +3,7 @@ use Rattle.std.proofs.Common.{◌≡◌, ℕ, Bool, true, false, List, [], ◌�
 use Rattle.std.specs.Prelude.{if◌then◌else◌, ◌==◌, slice_index}
 use Rattle.cpm_geom.specs.Disk.{Disk}
 use Rattle.cpm_console.specs.Terminal.{said, key_read}
-use Rattle.cpm_console.specs.Draft.{Draft}
+use Rattle.cpm_console.specs.EditedLine.{EditedLine}
 use Rattle.cpm_console.specs.Editing.{begun_line, key_into_line}
 use Rattle.cpm_console.specs.declared.line.LineState.{LineState}
 use Rattle.cpm_console.specs.declared.line.LineState.TheVariants as line
@@ -11,7 +11,7 @@ use Rattle.cpm_memory.specs.Contents.{Contents, byte_at, next, run_at, after_run
 use Rattle.cpm_memory.proofs.Runs.{limit-run}
 use Rattle.cpm_bdos.specs.Registers.{pair_de}
 use Rattle.cpm_bdos.specs.Function.{function_of, bios_call_of}
-use Rattle.cpm_bdos.specs.Did.{Did, rebooted}
+use Rattle.cpm_bdos.specs.StepResult.{StepResult, rebooted}
 use Rattle.cpm_bdos.specs.Keys.{first_key, took_key}
 use Rattle.cpm_bdos.specs.Hold.{is_stop, release}
 use Rattle.cpm_bdos.specs.Output.{write_byte, write_text}
@@ -39,10 +39,10 @@ use Rattle.cpm_bdos.specs.declared.session.HeldOutput.TheVariants as held
 use Rattle.cpm_bdos.specs.declared.session.Mode.{Mode}
 use Rattle.cpm_bdos.specs.declared.session.Mode.TheVariants.{Program, Text, Line, Hold, Fault, Command}
 
-abbrev KeepsLimit : Contents → Did → Type 0
+abbrev KeepsLimit : Contents → StepResult → Type 0
 KeepsLimit m d = d.memory.limit ≡ m.limit
 
-limit_if : (b : Bool) (m : Contents) (x y : Did) → KeepsLimit m x → KeepsLimit m y → KeepsLimit m (if b then x else y)
+limit_if : (b : Bool) (m : Contents) (x y : StepResult) → KeepsLimit m x → KeepsLimit m y → KeepsLimit m (if b then x else y)
 limit_if true m x y hx hy = hx
 limit_if false m x y hx hy = hy
 
@@ -78,12 +78,12 @@ limit_after_key line.GoesOn s m = refl
 limit_after_key line.Ended s m = limit-line_ended s m
 limit_after_key line.Interrupted s m = limit-rebooted s m
 
-limit_take_key : (goes_on : LineReader) → ReaderKeepsLimit goes_on → (k : Option ℕ) (l : Draft) (s : Session) (m : Contents) → KeepsLimit m (take_key goes_on k l s m)
+limit_take_key : (goes_on : LineReader) → ReaderKeepsLimit goes_on → (k : Option ℕ) (l : EditedLine) (s : Session) (m : Contents) → KeepsLimit m (take_key goes_on k l s m)
 limit_take_key goes_on keeps None l s m = refl
 limit_take_key goes_on keeps (Some k) l s m =
     let e = key_into_line (key_read s.console) l k in keeps e.progress (with_edited s e) m
 
-pub limit_line_step : (goes_on : LineReader) → ReaderKeepsLimit goes_on → (l : Draft) (s : Session) (m : Contents) → KeepsLimit m (line_step goes_on l s m)
+pub limit_line_step : (goes_on : LineReader) → ReaderKeepsLimit goes_on → (l : EditedLine) (s : Session) (m : Contents) → KeepsLimit m (line_step goes_on l s m)
 limit_line_step goes_on keeps l s m =
     limit_if (is_open l) m _ _ (limit_take_key goes_on keeps (first_key s) l s m) (keeps line.Ended (record s { console = said s.console (13 ∷ []); line = l }) m)
 
@@ -95,9 +95,9 @@ limit_after_fault : (k : Option ℕ) (s : Session) (m : Contents) → KeepsLimit
 limit_after_fault None s m = refl
 limit_after_fault (Some k) s m = limit-rebooted (took_key s) m
 
-limit_file_function : (f : FileFunction) (system : Disk) (s : Session) (m : Contents) → KeepsLimit m (call_file_function f system s m)
+limit_call_file_function : (f : FileFunction) (system : Disk) (s : Session) (m : Contents) → KeepsLimit m (call_file_function f system s m)
 unfolding call_file_function
-limit_file_function f system s m =
+limit_call_file_function f system s m =
     let c = call_of f system s m in
     let at = pair_de s.regs in
     let old = run_at m at fcb_size in
@@ -133,7 +133,7 @@ limit_called ConsoleStatus system s m = refl
 limit_called Version system s m = refl
 limit_called ResetDisks system s m = refl
 limit_called SelectDisk system s m = limit_select_disk system s m
-limit_called (File f) system s m = limit_file_function f system s m
+limit_called (File f) system s m = limit_call_file_function f system s m
 limit_called LoginVector system s m = refl
 limit_called CurrentDisk system s m = refl
 limit_called SetBuffer system s m = refl

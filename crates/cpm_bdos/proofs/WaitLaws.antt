@@ -3,7 +3,7 @@ use Rattle.std.proofs.Common.{◌≡◌, ℕ, ◌-◌, Bool, true, false, ◌&&�
 use Rattle.std.specs.Prelude.{if◌then◌else◌, ◌==◌, nat_le, nat_lt, slice_index, [], ◌∷◌}
 use Rattle.std.proofs.lemmas.Bool.Decides.{nat_tests}
 use Rattle.cpm_geom.specs.Disk.{Disk}
-use Rattle.cpm_console.specs.Draft.{Draft}
+use Rattle.cpm_console.specs.EditedLine.{EditedLine}
 use Rattle.cpm_console.specs.Editing.{begun_line, key_into_line}
 use Rattle.cpm_console.specs.Terminal.{said, key_read}
 use Rattle.cpm_console.specs.declared.line.LineState.{LineState}
@@ -11,7 +11,7 @@ use Rattle.cpm_console.specs.declared.line.LineState.TheVariants as line
 use Rattle.cpm_memory.specs.Contents.{Contents, byte_at, run_at}
 use Rattle.cpm_bdos.specs.Registers.{pair_de}
 use Rattle.cpm_bdos.specs.Function.{function_of, bios_call_of}
-use Rattle.cpm_bdos.specs.Did.{Did, did}
+use Rattle.cpm_bdos.specs.StepResult.{StepResult, did}
 use Rattle.cpm_bdos.specs.Keys.{first_key}
 use Rattle.cpm_bdos.specs.Hold.{is_stop, release}
 use Rattle.cpm_bdos.specs.Output.{write_byte, write_text}
@@ -42,19 +42,19 @@ use Rattle.cpm_bdos.specs.declared.session.Mode.TheVariants.{Program, Text, Line
 use Rattle.cpm_bdos.specs.declared.session.Went.TheVariants.{Waits}
 
 -- the step of a call changes nothing where it waits, and else is no wait
-pub record IsWait (waits : Bool) (s : Session) (m : Contents) (d : Did) : Type 0 where
+pub record IsWait (waits : Bool) (s : Session) (m : Contents) (d : StepResult) : Type 0 where
   pub changes_nothing : waits ≡ true → d ≡ did s m Waits
   pub elsewhere : waits ≡ false → d.went ≡ Waits → ⊥
 
 -- ---- steps that never wait
 
-abbrev Goes : Did → Type 0
+abbrev Goes : StepResult → Type 0
 Goes d = d.went ≡ Waits → ⊥
 
-goes : (s : Session) (m : Contents) (d : Did) → Goes d → IsWait false s m d
+goes : (s : Session) (m : Contents) (d : StepResult) → Goes d → IsWait false s m d
 goes s m d h = record { changes_nothing = λ e. absurd cc; elsewhere = λ _. h }
 
-goes_if : (b : Bool) (x y : Did) → Goes x → Goes y → Goes (if b then x else y)
+goes_if : (b : Bool) (x y : StepResult) → Goes x → Goes y → Goes (if b then x else y)
 goes_if true x y hx hy = hx
 goes_if false x y hx hy = hy
 
@@ -81,9 +81,9 @@ goes_by_answer : (a : Result ℕ Failure) (drive : ℕ) (s : Session) (m : Conte
 goes_by_answer (Ok code) drive s m = λ e. cc
 goes_by_answer (Err which) drive s m = λ e. cc
 
-goes_file_function : (f : FileFunction) (system : Disk) (s : Session) (m : Contents) → Goes (call_file_function f system s m)
+goes_call_file_function : (f : FileFunction) (system : Disk) (s : Session) (m : Contents) → Goes (call_file_function f system s m)
 unfolding call_file_function
-goes_file_function f system s m =
+goes_call_file_function f system s m =
     let c = call_of f system s m in
     let at = pair_de s.regs in
     let old = run_at m at fcb_size in
@@ -131,7 +131,7 @@ goes_translate s m = λ e. cc
 
 -- ---- steps that need a key
 
-waits_for : (k : Option ℕ) (s : Session) (m : Contents) (d : Did) → (k ≡ None → d ≡ did s m Waits) → ((key : ℕ) → k ≡ Some key → Goes d) → IsWait (not (is_some k)) s m d
+waits_for : (k : Option ℕ) (s : Session) (m : Contents) (d : StepResult) → (k ≡ None → d ≡ did s m Waits) → ((key : ℕ) → k ≡ Some key → Goes d) → IsWait (not (is_some k)) s m d
 waits_for None s m d none some = record { changes_nothing = λ _. none refl; elsewhere = λ e. absurd cc }
 waits_for (Some key) s m d none some = goes s m d (some key refl)
 
@@ -139,13 +139,13 @@ read_key_waits : (k : Option ℕ) (s : Session) (m : Contents) → IsWait (not (
 read_key_waits None s m = waits_for None s m _ (λ _. refl) (λ key e. absurd cc)
 read_key_waits (Some k) s m = goes s m _ (λ e. cc)
 
-take_key_waits : (goes_on : LineReader) → ReaderGoes goes_on → (k : Option ℕ) (l : Draft) (s : Session) (m : Contents) → IsWait (not (is_some k)) s m (take_key goes_on k l s m)
+take_key_waits : (goes_on : LineReader) → ReaderGoes goes_on → (k : Option ℕ) (l : EditedLine) (s : Session) (m : Contents) → IsWait (not (is_some k)) s m (take_key goes_on k l s m)
 take_key_waits goes_on reader None l s m = waits_for None s m _ (λ _. refl) (λ key e. absurd cc)
 take_key_waits goes_on reader (Some k) l s m =
     let e = key_into_line (key_read s.console) l k in
     goes s m _ (reader e.progress (with_edited s e) m)
 
-pub line_step_waits : (goes_on : LineReader) → ReaderGoes goes_on → (l : Draft) (s : Session) (m : Contents) → IsWait (is_open l && not (is_some (first_key s))) s m (line_step goes_on l s m)
+pub line_step_waits : (goes_on : LineReader) → ReaderGoes goes_on → (l : EditedLine) (s : Session) (m : Contents) → IsWait (is_open l && not (is_some (first_key s))) s m (line_step goes_on l s m)
 line_step_waits goes_on reader l s m = by_room (is_open l) refl
   where
     by_room : (b : Bool) → is_open l ≡ b → IsWait (is_open l && not (is_some (first_key s))) s m (line_step goes_on l s m)
@@ -193,7 +193,7 @@ called_waits ConsoleStatus system s m = goes s m _ (λ e. cc)
 called_waits Version system s m = goes s m _ (λ e. cc)
 called_waits ResetDisks system s m = goes s m _ (λ e. cc)
 called_waits SelectDisk system s m = goes s m _ (goes_select_disk system s m)
-called_waits (File f) system s m = goes s m _ (goes_file_function f system s m)
+called_waits (File f) system s m = goes s m _ (goes_call_file_function f system s m)
 called_waits LoginVector system s m = goes s m _ (λ e. cc)
 called_waits CurrentDisk system s m = goes s m _ (λ e. cc)
 called_waits SetBuffer system s m = goes s m _ (λ e. cc)
@@ -251,13 +251,13 @@ bios_waits n system s m =
 
 -- ---- by the mode
 
-abbrev IsWaitOf : Bool → Session → Contents → Option Did → Type 0
+abbrev IsWaitOf : Bool → Session → Contents → Option StepResult → Type 0
 IsWaitOf waits s m call =
-    (waits ≡ true → call ≡ Some (did s m Waits)) × (waits ≡ false → (d : Did) → call ≡ Some d → d.went ≡ Waits → ⊥)
+    (waits ≡ true → call ≡ Some (did s m Waits)) × (waits ≡ false → (d : StepResult) → call ≡ Some d → d.went ≡ Waits → ⊥)
 
-waits_of : (waits : Bool) (s : Session) (m : Contents) (d : Did) → IsWait waits s m d → IsWaitOf waits s m (Some d)
+waits_of : (waits : Bool) (s : Session) (m : Contents) (d : StepResult) → IsWait waits s m d → IsWaitOf waits s m (Some d)
 waits_of waits s m d h =
-    (λ e. ap Some (h.changes_nothing e), λ e x is w. (let same : d ≡ x = cc in h.elsewhere e (ap (λ (y : Did). y.went) same ∙ w)))
+    (λ e. ap Some (h.changes_nothing e), λ e x is w. (let same : d ≡ x = cc in h.elsewhere e (ap (λ (y : StepResult). y.went) same ∙ w)))
 
 waits_in_call : (mode : Mode) (waits : Bool) (system : Disk) (s : Session) (m : Contents) → s.mode ≡ mode → IsWait waits s m (in_mode mode system s m) → IsWaitOf waits s m (Some (bdos system s m))
 waits_in_call mode waits system s m is h =
@@ -279,11 +279,11 @@ waits_in_program system s m is = by_bdos (s.regs.pc == 60422) refl
     by_bdos false e = by_range (nat_le 64256 s.regs.pc && nat_le s.regs.pc 64272) refl
 
 -- nothing is said of a part of the command processor
-abbrev IsWaitIn : Mode → Bool → Session → Contents → Option Did → Type 0
+abbrev IsWaitIn : Mode → Bool → Session → Contents → Option StepResult → Type 0
 IsWaitIn mode waits s m call =
-    (waits ≡ true → is_command mode ≡ false → call ≡ Some (did s m Waits)) × (waits ≡ false → (d : Did) → call ≡ Some d → d.went ≡ Waits → ⊥)
+    (waits ≡ true → is_command mode ≡ false → call ≡ Some (did s m Waits)) × (waits ≡ false → (d : StepResult) → call ≡ Some d → d.went ≡ Waits → ⊥)
 
-wait_in : (mode : Mode) (waits : Bool) (s : Session) (m : Contents) (call : Option Did) → IsWaitOf waits s m call → IsWaitIn mode waits s m call
+wait_in : (mode : Mode) (waits : Bool) (s : Session) (m : Contents) (call : Option StepResult) → IsWaitOf waits s m call → IsWaitIn mode waits s m call
 wait_in mode waits s m call h = (λ e _. h.0 e, h.1)
 
 waits_in : (mode : Mode) (system : Disk) (s : Session) (m : Contents) → s.mode ≡ mode → IsWaitIn mode (needs_key mode s m && not (is_some (first_key s))) s m (call_in mode system s m)

@@ -3,15 +3,15 @@ use Rattle.std.proofs.Common.{◌≡◌, ℕ, Bool, true, false, List, [], ◌�
 use Rattle.std.specs.Prelude.{if◌then◌else◌, ◌==◌, slice_index}
 use Rattle.cpm_geom.specs.Disk.{Disk}
 use Rattle.cpm_console.specs.Terminal.{Terminal, expanded, said, key_read}
-use Rattle.cpm_console.specs.Draft.{Draft}
-use Rattle.cpm_console.specs.Editing.{Edited, begun_line, key_into_line}
+use Rattle.cpm_console.specs.EditedLine.{EditedLine}
+use Rattle.cpm_console.specs.Editing.{EditResult, begun_line, key_into_line}
 use Rattle.cpm_console.specs.declared.line.LineState.{LineState}
 use Rattle.cpm_console.specs.declared.line.LineState.TheVariants as line
 use Rattle.cpm_memory.specs.Contents.{Contents, byte_at, next, run_at}
 use Rattle.cpm_bdos.specs.Registers.{pair_de}
 use Rattle.cpm_bdos.specs.Function.{function_of, bios_call_of}
 use Rattle.cpm_bdos.specs.Behind.{session_behind, did_behind}
-use Rattle.cpm_bdos.specs.Did.{Did, did, answered, call_returned}
+use Rattle.cpm_bdos.specs.StepResult.{StepResult, did, answered, call_returned}
 use Rattle.cpm_bdos.specs.Keys.{first_key, took_key}
 use Rattle.cpm_bdos.specs.Hold.{is_stop, release}
 use Rattle.cpm_bdos.specs.Output.{wrote, showed, list_byte, write_byte, write_text}
@@ -42,7 +42,7 @@ use Rattle.cpm_bdos.specs.declared.session.Went.TheVariants.{GoesOn}
 use Rattle.cpm_bdos.proofs.ConsoleBehind.{said-behind, shown-behind, printed-behind, key_into_line-behind}
 
 module _ (p q : List ℕ) where
-  did-if : (b : Bool) (x y x' y' : Did) → x' ≡ did_behind p q x → y' ≡ did_behind p q y → (if b then x' else y') ≡ did_behind p q (if b then x else y)
+  did-if : (b : Bool) (x y x' y' : StepResult) → x' ≡ did_behind p q x → y' ≡ did_behind p q y → (if b then x' else y') ≡ did_behind p q (if b then x else y)
   did-if true x y x' y' ex ey = ex
   did-if false x y x' y' ex ey = ey
 
@@ -84,17 +84,17 @@ module _ (p q : List ℕ) where
   after_key-behind line.Ended s m = refl
   after_key-behind line.Interrupted s m = refl
 
-  take_key-behind : (goes_on : LineReader) → ReadsBehind goes_on → (k : Option ℕ) (l : Draft) (s : Session) (m : Contents) → take_key goes_on k l (session_behind p q s) m ≡ did_behind p q (take_key goes_on k l s m)
+  take_key-behind : (goes_on : LineReader) → ReadsBehind goes_on → (k : Option ℕ) (l : EditedLine) (s : Session) (m : Contents) → take_key goes_on k l (session_behind p q s) m ≡ did_behind p q (take_key goes_on k l s m)
   take_key-behind goes_on same None l s m = refl
   take_key-behind goes_on same (Some k) l s m =
       let e = key_into_line (key_read s.console) l k in
-      ap (λ (f : Edited). edited_with goes_on (session_behind p q s) m f) (key_into_line-behind p q (key_read s.console) l k) ∙ same e.progress (with_edited s e) m
+      ap (λ (f : EditResult). edited_with goes_on (session_behind p q s) m f) (key_into_line-behind p q (key_read s.console) l k) ∙ same e.progress (with_edited s e) m
 
-  no_more-behind : (goes_on : LineReader) → ReadsBehind goes_on → (l : Draft) (s : Session) (m : Contents) → no_more goes_on l (session_behind p q s) m ≡ did_behind p q (no_more goes_on l s m)
+  no_more-behind : (goes_on : LineReader) → ReadsBehind goes_on → (l : EditedLine) (s : Session) (m : Contents) → no_more goes_on l (session_behind p q s) m ≡ did_behind p q (no_more goes_on l s m)
   no_more-behind goes_on same l s m =
       ap (λ (t : Terminal). goes_on line.Ended (record s { console = t; line = l }) m) (said-behind p q s.console (13 ∷ [])) ∙ same line.Ended (record s { console = said s.console (13 ∷ []); line = l }) m
 
-  pub line_step-behind : (goes_on : LineReader) → ReadsBehind goes_on → (l : Draft) (s : Session) (m : Contents) → line_step goes_on l (session_behind p q s) m ≡ did_behind p q (line_step goes_on l s m)
+  pub line_step-behind : (goes_on : LineReader) → ReadsBehind goes_on → (l : EditedLine) (s : Session) (m : Contents) → line_step goes_on l (session_behind p q s) m ≡ did_behind p q (line_step goes_on l s m)
   line_step-behind goes_on same l s m =
       did-if (is_open l) _ _ _ _ (take_key-behind goes_on same (first_key s) l s m) (no_more-behind goes_on same l s m)
 
@@ -114,9 +114,9 @@ module _ (p q : List ℕ) where
   by_answer-behind (Ok code) drive s m = refl
   by_answer-behind (Err which) drive s m = faulted-behind which drive s m
 
-  file_function-behind : (f : FileFunction) (system : Disk) (s : Session) (m : Contents) → call_file_function f system (session_behind p q s) m ≡ did_behind p q (call_file_function f system s m)
+  call_file_function-behind : (f : FileFunction) (system : Disk) (s : Session) (m : Contents) → call_file_function f system (session_behind p q s) m ≡ did_behind p q (call_file_function f system s m)
   unfolding call_file_function
-  file_function-behind f system s m =
+  call_file_function-behind f system s m =
       let c = call_of f system s m in
       let at = pair_de s.regs in
       let old = run_at m at fcb_size in
@@ -152,7 +152,7 @@ module _ (p q : List ℕ) where
   called-behind Version system s m = refl
   called-behind ResetDisks system s m = refl
   called-behind SelectDisk system s m = select_disk-behind system s m
-  called-behind (File f) system s m = file_function-behind f system s m
+  called-behind (File f) system s m = call_file_function-behind f system s m
   called-behind LoginVector system s m = refl
   called-behind CurrentDisk system s m = refl
   called-behind SetBuffer system s m = refl

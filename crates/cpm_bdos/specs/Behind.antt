@@ -1,7 +1,7 @@
 -- Output that waits to be taken already, in front of what a step shows.
 use Rattle.std.specs.Prelude.{ℕ, List, ◌++◌}
 use Rattle.cpm_console.specs.Terminal.{Terminal}
-use Rattle.cpm_bdos.specs.Did.{Did, did}
+use Rattle.cpm_bdos.specs.StepResult.{StepResult, did}
 use Rattle.cpm_bdos.specs.declared.session.Session.{Session}
 
 abbrev pub terminal_behind : List ℕ → List ℕ → Terminal → Terminal
@@ -10,5 +10,5 @@ terminal_behind p q t = record t { screen = p ++ t.screen; printer = q ++ t.prin
 abbrev pub session_behind : List ℕ → List ℕ → Session → Session
 session_behind p q s = record s { console = terminal_behind p q s.console }
 
-abbrev pub did_behind : List ℕ → List ℕ → Did → Did
+abbrev pub did_behind : List ℕ → List ℕ → StepResult → StepResult
 did_behind p q d = did (session_behind p q d.session) d.memory d.went

@@ -15,7 +15,7 @@ use Rattle.cpm_drives.specs.Calls.{drive_named}
 use Rattle.cpm_drives.specs.Functions.{BytesCall, file_function_bytes}
 use Rattle.cpm_drives.specs.Vectors.{allocation_of}
 use Rattle.cpm_bdos.specs.Registers.{pair_de}
-use Rattle.cpm_bdos.specs.Did.{Did, answered}
+use Rattle.cpm_bdos.specs.StepResult.{StepResult, answered}
 use Rattle.cpm_bdos.specs.Faults.{faulted}
 use Rattle.cpm_bdos.specs.declared.session.Session.{Session}
 
@@ -23,7 +23,7 @@ abbrev pub with_disks : Session → Disks → Session
 with_disks s disks = record s { disks = disks }
 
 -- a call ends with its code, or in its fault on a drive
-abbrev pub by_answer : Result ℕ Fault → ℕ → Session → Contents → Did
+abbrev pub by_answer : Result ℕ Fault → ℕ → Session → Contents → StepResult
 by_answer (Ok code) drive s m = answered s m code
 by_answer (Err which) drive s m = faulted s m which drive
 
@@ -50,12 +50,12 @@ record_stored m at bytes = after_run m at (take record_size bytes)
 abbrev pub call_stored : Contents → ℕ → ℕ → List ℕ → BytesCall → Contents
 call_stored m buffer at old c = fcb_stored (record_stored m buffer c.buffer) at old c.bytes
 
-abbrev pub called_on : Session → Contents → ℕ → List ℕ → BytesCall → Did
+abbrev pub called_on : Session → Contents → ℕ → List ℕ → BytesCall → StepResult
 called_on s m at old c =
     by_answer c.answer (drive_named s.disks (slice_index old 0)) (with_disks s c.disks) (call_stored m s.buffer at old c)
 
 -- a function on the file control block at DE and the record at the buffer
-unfoldable pub call_file_function : FileFunction → Disk → Session → Contents → Did
+unfoldable pub call_file_function : FileFunction → Disk → Session → Contents → StepResult
 call_file_function f system s m =
     let at = pair_de s.regs in
     called_on s m at (run_at m at fcb_size) (file_function_bytes f s.disks system (run_at m at fcb_size) (run_at m s.buffer record_size))
@@ -77,24 +77,24 @@ abbrev pub format_in : Disks → Disk → ℕ → Format
 format_in disks system drive = (drive_at disks system drive).image.format
 
 -- RESET DISK SYSTEM: the buffer is again at 0080h
-abbrev pub reset_disks : Disk → Session → Contents → Did
+abbrev pub reset_disks : Disk → Session → Contents → StepResult
 reset_disks system s m = answered (record s { disks = reset s.disks system; buffer = default_buffer_address }) m 0
 
 -- SELECT DISK: the drive in E
-abbrev pub disk_selected : ℕ → Session → Contents → DriveChoice → Did
+abbrev pub disk_selected : ℕ → Session → Contents → DriveChoice → StepResult
 disk_selected drive s m c = by_answer c.answer drive (with_disks s c.disks) m
 
-unfoldable pub select_disk : Disk → Session → Contents → Did
+unfoldable pub select_disk : Disk → Session → Contents → StepResult
 select_disk system s m = disk_selected s.regs.e s m (select s.disks system s.regs.e)
 
 -- GET ADDR(ALLOC): the current drive is used, and its vector stored where HL then points
-unfoldable pub give_allocation : Disk → Session → Contents → Did
+unfoldable pub give_allocation : Disk → Session → Contents → StepResult
 give_allocation system s m =
     let at = vector_of s.disks.current in
     let disks = drive_in_use s.disks system s.disks.current in
     answered (with_disks s disks) (after_run m at (allocation_of (drive_at disks system s.disks.current))) at
 
 -- SET/GET USER CODE: FFh asks for it
-unfoldable pub user_code : Session → Contents → Did
+unfoldable pub user_code : Session → Contents → StepResult
 user_code s m =
     if s.regs.e == 0xFF then answered s m s.disks.user else answered (with_disks s (record s.disks { user = s.regs.e % 32 })) m 0

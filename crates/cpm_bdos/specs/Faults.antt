@@ -2,7 +2,7 @@
 use Rattle.std.specs.Prelude.{ℕ, ◌+◌, ◌%◌, List, ◌∷◌, ◌++◌, codes, Option, Some, None}
 use Rattle.cpm_console.specs.Terminal.{shown}
 use Rattle.cpm_memory.specs.Contents.{Contents}
-use Rattle.cpm_bdos.specs.Did.{Did, did, rebooted}
+use Rattle.cpm_bdos.specs.StepResult.{StepResult, did, rebooted}
 use Rattle.cpm_bdos.specs.Keys.{took_key}
 use Rattle.cpm_volume.specs.declared.answer.Fault.{Fault}
 use Rattle.cpm_volume.specs.declared.answer.Fault.TheVariants.{BadSector, Select, FileReadOnly, ReadOnly}
@@ -26,10 +26,10 @@ fault_text fault drive =
 abbrev pub in_fault : Session → Fault → ℕ → Session
 in_fault s fault drive = record s { console = shown s.console (fault_text fault drive); mode = mode.Fault }
 
-abbrev pub faulted : Session → Contents → Fault → ℕ → Did
+abbrev pub faulted : Session → Contents → Fault → ℕ → StepResult
 faulted s m fault drive = did (in_fault s fault drive) m GoesOn
 
 -- own: the key that is then read, whichever it is, boots the session anew
-abbrev pub after_fault : Option ℕ → Session → Contents → Did
+abbrev pub after_fault : Option ℕ → Session → Contents → StepResult
 after_fault None s m = did s m Waits
 after_fault (Some key) s m = rebooted (took_key s) m

@@ -1,4 +1,4 @@
--- The calls by their numbers: a row for each, with the manual's name of the call behind it.
+-- The calls by their numbers: a row for each, with the manual's name of the call after it.
 use Rattle.std.specs.Prelude.{ℕ, ◌==◌, if◌then◌else◌, List, [], ◌∷◌}
 use Rattle.cpm_drives.specs.declared.function.FileFunction.TheVariants as file
 use Rattle.cpm_bdos.specs.declared.function.Function.{Function}

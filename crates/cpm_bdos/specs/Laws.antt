@@ -4,7 +4,7 @@ use Rattle.std.specs.Prelude.{◌≡◌, ◌≢◌, ℕ, Bool, true, false, List
 use Rattle.cpm_geom.specs.Disk.{Disk}
 use Rattle.cpm_memory.specs.Contents.{Contents}
 use Rattle.cpm_bdos.specs.Function.{function_of}
-use Rattle.cpm_bdos.specs.Did.{Did, did}
+use Rattle.cpm_bdos.specs.StepResult.{StepResult, did}
 use Rattle.cpm_bdos.specs.Keys.{first_key}
 use Rattle.cpm_bdos.specs.Hold.{is_stop, held_at}
 use Rattle.cpm_bdos.specs.Step.{bdos}
@@ -24,7 +24,7 @@ abbrev pub without_keys : Session → Session
 without_keys s = session_with_keys [] s
 
 -- own: what a step did, with these keys pending
-abbrev pub did_with_keys : List ℕ → Did → Did
+abbrev pub did_with_keys : List ℕ → StepResult → StepResult
 did_with_keys keys d = did (session_with_keys keys d.session) d.memory d.went
 
 -- own: the mode is a hold

@@ -1,6 +1,6 @@
 pub mod Function
 pub mod Registers
-pub mod Did
+pub mod StepResult
 pub mod Keys
 pub mod KeysTaken
 pub mod Hold

@@ -8,7 +8,7 @@ use Rattle.cpm_memory.specs.Layout.{io_byte_address, default_buffer_address}
 use Rattle.cpm_memory.specs.DiskTables.{parameter_block_address}
 use Rattle.cpm_bdos.specs.Registers.{at_opening, pair_de}
 use Rattle.cpm_bdos.specs.Function.{function_of, bios_call_of}
-use Rattle.cpm_bdos.specs.Did.{Did, did, call_returned, answered, rebooted}
+use Rattle.cpm_bdos.specs.StepResult.{StepResult, did, call_returned, answered, rebooted}
 use Rattle.cpm_bdos.specs.Keys.{first_key, took_key, console_status}
 use Rattle.cpm_bdos.specs.Hold.{release}
 use Rattle.cpm_bdos.specs.Output.{showed, list_byte, write_byte, write_text}
@@ -60,7 +60,7 @@ opened_session console images =
 
 -- CP/M 2.2 Operating System Manual, section 5.2, Operating System Call Conventions: the first step of a call, by its function.
 -- Own: the reader gives 1Ah, what is punched is dropped, and a number without a function gives 0.
-abbrev pub function_called : Function → Disk → Session → Contents → Did
+abbrev pub function_called : Function → Disk → Session → Contents → StepResult
 function_called WarmBoot system s m = rebooted s m
 function_called ReadKey system s m = read_key (first_key s) s m
 function_called WriteByte system s m = write_byte s m
@@ -89,7 +89,7 @@ function_called ResetDrives system s m = answered (with_disks s (drives_reset s.
 function_called Other system s m = answered s m 0
 
 -- one step of the BDOS, by the mode; the parts of the command processor are not its own
-abbrev pub in_mode : Mode → Disk → Session → Contents → Did
+abbrev pub in_mode : Mode → Disk → Session → Contents → StepResult
 in_mode Program system s m = function_called (function_of s.regs.c) system s m
 in_mode (Text address) system s m = write_text (held.Text address) s m address
 in_mode Line system s m = edit_line s.line s m
@@ -97,21 +97,21 @@ in_mode (Hold held) system s m = release held (first_key s) s m
 in_mode Fault system s m = after_fault (first_key s) s m
 in_mode (Command part) system s m = did s m GoesOn
 
-abbrev pub bdos : Disk → Session → Contents → Did
+abbrev pub bdos : Disk → Session → Contents → StepResult
 bdos system s m = in_mode s.mode system s m
 
 -- BOOT: the I/O byte at 0003h and the user and drive at 0004h become 0, then as WBOOT (own)
-abbrev pub booted : Session → Contents → Did
+abbrev pub booted : Session → Contents → StepResult
 booted s m = rebooted s (after_run m io_byte_address (0 ∷ 0 ∷ []))
 
 -- CONIN: a key is read into A
-abbrev pub console_input : Option ℕ → Session → Contents → Did
+abbrev pub console_input : Option ℕ → Session → Contents → StepResult
 console_input None s m = did s m Waits
 console_input (Some key) s m = returned_a (took_key s) m key
 
 -- CP/M 2.2 Operating System Manual, section 6.6, The BIOS Entry Points: a call of the BIOS.
 -- Own: the list device is always ready, the reader gives 1Ah, what is punched is dropped, and a number without a call returns with nothing changed.
-abbrev pub bios_called : BiosCall → Disk → Session → Contents → Did
+abbrev pub bios_called : BiosCall → Disk → Session → Contents → StepResult
 bios_called entry.Boot system s m = booted s m
 bios_called entry.WarmBoot system s m = rebooted s m
 bios_called entry.ConsoleStatus system s m = returned_a s m (console_status (first_key s))
@@ -131,5 +131,5 @@ bios_called entry.ListStatus system s m = returned_a s m 0xFF
 bios_called entry.Translate system s m = translate s m
 bios_called entry.Other system s m = call_returned s m
 
-abbrev pub bios : ℕ → Disk → Session → Contents → Did
+abbrev pub bios : ℕ → Disk → Session → Contents → StepResult
 bios number system s m = bios_called (bios_call_of number) system s m

@@ -5,7 +5,7 @@ use Rattle.cpm_memory.specs.Contents.{Contents, byte_at}
 use Rattle.cpm_memory.specs.Layout.{bdos_address, first_bios_address, console_input_address, last_bios_address}
 use Rattle.cpm_bdos.specs.Registers.{pair_de}
 use Rattle.cpm_bdos.specs.Function.{function_of}
-use Rattle.cpm_bdos.specs.Did.{Did, did}
+use Rattle.cpm_bdos.specs.StepResult.{StepResult, did}
 use Rattle.cpm_bdos.specs.Keys.{first_key}
 use Rattle.cpm_bdos.specs.ReadLine.{is_open}
 use Rattle.cpm_bdos.specs.Step.{bdos, bios}
@@ -47,7 +47,7 @@ is_waiting s m = needs_key s.mode s m && not (is_some (first_key s))
 
 -- the step of a call that the mode asks for, or PC in a program: at EC06h the BDOS, from FB00h to FB10h the BIOS;
 -- the parts of the command processor are not among them
-abbrev pub call_in : Mode → Disk → Session → Contents → Option Did
+abbrev pub call_in : Mode → Disk → Session → Contents → Option StepResult
 call_in Program system s m =
     if s.regs.pc == bdos_address then Some (bdos system s m)
     else if nat_le first_bios_address s.regs.pc && nat_le s.regs.pc last_bios_address then Some (bios (s.regs.pc - first_bios_address) system s m)
@@ -55,7 +55,7 @@ call_in Program system s m =
 call_in (Command part) system s m = None
 call_in _ system s m = Some (bdos system s m)
 
-abbrev pub call_now : Disk → Session → Contents → Option Did
+abbrev pub call_now : Disk → Session → Contents → Option StepResult
 call_now system s m = call_in s.mode system s m
 
 -- the mode is a part of the command processor
@@ -66,4 +66,4 @@ is_command _ = false
 -- where a step of a call now would be a wait, it changes nothing; where not, it is none
 pub record IsWaiting (waits : Bool) (s : Session) (m : Contents) : Type 0 where
   pub changes_nothing : waits ≡ true → is_command s.mode ≡ false → (system : Disk) → call_now system s m ≡ Some (did s m Waits)
-  pub elsewhere : waits ≡ false → (system : Disk) (d : Did) → call_now system s m ≡ Some d → d.went ≡ Waits → ⊥
+  pub elsewhere : waits ≡ false → (system : Disk) (d : StepResult) → call_now system s m ≡ Some d → d.went ≡ Waits → ⊥

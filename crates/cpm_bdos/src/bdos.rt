@@ -5,7 +5,7 @@ ghost use Rattle.cpm_memory.specs.Contents.{after_run};
 ghost use Rattle.cpm_memory.specs.Layout.{io_byte_address};
 ghost use Rattle.cpm_memory.specs.Room.{HasRoom};
 ghost use Rattle.cpm_bdos.specs.Function.{function_of};
-ghost use Rattle.cpm_bdos.specs.Did.{did, answered};
+ghost use Rattle.cpm_bdos.specs.StepResult.{did, answered};
 ghost use Rattle.cpm_bdos.specs.Step.{function_called, bdos};
 ghost use Rattle.cpm_bdos.specs.Bounds.{IsBounded};
 ghost use Rattle.cpm_bdos.specs.Behind.{session_behind, did_behind};
@@ -33,7 +33,7 @@ impl Session {
         ensures leads { M.Leads memory.old memory.new }
         ensures bounds { IsBounded self.old (M.contents memory.old) (did self.new (M.contents memory.new) result) }
 
-        // Output that waits already changes nothing in a step, which shows its own behind it.
+        // Output that waits already changes nothing in a step, which shows its own after it.
         ensures behind { (p q : List ℕ) → bdos system.now (session_behind p q self.old) (M.contents memory.old)
             ≡ did_behind p q (did self.new (M.contents memory.new) result) }
     {
@@ -85,7 +85,7 @@ impl Session {
             Function::Version => self.answer(memory, 0x0022),
             Function::ResetDisks => self.reset_disks(memory, system),
             Function::SelectDisk => self.select_disk(memory, system),
-            Function::File(function) => self.file_function(memory, system, function),
+            Function::File(function) => self.call_file_function(memory, system, function),
             Function::LoginVector => self.give_login_vector(memory),
             Function::CurrentDisk => self.answer(memory, u16::from(self.disks.current)),
             Function::SetBuffer => self.set_buffer(memory),

@@ -2,7 +2,7 @@
 
 ghost use Rattle.std.specs.Prelude.{◌≡◌, ◌≤◌, List, ℕ, length};
 ghost use Rattle.cpm_memory.specs.Room.{HasRoom};
-ghost use Rattle.cpm_bdos.specs.Did.{did, call_returned};
+ghost use Rattle.cpm_bdos.specs.StepResult.{did, call_returned};
 ghost use Rattle.cpm_bdos.specs.Keys.{first_key};
 ghost use Rattle.cpm_bdos.specs.Output.{showed, list_byte};
 ghost use Rattle.cpm_bdos.specs.BiosDisks.{returned_a};
@@ -31,7 +31,7 @@ impl Session {
         ensures leads { M.Leads memory.old memory.new }
         ensures bounds { IsBounded self.old (M.contents memory.old) (did self.new (M.contents memory.new) result) }
 
-        // Output that waits already changes nothing in a step, which shows its own behind it.
+        // Output that waits already changes nothing in a step, which shows its own after it.
         ensures behind { (p q : List ℕ) → bios number system.now (session_behind p q self.old) (M.contents memory.old)
             ≡ did_behind p q (did self.new (M.contents memory.new) result) }
     {

@@ -2,7 +2,7 @@
 
 ghost use Rattle.std.specs.Prelude.{◌≡◌};
 ghost use Rattle.cpm_memory.specs.Room.{HasRoom};
-ghost use Rattle.cpm_bdos.specs.Did.{did};
+ghost use Rattle.cpm_bdos.specs.StepResult.{did};
 ghost use Rattle.cpm_bdos.specs.BiosDisks.{returned_hl, home, select_drive, set_track, set_sector, set_sector_buffer, read_sector, write_sector, translate};
 
 use crate::disks::header_of;

@@ -2,7 +2,7 @@
 
 ghost use Rattle.std.specs.Prelude.{◌≡◌};
 ghost use Rattle.cpm_memory.specs.Room.{HasRoomFor};
-ghost use Rattle.cpm_bdos.specs.Did.{did, call_returned, answered, rebooted};
+ghost use Rattle.cpm_bdos.specs.StepResult.{did, call_returned, answered, rebooted};
 
 use crate::registers::{put_result, return_to};
 use crate::session::{Mode, Session, Went};

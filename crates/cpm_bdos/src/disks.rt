@@ -5,7 +5,7 @@ ghost use Rattle.cpm_memory.specs.Room.{HasRoom};
 ghost use Rattle.cpm_memory.specs.DiskTables.{parameter_block_address};
 ghost use Rattle.cpm_drives.specs.Selecting.{drives_reset, protect};
 ghost use Rattle.cpm_drives.specs.Vectors.{login_vector, read_only_vector};
-ghost use Rattle.cpm_bdos.specs.Did.{did, answered};
+ghost use Rattle.cpm_bdos.specs.StepResult.{did, answered};
 ghost use Rattle.cpm_bdos.specs.Registers.{pair_de};
 ghost use Rattle.cpm_bdos.specs.Disks.{with_disks, by_answer, call_file_function, bios_table_of, vector_of};
 ghost use Rattle.cpm_bdos.specs.Disks.{format_in, header_of, reset_disks, select_disk, give_allocation, user_code};
@@ -48,7 +48,7 @@ impl Session {
 
     /// A function on the file control block at DE and the record at the buffer.
     #[tactic(auto, unfolding(crate::specs::Disks::call_file_function))]
-    pub(crate) fn file_function<M: Memory>(
+    pub(crate) fn call_file_function<M: Memory>(
         &mut self,
         memory: &mut M,
         system: &Image,

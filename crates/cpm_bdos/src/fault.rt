@@ -2,8 +2,8 @@
 
 ghost use Rattle.std.specs.Prelude.{◌≡◌, ◌≤◌, ◌+◌, length};
 ghost use Rattle.cpm_memory.specs.Room.{HasRoom};
-ghost use Rattle.cpm_console.specs.Terminal.{shown, IsWithin, step_output};
-ghost use Rattle.cpm_bdos.specs.Did.{did};
+ghost use Rattle.cpm_console.specs.Terminal.{shown, IsWithin, most_waiting, step_output};
+ghost use Rattle.cpm_bdos.specs.StepResult.{did};
 ghost use Rattle.cpm_bdos.specs.Keys.{first_key};
 ghost use Rattle.cpm_bdos.specs.Faults.{fault_name, in_fault, after_fault};
 
@@ -58,7 +58,7 @@ impl Session {
 /// Shows a text on the console alone.
 #[tactic(auto, using(crate::proofs::Showing::showing))]
 fn show_all(console: &mut Console, text: &[u8])
-    requires { length console.old.screen + length text.now ≤ 8192 }
+    requires { length console.old.screen + length text.now ≤ most_waiting }
     ensures { console.new ≡ shown console.old text.now }
 {
     for byte in text {

@@ -1,7 +1,7 @@
 //! Input from the console, and the console without echo.
 
 ghost use Rattle.std.specs.Prelude.{◌≡◌, ◌≤◌, length};
-ghost use Rattle.cpm_bdos.specs.Did.{did};
+ghost use Rattle.cpm_bdos.specs.StepResult.{did};
 ghost use Rattle.cpm_bdos.specs.Keys.{first_key, console_status};
 ghost use Rattle.cpm_bdos.specs.Input.{is_echoed, read_key, direct_console};
 ghost use Rattle.cpm_console.specs.Terminal.{step_output};

@@ -3,7 +3,7 @@
 ghost use Rattle.std.specs.Prelude.{◌≡◌, ◌≤◌, MatchOption, IfNone, length};
 ghost use Rattle.cpm_memory.specs.Contents.{Contents};
 ghost use Rattle.cpm_memory.specs.Room.{HasRoom};
-ghost use Rattle.cpm_bdos.specs.Did.{did};
+ghost use Rattle.cpm_bdos.specs.StepResult.{did};
 ghost use Rattle.cpm_bdos.specs.ReadLine.{LineReader, is_open, line_ended, line_step, edit_line, read_line};
 ghost use Rattle.cpm_bdos.specs.declared.session.Went.TheVariants.{Waits};
 ghost use Rattle.cpm_console.specs.Terminal.{step_output};
@@ -68,7 +68,7 @@ impl Session {
         Some(self.line.key_into_line(&mut self.console, key))
     }
 
-    /// Puts the line into memory behind the byte of its greatest length, and returns.
+    /// Puts the line into memory after the byte of its greatest length, and returns.
     fn end_line<M: Memory>(&mut self, memory: &mut M) -> Went
         requires { HasRoom (M.contents memory.old) }
         ensures step { did self.new (M.contents memory.new) result ≡ line_ended self.old (M.contents memory.old) }

@@ -2,7 +2,7 @@
 
 ghost use Rattle.std.specs.Prelude.{◌≡◌, ◌≤◌, length};
 ghost use Rattle.cpm_memory.specs.Room.{HasRoom};
-ghost use Rattle.cpm_bdos.specs.Did.{did, answered};
+ghost use Rattle.cpm_bdos.specs.StepResult.{did, answered};
 ghost use Rattle.cpm_bdos.specs.Keys.{first_key};
 ghost use Rattle.cpm_bdos.specs.Hold.{is_stop, stopped, release};
 ghost use Rattle.cpm_bdos.specs.Output.{list_byte, write_byte, write_text};

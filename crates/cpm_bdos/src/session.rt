@@ -39,7 +39,7 @@ pub enum HeldOutput {
 /// What the command processor does next. Its own crate does it; PC stays where it is called.
 #[derive(Clone, Copy, Debug, PartialEq, Eq)]
 pub enum CommandPart {
-    /// A key of the line behind the prompt.
+    /// A key of the line after the prompt.
     Line,
     /// The first part of the command on the line.
     Begin,
@@ -145,7 +145,7 @@ impl Session {
         }
     }
 
-    /// An equal session; refused for want of memory.
+    /// An equal session; refused if out of memory.
     pub fn copy(&self, alloc: Global) -> Result<Session, AllocError>
         ensures { IfOk result (λ session. session ≡ self.now) }
     {

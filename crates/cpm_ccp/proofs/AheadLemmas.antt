@@ -15,7 +15,7 @@ use Rattle.cpm_volume.specs.declared.extent.Entry.{Entry}
 use Rattle.cpm_volume.specs.declared.answer.Fault.{Fault as Failure}
 use Rattle.cpm_volume.specs.Encoding.{entry_of, entry_byte, entry_bytes}
 use Rattle.cpm_volume.specs.Files.{Volume, DiskWrite, entry_put, entry_at, no_entry, first_match, group_of, extent_number, block_number, entry_place_of}
-use Rattle.cpm_volume.specs.Operations.{Outcome, ends, gives, with_entry, has_bad_block, agree, merged, closed_entry, is_unchanged, Close, refused, close_fault, closed, close_extent, open_to_read, reading, Target, Place, stopped, standing, opened_in, have_extent, closed_in, cross, next_target, next_place, get_record, record_in_block, read_in, read_next_on_volume}
+use Rattle.cpm_volume.specs.Operations.{VolumeOutcome, ends, gives, with_entry, has_bad_block, agree, merged, closed_entry, is_unchanged, Close, refused, close_fault, closed, close_extent, open_to_read, reading, Target, Place, stopped, standing, opened_in, have_extent, closed_in, cross, next_target, next_place, get_record, record_in_block, read_in, read_next_on_volume}
 use Rattle.cpm_volume.specs.declared.answer.Answer.TheVariants.{Done as done, NoRecord as no_record, Fault as fault}
 use Rattle.cpm_volume.specs.declared.answer.Fault.TheVariants.{BadSector as bad_sector}
 use Rattle.cpm_directory.specs.Directory.{entries_of, slot_bytes, record_with_entry}
@@ -26,10 +26,10 @@ use Rattle.cpm_drive.proofs.ReadLemmas.{get_volume, in_block_there}
 
 -- ---- the answer and the record's number don't hang on the blocks that are reserved
 
-abbrev Same : Outcome → Outcome → Type 0
+abbrev Same : VolumeOutcome → VolumeOutcome → Type 0
 Same o p = (o.answer ≡ p.answer) × (o.read ≡ p.read)
 
-same_if : (b : Bool) (o p o' p' : Outcome) → Same o o' → Same p p' → Same (if b then o else p) (if b then o' else p')
+same_if : (b : Bool) (o p o' p' : VolumeOutcome) → Same o o' → Same p p' → Same (if b then o else p) (if b then o' else p')
 same_if true o p o' p' ho hp = ho
 same_if false o p o' p' ho hp = hp
 
@@ -66,41 +66,41 @@ same_read d protected disk r r' user x current =
 
 -- ---- what it answers: a record that is there, a fault, or that there is none
 
-pub record GivesOne (f : Format) (o : Outcome) : Type 0 where
+pub record GivesOne (f : Format) (o : VolumeOutcome) : Type 0 where
   pub number : ℕ
   pub answer : o.answer ≡ done
   pub read : o.read ≡ Some number
   pub there : IsRecord f number
 
-pub record Fails (o : Outcome) : Type 0 where
+pub record Fails (o : VolumeOutcome) : Type 0 where
   pub which : Failure
   pub answer : o.answer ≡ fault which
   pub read : o.read ≡ None
 
-pub record Ends (o : Outcome) : Type 0 where
+pub record Ends (o : VolumeOutcome) : Type 0 where
   pub answer : o.answer ≡ no_record
   pub read : o.read ≡ None
 
-abbrev pub Told : Format → Outcome → Type 0
-Told f o = GivesOne f o ⊎ (Fails o ⊎ Ends o)
+abbrev pub TellsOutcome : Format → VolumeOutcome → Type 0
+TellsOutcome f o = GivesOne f o ⊎ (Fails o ⊎ Ends o)
 
-told_if : (f : Format) (b : Bool) (o p : Outcome) → (b ≡ true → Told f o) → (b ≡ false → Told f p) → Told f (if b then o else p)
+told_if : (f : Format) (b : Bool) (o p : VolumeOutcome) → (b ≡ true → TellsOutcome f o) → (b ≡ false → TellsOutcome f p) → TellsOutcome f (if b then o else p)
 told_if f true o p ho hp = ho refl
 told_if f false o p ho hp = hp refl
 
-told_end : (f : Format) (v : Volume) (x : Extent) (current : ℕ) → Told f (ends no_record v x current)
+told_end : (f : Format) (v : Volume) (x : Extent) (current : ℕ) → TellsOutcome f (ends no_record v x current)
 unfolding ends
 told_end f v x current = inr (inr (record { answer = refl; read = refl }))
 
-told_fault : (f : Format) (which : Failure) (v : Volume) (x : Extent) (current : ℕ) → Told f (ends (fault which) v x current)
+told_fault : (f : Format) (which : Failure) (v : Volume) (x : Extent) (current : ℕ) → TellsOutcome f (ends (fault which) v x current)
 unfolding ends
 told_fault f which v x current = inr (inl (record { which = which; answer = refl; read = refl }))
 
-told_given : (f : Format) (v : Volume) (x : Extent) (next number : ℕ) → IsRecord f number → Told f (gives v x next number)
+told_given : (f : Format) (v : Volume) (x : Extent) (next number : ℕ) → IsRecord f number → TellsOutcome f (gives v x next number)
 unfolding gives
 told_given f v x next number there = inl (record { number = number; answer = refl; read = refl; there = there })
 
-told_get : (f : Format) (v : Volume) (x : Extent) (current next : ℕ) → Told f (get_record (dpb_of f) v x current next)
+told_get : (f : Format) (v : Volume) (x : Extent) (current next : ℕ) → TellsOutcome f (get_record (dpb_of f) v x current next)
 unfolding get_record
 told_get f v x current next =
     let d = dpb_of f in
@@ -108,52 +108,52 @@ told_get f v x current next =
     told_if f (not (nat_lt current x.record_count)) _ _ (λ h. told_end f v x current) (λ h. told_if f (nat_lt d.last_block b) _ _ (λ h. told_fault f bad_sector v x current) (λ low. told_if f (b == 0) _ _ (λ h. told_end f v x current) (λ h. told_given f v x next (record_in_block d b current) (in_block_there f b current (ltb-false d.last_block b low)))))
 
 module _ (f : Format) (current : ℕ) where
-  abbrev ToldAt : Place → Type 0
-  ToldAt p = Told f (read_in (dpb_of f) current 1 p)
+  abbrev TellsAt : Place → Type 0
+  TellsAt p = TellsOutcome f (read_in (dpb_of f) current 1 p)
 
-  told_at_if : (b : Bool) (p q : Place) → ToldAt p → ToldAt q → ToldAt (if b then p else q)
+  told_at_if : (b : Bool) (p q : Place) → TellsAt p → TellsAt q → TellsAt (if b then p else q)
   told_at_if true p q hp hq = hp
   told_at_if false p q hp hq = hq
 
-  told_missing : (v : Volume) (x : Extent) → ToldAt (stopped no_record v x)
+  told_missing : (v : Volume) (x : Extent) → TellsAt (stopped no_record v x)
   unfolding read_in
   told_missing v x = told_end f v x current
 
-  told_unwritten : (which : Failure) (v : Volume) (x : Extent) → ToldAt (stopped (fault which) v x)
+  told_unwritten : (which : Failure) (v : Volume) (x : Extent) → TellsAt (stopped (fault which) v x)
   unfolding read_in
   told_unwritten which v x = told_fault f which v x current
 
-  told_standing : (v : Volume) (x : Extent) (here : ℕ) → ToldAt (standing v x here)
+  told_standing : (v : Volume) (x : Extent) (here : ℕ) → TellsAt (standing v x here)
   unfolding read_in
   told_standing v x here = told_get f v x here (here + 1)
 
-  told_opened : (v : Volume) (x y : Extent) (o : Option Extent) → ToldAt (opened_in v x (next_target y) o)
+  told_opened : (v : Volume) (x y : Extent) (o : Option Extent) → TellsAt (opened_in v x (next_target y) o)
   unfolding opened_in next_target
   told_opened v x y None = told_missing v x
   told_opened v x y (Some it) = told_standing v it 0
 
-  told_closed : (v : Volume) (user : ℕ) (x : Extent) (c : Close) → ToldAt (closed_in (dpb_of f) reading v user x (next_target x) c)
+  told_closed : (v : Volume) (user : ℕ) (x : Extent) (c : Close) → TellsAt (closed_in (dpb_of f) reading v user x (next_target x) c)
   unfolding closed_in have_extent next_target
   told_closed v user x refused = told_missing v x
   told_closed v user x (close_fault which) = told_unwritten which v x
   told_closed v user x (closed i es y) = told_opened (with_entry v i es) y x _
 
-  pub told_read : (protected : Bool) (v : Volume) (user : ℕ) (x : Extent) → Told f (read_next_on_volume (dpb_of f) protected v user x current)
+  pub told_read : (protected : Bool) (v : Volume) (user : ℕ) (x : Extent) → TellsOutcome f (read_next_on_volume (dpb_of f) protected v user x current)
   unfolding read_next_on_volume next_place cross
   told_read protected v user x =
       told_at_if (nat_lt current 128) _ _ (told_standing v x current) (told_at_if (extent_number x == 511) _ _ (told_missing v x) (told_closed v user x (close_extent (dpb_of f) protected v.entries user x)))
 
 -- ---- what it writes: nothing, or an entry with the user that it had
 
-pub record WroteOne (es : List Entry) (ws : List DiskWrite) : Type 0 where
+pub record WritesOne (es : List Entry) (ws : List DiskWrite) : Type 0 where
   pub index : ℕ
   pub entry : Entry
   pub is : ws ≡ entry_put index entry ∷ []
   pub within : index < length es
   pub user : entry.user ≡ (entry_at es index).user
 
-abbrev pub Wrote : List Entry → List DiskWrite → Type 0
-Wrote es ws = (ws ≡ []) ⊎ WroteOne es ws
+abbrev pub WritesOneAtMost : List Entry → List DiskWrite → Type 0
+WritesOneAtMost es ws = (ws ≡ []) ⊎ WritesOne es ws
 
 abbrev Closes : List Entry → Close → Type 0
 Closes es refused = ⊤
@@ -194,10 +194,10 @@ read_volume d current (stopped answer v x) = refl
 read_volume d current (standing v x here) = get_volume d v x here (here + 1)
 
 module _ (d : Dpb) (disk : Disk) (r : List Bool) where
-  abbrev WroteAt : Place → Type 0
-  WroteAt p = Wrote (entries_of disk) (volume_at p).written
+  abbrev WritesFewAt : Place → Type 0
+  WritesFewAt p = WritesOneAtMost (entries_of disk) (volume_at p).written
 
-  wrote_if : (b : Bool) (p q : Place) → WroteAt p → WroteAt q → WroteAt (if b then p else q)
+  wrote_if : (b : Bool) (p q : Place) → WritesFewAt p → WritesFewAt q → WritesFewAt (if b then p else q)
   wrote_if true p q hp hq = hp
   wrote_if false p q hp hq = hq
 
@@ -206,26 +206,26 @@ module _ (d : Dpb) (disk : Disk) (r : List Bool) where
   opened_volume v x t None = refl
   opened_volume v x t (Some it) = refl
 
-  wrote_entry : (i : ℕ) (es : List Entry) → i < length (entries_of disk) → (entry_at es i).user ≡ (entry_at (entries_of disk) i).user → Wrote (entries_of disk) (with_entry (volume_of disk r) i es).written
+  wrote_entry : (i : ℕ) (es : List Entry) → i < length (entries_of disk) → (entry_at es i).user ≡ (entry_at (entries_of disk) i).user → WritesOneAtMost (entries_of disk) (with_entry (volume_of disk r) i es).written
   unfolding with_entry volume_of
   wrote_entry i es within user =
       inr (record { index = i; entry = entry_at es i; is = refl; within = within; user = user })
 
-  wrote_opened : (i : ℕ) (es : List Entry) (x : Extent) (t : Target) (o : Option Extent) → Wrote (entries_of disk) (with_entry (volume_of disk r) i es).written → WroteAt (opened_in (with_entry (volume_of disk r) i es) x t o)
+  wrote_opened : (i : ℕ) (es : List Entry) (x : Extent) (t : Target) (o : Option Extent) → WritesOneAtMost (entries_of disk) (with_entry (volume_of disk r) i es).written → WritesFewAt (opened_in (with_entry (volume_of disk r) i es) x t o)
   wrote_opened i es x t o h = rw (opened_volume (with_entry (volume_of disk r) i es) x t o) h
 
-  wrote_closed : (user : ℕ) (x : Extent) (t : Target) (c : Close) → Closes (entries_of disk) c → WroteAt (closed_in d reading (volume_of disk r) user x t c)
+  wrote_closed : (user : ℕ) (x : Extent) (t : Target) (c : Close) → Closes (entries_of disk) c → WritesFewAt (closed_in d reading (volume_of disk r) user x t c)
   unfolding closed_in have_extent volume_of
   wrote_closed user x t refused h = inl refl
   wrote_closed user x t (close_fault which) h = inl refl
   wrote_closed user x t (closed i es y) h = wrote_opened i es y t _ (wrote_entry i es h.0 h.1)
 
-  wrote_place : (protected : Bool) (user : ℕ) (x : Extent) (current : ℕ) → WroteAt (next_place d reading protected (volume_of disk r) user x current)
+  wrote_place : (protected : Bool) (user : ℕ) (x : Extent) (current : ℕ) → WritesFewAt (next_place d reading protected (volume_of disk r) user x current)
   unfolding next_place cross volume_of
   wrote_place protected user x current =
       wrote_if (nat_lt current 128) _ _ (inl refl) (wrote_if (extent_number x == 511) _ _ (inl refl) (wrote_closed user x (next_target x) (close_extent d protected (entries_of disk) user x) (closes_extent d protected (entries_of disk) user x)))
 
-  pub wrote_read : (protected : Bool) (user : ℕ) (x : Extent) (current : ℕ) → Wrote (entries_of disk) (read_next_on_volume d protected (volume_of disk r) user x current).volume.written
+  pub wrote_read : (protected : Bool) (user : ℕ) (x : Extent) (current : ℕ) → WritesOneAtMost (entries_of disk) (read_next_on_volume d protected (volume_of disk r) user x current).volume.written
   unfolding read_next_on_volume
   wrote_read protected user x current =
       rw (read_volume d current (next_place d reading protected (volume_of disk r) user x current)) (wrote_place protected user x current)
@@ -318,7 +318,7 @@ module _ (disk : Disk) (whole : IsDisk disk) (n : ℕ) (there : IsRecord disk.fo
   unfolding after_writes
   begins_unwritten = begins_itself
 
-  pub begins_after : (protected : Bool) (ws : List DiskWrite) → Wrote (entries_of disk) ws → BeginsAs (get_or (records_of disk) n []) (get_or (records_of (if protected then disk else after_writes ws disk)) n [])
+  pub begins_after : (protected : Bool) (ws : List DiskWrite) → WritesOneAtMost (entries_of disk) ws → BeginsAs (get_or (records_of disk) n []) (get_or (records_of (if protected then disk else after_writes ws disk)) n [])
   begins_after true ws h = begins_itself
   begins_after false ws (inl none) = rw none begins_unwritten
   begins_after false ws (inr one) = rw one.is (begins_after_write one.index one.entry one.within one.user)

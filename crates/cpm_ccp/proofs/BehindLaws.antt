@@ -14,7 +14,7 @@ use Rattle.cpm_drives.specs.Selecting.{drive_in_use}
 use Rattle.cpm_drives.specs.Calls.{drive_named}
 use Rattle.cpm_drives.specs.Files.{open_file, close_file, make_file, erase_files, rename_files, read_next, write_next, next_ahead}
 use Rattle.cpm_bdos.specs.Behind.{terminal_behind, session_behind, did_behind}
-use Rattle.cpm_bdos.specs.Did.{Did, did}
+use Rattle.cpm_bdos.specs.StepResult.{StepResult, did}
 use Rattle.cpm_bdos.specs.Faults.{in_fault, fault_text}
 use Rattle.cpm_bdos.specs.declared.session.Session.{Session}
 use Rattle.cpm_bdos.specs.declared.session.CommandPart.{CommandPart}
@@ -41,7 +41,7 @@ use Rattle.cpm_ccp.specs.Words.{first_word}
 use Rattle.cpm_ccp.specs.Step.{looks_first, begun_by, begun_command, in_part, command_in_mode, ccp}
 
 module _ (p q : List ℕ) where
-  did-if : (b : Bool) (x y x' y' : Did) → x' ≡ did_behind p q x → y' ≡ did_behind p q y → (if b then x' else y') ≡ did_behind p q (if b then x else y)
+  did-if : (b : Bool) (x y x' y' : StepResult) → x' ≡ did_behind p q x → y' ≡ did_behind p q y → (if b then x' else y') ≡ did_behind p q (if b then x else y)
   did-if true x y x' y' ex ey = ex
   did-if false x y x' y' ex ey = ey
 

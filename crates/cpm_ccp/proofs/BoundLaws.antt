@@ -19,7 +19,7 @@ use Rattle.cpm_drives.specs.Selecting.{drive_in_use}
 use Rattle.cpm_drives.specs.Calls.{drive_named}
 use Rattle.cpm_drives.specs.Files.{open_file, close_file, make_file, erase_files, rename_files, read_next, write_next, next_ahead}
 use Rattle.cpm_bdos.specs.Bounds.{IsFit, IsBounded}
-use Rattle.cpm_bdos.specs.Did.{Did, did}
+use Rattle.cpm_bdos.specs.StepResult.{StepResult, did}
 use Rattle.cpm_bdos.specs.ReadLine.{with_edited}
 use Rattle.cpm_bdos.specs.declared.session.Session.{Session}
 use Rattle.cpm_bdos.specs.declared.session.CommandPart.{CommandPart}
@@ -47,7 +47,7 @@ use Rattle.cpm_ccp.specs.Step.{looks_first, begun_by, begun_command, in_part, co
 use Rattle.cpm_ccp.proofs.TextLemmas.{first_word-le, tail_of-le}
 use Rattle.cpm_ccp.proofs.StartLemmas.{length-line_of, pages_started, limit_started}
 
-bounded_if : (b : Bool) (s : Session) (m : Contents) (x y : Did) → IsBounded s m x → IsBounded s m y → IsBounded s m (if b then x else y)
+bounded_if : (b : Bool) (s : Session) (m : Contents) (x y : StepResult) → IsBounded s m x → IsBounded s m y → IsBounded s m (if b then x else y)
 bounded_if true s m x y hx hy = hx
 bounded_if false s m x y hx hy = hy
 

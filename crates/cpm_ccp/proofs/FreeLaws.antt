@@ -8,7 +8,7 @@ use Rattle.cpm_volume.specs.declared.fcb.Fcb.{Fcb}
 use Rattle.cpm_volume.specs.declared.answer.Fault.{Fault as Failure}
 use Rattle.cpm_drives.specs.Disks.{is_there}
 use Rattle.cpm_drives.specs.Files.{open_file, close_file, make_file, erase_files, rename_files, read_next, write_next, next_ahead}
-use Rattle.cpm_bdos.specs.Did.{Did}
+use Rattle.cpm_bdos.specs.StepResult.{StepResult}
 use Rattle.cpm_bdos.specs.Laws.{is_hold}
 use Rattle.cpm_bdos.specs.declared.session.Session.{Session}
 use Rattle.cpm_bdos.specs.declared.session.CommandPart.{CommandPart}
@@ -32,14 +32,14 @@ use Rattle.cpm_ccp.specs.Laws.{looks_for_stop, looks_in, command_now}
 abbrev Free : Session → Type 0
 Free s = is_hold s.mode ≡ false
 
-abbrev StepFree : Did → Type 0
+abbrev StepFree : StepResult → Type 0
 StepFree d = is_hold d.session.mode ≡ false
 
 free_if : (b : Bool) (x y : Session) → Free x → Free y → Free (if b then x else y)
 free_if true x y hx hy = hx
 free_if false x y hx hy = hy
 
-step_if : (b : Bool) (x y : Did) → StepFree x → StepFree y → StepFree (if b then x else y)
+step_if : (b : Bool) (x y : StepResult) → StepFree x → StepFree y → StepFree (if b then x else y)
 step_if true x y hx hy = hx
 step_if false x y hx hy = hy
 
@@ -50,7 +50,7 @@ free_unless true true x y (inr h) hy = absurd cc
 free_unless true false x y (inr h) hy = hy
 free_unless false looks x y h hy = hy
 
-step_unless : (stop looks : Bool) (x y : Did) → (stop ≡ false) ⊎ (looks ≡ false) → StepFree y → StepFree (if stop && looks then x else y)
+step_unless : (stop looks : Bool) (x y : StepResult) → (stop ≡ false) ⊎ (looks ≡ false) → StepFree y → StepFree (if stop && looks then x else y)
 step_unless true looks x y (inl h) hy = absurd cc
 step_unless true true x y (inr h) hy = absurd cc
 step_unless true false x y (inr h) hy = hy

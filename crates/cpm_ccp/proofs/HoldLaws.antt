@@ -9,7 +9,7 @@ use Rattle.cpm_volume.specs.declared.answer.Fault.TheVariants as failure
 use Rattle.cpm_volume.specs.Files.{entry_at}
 use Rattle.cpm_drives.specs.Disks.{is_there}
 use Rattle.cpm_drives.specs.Files.{read_next, next_ahead}
-use Rattle.cpm_bdos.specs.Did.{Did}
+use Rattle.cpm_bdos.specs.StepResult.{StepResult}
 use Rattle.cpm_bdos.specs.Faults.{in_fault}
 use Rattle.cpm_bdos.specs.Laws.{session_with_keys, without_keys, did_with_keys}
 use Rattle.cpm_bdos.specs.declared.session.Session.{Session}
@@ -124,7 +124,7 @@ first_grows typed.UserForm system s m h = absurd cc
 first_grows (typed.Program file) system s m h = absurd cc
 first_grows typed.Unknown system s m h = absurd cc
 
-first_held : (stop looks : Bool) (x y : Did) → stop ≡ true → looks ≡ true → (if stop && looks then x else y) ≡ x
+first_held : (stop looks : Bool) (x y : StepResult) → stop ≡ true → looks ≡ true → (if stop && looks then x else y) ≡ x
 first_held true true x y h k = refl
 first_held true false x y h k = absurd cc
 first_held false looks x y h k = absurd cc

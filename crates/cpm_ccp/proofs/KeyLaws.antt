@@ -13,7 +13,7 @@ use Rattle.cpm_drives.specs.Disks.{is_there}
 use Rattle.cpm_drives.specs.Selecting.{drive_in_use}
 use Rattle.cpm_drives.specs.Calls.{drive_named}
 use Rattle.cpm_drives.specs.Files.{open_file, close_file, make_file, erase_files, rename_files, read_next, write_next, next_ahead}
-use Rattle.cpm_bdos.specs.Did.{Did}
+use Rattle.cpm_bdos.specs.StepResult.{StepResult}
 use Rattle.cpm_bdos.specs.KeysTaken.{IsFromFront}
 use Rattle.cpm_bdos.specs.declared.session.Session.{Session}
 use Rattle.cpm_bdos.specs.declared.session.CommandPart.{CommandPart}
@@ -45,10 +45,10 @@ takes_if : (b : Bool) (s x y : Session) → Takes s x → Takes s y → Takes s 
 takes_if true s x y hx hy = hx
 takes_if false s x y hx hy = hy
 
-abbrev StepTakes : Session → Did → Type 0
+abbrev StepTakes : Session → StepResult → Type 0
 StepTakes s d = Takes s d.session
 
-step_if : (b : Bool) (s : Session) (x y : Did) → StepTakes s x → StepTakes s y → StepTakes s (if b then x else y)
+step_if : (b : Bool) (s : Session) (x y : StepResult) → StepTakes s x → StepTakes s y → StepTakes s (if b then x else y)
 step_if true s x y hx hy = hx
 step_if false s x y hx hy = hy
 

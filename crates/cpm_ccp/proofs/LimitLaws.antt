@@ -9,7 +9,7 @@ use Rattle.cpm_memory.proofs.Runs.{limit-run}
 use Rattle.cpm_volume.specs.declared.answer.Fault.{Fault as Failure}
 use Rattle.cpm_drives.specs.Disks.{is_there}
 use Rattle.cpm_drives.specs.Files.{read_next}
-use Rattle.cpm_bdos.specs.Did.{Did}
+use Rattle.cpm_bdos.specs.StepResult.{StepResult}
 use Rattle.cpm_bdos.specs.declared.session.Session.{Session}
 use Rattle.cpm_bdos.specs.declared.session.CommandPart.{CommandPart}
 use Rattle.cpm_bdos.specs.declared.session.CommandPart.TheVariants as part
@@ -27,10 +27,10 @@ use Rattle.cpm_ccp.specs.Step.{looks_first, begun_by, begun_command, in_part, co
 use Rattle.cpm_ccp.specs.Laws.{LimitLaw}
 use Rattle.cpm_ccp.proofs.StartLemmas.{limit_started}
 
-abbrev KeepsLimit : Contents → Did → Type 0
+abbrev KeepsLimit : Contents → StepResult → Type 0
 KeepsLimit m d = d.memory.limit ≡ m.limit
 
-limit_if : (b : Bool) (m : Contents) (x y : Did) → KeepsLimit m x → KeepsLimit m y → KeepsLimit m (if b then x else y)
+limit_if : (b : Bool) (m : Contents) (x y : StepResult) → KeepsLimit m x → KeepsLimit m y → KeepsLimit m (if b then x else y)
 limit_if true m x y hx hy = hx
 limit_if false m x y hx hy = hy
 

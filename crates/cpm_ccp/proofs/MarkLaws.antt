@@ -17,7 +17,7 @@ use Rattle.cpm_drives.specs.Disks.{is_there, own_drive, system_drive, drive_at, 
 use Rattle.cpm_drives.specs.Selecting.{ready}
 use Rattle.cpm_drives.specs.Calls.{OnDrive, FileCall, on_named_drive, drive_named}
 use Rattle.cpm_drives.specs.Files.{open_file_on, read_next_on, open_file, read_next, next_ahead}
-use Rattle.cpm_bdos.specs.Did.{Did}
+use Rattle.cpm_bdos.specs.StepResult.{StepResult}
 use Rattle.cpm_bdos.specs.declared.session.Session.{Session}
 use Rattle.cpm_bdos.specs.declared.session.CommandPart.TheVariants as part
 use Rattle.cpm_bdos.specs.declared.session.Mode.{Mode}
@@ -31,8 +31,8 @@ use Rattle.cpm_ccp.specs.declared.command.Command.{Command as Typed}
 use Rattle.cpm_ccp.specs.declared.command.Command.TheVariants as typed
 
 -- the drives and the file control block of a call
-abbrev Marked : Disks → ℕ → Type 0
-Marked disks dr = own_drive disks (drive_named disks dr) ≡ None → disks.system.is_protected ≡ true
+abbrev IsLentProtected : Disks → ℕ → Type 0
+IsLentProtected disks dr = own_drive disks (drive_named disks dr) ≡ None → disks.system.is_protected ≡ true
 
 -- a call that keeps the protection of its drive and the drive of its file
 record Keeps (call : Drive → OnDrive) (dr : ℕ) : Type 0 where
@@ -60,11 +60,11 @@ none_of : (o : Option Drive) → is_some o ≡ false → o ≡ None
 none_of None h = refl
 none_of (Some drive) h = absurd cc
 
-marked_if : (b : Bool) (x y : Disks) (dr : ℕ) → (b ≡ true → Marked x dr) → (b ≡ false → Marked y dr) → Marked (if b then x else y) dr
+marked_if : (b : Bool) (x y : Disks) (dr : ℕ) → (b ≡ true → IsLentProtected x dr) → (b ≡ false → IsLentProtected y dr) → IsLentProtected (if b then x else y) dr
 marked_if true x y dr hx hy = hx refl
 marked_if false x y dr hx hy = hy refl
 
-marked_with : (disks : Disks) (dr : ℕ) (drive : Drive) → (own_drive disks (drive_named disks dr) ≡ None → drive.marks.is_protected ≡ true) → Marked (with_drive disks (drive_named disks dr) drive) dr
+marked_with : (disks : Disks) (dr : ℕ) (drive : Drive) → (own_drive disks (drive_named disks dr) ≡ None → drive.marks.is_protected ≡ true) → IsLentProtected (with_drive disks (drive_named disks dr) drive) dr
 unfolding with_drive own_drive drive_named
 marked_with disks dr drive h =
     marked_if (is_some (own_drive disks (drive_named disks dr))) _ _ dr (λ is gone. absurd (still_own disks.drives (drive_named disks dr) drive is gone)) (λ is gone. h (none_of _ is))
@@ -75,7 +75,7 @@ module _ (call : Drive → OnDrive) (disks : Disks) (system : Disk) (dr : ℕ) (
   call_protected none =
       keeps.protected _ ∙ rw none (system_ready disks system)
 
-  marked_there : Marked (with_drive disks (drive_named disks dr) (call (ready (drive_at disks system (drive_named disks dr)))).drive) (call (ready (drive_at disks system (drive_named disks dr)))).fcb.drive
+  marked_there : IsLentProtected (with_drive disks (drive_named disks dr) (call (ready (drive_at disks system (drive_named disks dr)))).drive) (call (ready (drive_at disks system (drive_named disks dr)))).fcb.drive
   marked_there =
       rw (keeps.file (ready (drive_at disks system (drive_named disks dr)))) (marked_with disks dr (call (ready (drive_at disks system (drive_named disks dr)))).drive call_protected)
 
@@ -98,7 +98,7 @@ marked_opened (Ok code) s h = session_if (code == 255) _ _ h h
     session_if true x y hx hy = hx
     session_if false x y hx hy = hy
 
-begun_if : (b : Bool) (c d : FileCall) (s : Session) → d.answer ≡ Err failure.Select → Marked c.disks c.fcb.drive → (showing.after_type_open (if b then c else d).answer (with_call s (if b then c else d))).mode ≡ Command part.Show → IsMarked (showing.after_type_open (if b then c else d).answer (with_call s (if b then c else d)))
+begun_if : (b : Bool) (c d : FileCall) (s : Session) → d.answer ≡ Err failure.Select → IsLentProtected c.disks c.fcb.drive → (showing.after_type_open (if b then c else d).answer (with_call s (if b then c else d))).mode ≡ Command part.Show → IsMarked (showing.after_type_open (if b then c else d).answer (with_call s (if b then c else d)))
 begun_if true c d s e h shows = marked_opened c.answer (with_call s c) h
 begun_if false c d s e h shows = absurd (let x = rw e at shows in cc)
 
@@ -122,11 +122,11 @@ marked_read (Ok code) bytes s h =
     session_if true x y hx hy = hx
     session_if false x y hx hy = hy
 
-called_if : (b : Bool) (c d : FileCall) → Marked c.disks c.fcb.drive → Marked d.disks d.fcb.drive → Marked (if b then c else d).disks (if b then c else d).fcb.drive
+called_if : (b : Bool) (c d : FileCall) → IsLentProtected c.disks c.fcb.drive → IsLentProtected d.disks d.fcb.drive → IsLentProtected (if b then c else d).disks (if b then c else d).fcb.drive
 called_if true c d hc hd = hc
 called_if false c d hc hd = hd
 
-marked_call : (system : Disk) (s : Session) → IsMarked s → Marked (read_next s.disks system s.file own_record).disks (read_next s.disks system s.file own_record).fcb.drive
+marked_call : (system : Disk) (s : Session) → IsMarked s → IsLentProtected (read_next s.disks system s.file own_record).disks (read_next s.disks system s.file own_record).fcb.drive
 unfolding read_next on_named_drive
 marked_call system s h =
     called_if (is_there s.disks (command_drive s)) _ _ (marked_there (read_next_on s.disks.user s.file own_record) s.disks system s.file.drive (read_keeps s.disks.user s.file own_record)) h
@@ -148,7 +148,7 @@ marked_shown system s h =
 
 -- ---- steps
 
-begun_marked : (stop : Bool) (held : Did) (command : Typed) (file : Fcb) (system : Disk) (s : Session) (m : Contents) → stop ≡ false → command ≡ typed.TypeFile file → (if stop && looks_first command then held else begun_by command system s m).session.mode ≡ Command part.Show → IsMarked (if stop && looks_first command then held else begun_by command system s m).session
+begun_marked : (stop : Bool) (held : StepResult) (command : Typed) (file : Fcb) (system : Disk) (s : Session) (m : Contents) → stop ≡ false → command ≡ typed.TypeFile file → (if stop && looks_first command then held else begun_by command system s m).session.mode ≡ Command part.Show → IsMarked (if stop && looks_first command then held else begun_by command system s m).session
 begun_marked true held command file system s m stop is shows = absurd cc
 begun_marked false held command file system s m stop is shows =
     rw is (marked_begun system file s (rw is at shows))

@@ -13,7 +13,7 @@ use Rattle.cpm_volume.specs.declared.answer.Answer.TheVariants as answer
 use Rattle.cpm_volume.specs.declared.answer.Fault.{Fault as Failure}
 use Rattle.cpm_volume.specs.declared.answer.Fault.TheVariants as failure
 use Rattle.cpm_volume.specs.Files.{entry_at}
-use Rattle.cpm_volume.specs.Operations.{Outcome}
+use Rattle.cpm_volume.specs.Operations.{VolumeOutcome}
 use Rattle.cpm_volume.specs.Operations as operations
 use Rattle.cpm_directory.specs.Directory.{entries_of}
 use Rattle.cpm_drive.specs.declared.drive.Drive.{Drive}
@@ -35,7 +35,7 @@ use Rattle.cpm_ccp.specs.Parts.{says, message_told, own_record, record_read, com
 use Rattle.cpm_ccp.specs.Listing.{before_file, low_seven, file_text, entries_listed, next_listed, has_next, file_shown, drive_used, list_next, shows_file}
 use Rattle.cpm_ccp.specs.Showing.{after_type_open, show_begun, ends_text, record_text, ends_in, wrote_all, record_shown, after_type_read, next_shown, shows_record}
 use Rattle.cpm_ccp.specs.Laws.{IsInUse}
-use Rattle.cpm_ccp.proofs.AheadLemmas.{same_read, Told, told_read, Wrote, wrote_read, BeginsAs, begins_after}
+use Rattle.cpm_ccp.proofs.AheadLemmas.{same_read, TellsOutcome, told_read, WritesOneAtMost, wrote_read, BeginsAs, begins_after}
 
 -- a step shows something, or nothing
 abbrev pub Grows : Session → Session → Type 0
@@ -239,7 +239,7 @@ same_look old new b =
 
 -- the outcome that is looked at ahead, and the one of the read: the same answer and number
 module _ (here : Drive) (whole : IsDisk here.image) (fcb : Fcb) (buffer : List ℕ) (disk : Disk) (same : disk ≡ here.image) where
-  agrees_by : (o p : Outcome) → o.answer ≡ p.answer → o.read ≡ p.read → Told here.image.format p → ((n : ℕ) → IsRecord here.image.format n → BeginsAs (get_or (records_of here.image) n []) (get_or (records_of (drive_after here p.volume).image) n [])) → Agrees (shows_record (record_ahead disk o.answer o.read)) (code_of_answer (after_call here fcb buffer p).answer) (take 128 (after_call here fcb buffer p).buffer)
+  agrees_by : (o p : VolumeOutcome) → o.answer ≡ p.answer → o.read ≡ p.read → TellsOutcome here.image.format p → ((n : ℕ) → IsRecord here.image.format n → BeginsAs (get_or (records_of here.image) n []) (get_or (records_of (drive_after here p.volume).image) n [])) → Agrees (shows_record (record_ahead disk o.answer o.read)) (code_of_answer (after_call here fcb buffer p).answer) (take 128 (after_call here fcb buffer p).buffer)
   unfolding after_call
   agrees_by o p answers reads (inl g) begins =
       let b = begins g.number g.there in
@@ -250,7 +250,7 @@ module _ (here : Drive) (whole : IsDisk here.image) (fcb : Fcb) (buffer : List �
       rw (answers, reads, e.answer, e.read) (inr (inl (record { is = refl; shows = refl })))
 
 module _ (user : ℕ) (fcb : Fcb) (buffer : List ℕ) where
-  after_image : (here : Drive) (o : Outcome) → IsDisk here.image → Wrote (entries_of here.image) o.volume.written → (n : ℕ) → IsRecord here.image.format n → BeginsAs (get_or (records_of here.image) n []) (get_or (records_of (drive_after here o.volume).image) n [])
+  after_image : (here : Drive) (o : VolumeOutcome) → IsDisk here.image → WritesOneAtMost (entries_of here.image) o.volume.written → (n : ℕ) → IsRecord here.image.format n → BeginsAs (get_or (records_of here.image) n []) (get_or (records_of (drive_after here o.volume).image) n [])
   unfolding drive_after
   after_image here o whole wrote n there =
       begins_after here.image whole n there here.marks.is_protected o.volume.written wrote

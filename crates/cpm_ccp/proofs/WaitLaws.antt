@@ -7,7 +7,7 @@ use Rattle.cpm_memory.specs.Contents.{Contents, byte_at, run_at}
 use Rattle.cpm_volume.specs.declared.answer.Fault.{Fault as Failure}
 use Rattle.cpm_drives.specs.Disks.{is_there}
 use Rattle.cpm_drives.specs.Files.{read_next}
-use Rattle.cpm_bdos.specs.Did.{Did, did}
+use Rattle.cpm_bdos.specs.StepResult.{StepResult, did}
 use Rattle.cpm_bdos.specs.Keys.{first_key}
 use Rattle.cpm_bdos.specs.ReadLine.{is_open}
 use Rattle.cpm_bdos.specs.Waiting.{part_needs_key, needs_key, is_command}
@@ -31,10 +31,10 @@ use Rattle.cpm_ccp.specs.Loading.{unknown, load_begun, after_load_read, load_rec
 use Rattle.cpm_ccp.specs.Step.{looks_first, begun_by, begun_command, in_part, command_in_mode}
 use Rattle.cpm_ccp.specs.Laws.{WaitsForKeys}
 
-abbrev Goes : Did → Type 0
+abbrev Goes : StepResult → Type 0
 Goes d = d.went ≡ Waits → ⊥
 
-goes_if : (b : Bool) (x y : Did) → Goes x → Goes y → Goes (if b then x else y)
+goes_if : (b : Bool) (x y : StepResult) → Goes x → Goes y → Goes (if b then x else y)
 goes_if true x y hx hy = hx
 goes_if false x y hx hy = hy
 

@@ -3,7 +3,7 @@ use Rattle.std.specs.Prelude.{◌≡◌, ◌≢◌, Bool, true, false, ⊤, None
 use Rattle.cpm_geom.specs.Disk.{Disk, IsDisk}
 use Rattle.cpm_memory.specs.Contents.{Contents}
 use Rattle.cpm_drives.specs.Disks.{own_drive, drive_at}
-use Rattle.cpm_bdos.specs.Did.{did}
+use Rattle.cpm_bdos.specs.StepResult.{did}
 use Rattle.cpm_bdos.specs.Waiting.{is_command, is_waiting}
 use Rattle.cpm_bdos.specs.Laws.{without_keys, did_with_keys, is_hold}
 use Rattle.cpm_bdos.specs.declared.session.Session.{Session}

@@ -8,7 +8,7 @@ use Rattle.cpm_console.specs.Editing.{begun_line}
 use Rattle.cpm_memory.specs.Contents.{Contents}
 use Rattle.cpm_drives.specs.declared.disks.Disks.{Disks}
 use Rattle.cpm_drives.specs.Calls.{FileCall, drive_named}
-use Rattle.cpm_bdos.specs.Did.{Did, did}
+use Rattle.cpm_bdos.specs.StepResult.{StepResult, did}
 use Rattle.cpm_bdos.specs.Keys.{first_key}
 use Rattle.cpm_bdos.specs.Faults.{in_fault}
 use Rattle.cpm_bdos.specs.Hold.{is_stop, stopped}
@@ -37,7 +37,7 @@ went_of Program = Returned
 went_of _ = GoesOn
 
 -- a part that stored nothing in memory
-abbrev pub stepped : Session → Contents → Did
+abbrev pub stepped : Session → Contents → StepResult
 stepped s m = did s m (went_of s.mode)
 
 -- own: what the command processor shows goes to the list device too while it echoes

@@ -1,4 +1,4 @@
--- The prompt, the line behind it, and the commands that leave it another drive or user.
+-- The prompt, the line after it, and the commands that leave it another drive or user.
 -- CP/M 2.2 Operating System Manual, section 1.4, Built-in Commands; own: the user and the drive lie at 0004h, each in four bits.
 use Rattle.std.specs.Prelude.{ℕ, ◌+◌, ◌*◌, ◌/◌, ◌%◌, List, [], ◌∷◌, if◌then◌else◌}
 use Rattle.cpm_geom.specs.Disk.{Disk}
@@ -10,7 +10,7 @@ use Rattle.cpm_memory.specs.Layout.{default_buffer_address, user_and_drive_addre
 use Rattle.cpm_drives.specs.declared.disks.Disks.{Disks}
 use Rattle.cpm_drives.specs.Disks.{is_there}
 use Rattle.cpm_drives.specs.Selecting.{drive_in_use}
-use Rattle.cpm_bdos.specs.Did.{Did, did, rebooted}
+use Rattle.cpm_bdos.specs.StepResult.{StepResult, did, rebooted}
 use Rattle.cpm_bdos.specs.Faults.{faulted}
 use Rattle.cpm_bdos.specs.ReadLine.{line_step}
 use Rattle.cpm_bdos.specs.declared.session.Session.{Session}
@@ -41,13 +41,13 @@ prompted system byte s =
 
 -- ---- a line, and the part that comes after it
 
-abbrev pub prompt_after_key : CommandPart → LineState → Session → Contents → Did
+abbrev pub prompt_after_key : CommandPart → LineState → Session → Contents → StepResult
 prompt_after_key next line.GoesOn s m = did s m GoesOn
 prompt_after_key next line.Ended s m = did (at_part s next) m GoesOn
 prompt_after_key next line.Interrupted s m = rebooted s m
 
 -- a step of the line, as by function 10 of the BDOS
-abbrev pub edit_command_line : CommandPart → Session → Contents → Did
+abbrev pub edit_command_line : CommandPart → Session → Contents → StepResult
 edit_command_line next s m = line_step (prompt_after_key next) s.line s m
 
 -- ---- a drive's letter, and USER
@@ -60,13 +60,13 @@ abbrev pub with_user : ℕ → ℕ → ℕ
 with_user user byte = 16 * user + byte % 16
 
 -- section 1, d: a drive that is not there is a fault
-abbrev pub drive_selected : ℕ → Session → Contents → Did
+abbrev pub drive_selected : ℕ → Session → Contents → StepResult
 drive_selected drive s m =
     if is_there s.disks drive
     then did (finished s) (after_change m user_and_drive_address (with_drive_and_user drive (byte_at m user_and_drive_address))) Returned
     else faulted s m Select drive
 
 -- section 1, USER
-abbrev pub user_selected : ℕ → Session → Contents → Did
+abbrev pub user_selected : ℕ → Session → Contents → StepResult
 user_selected user s m =
     did (finished s) (after_change m user_and_drive_address (with_user user (byte_at m user_and_drive_address))) Returned

@@ -2,7 +2,7 @@
 use Rattle.std.specs.Prelude.{Bool, true, false, ◌&&◌, if◌then◌else◌}
 use Rattle.cpm_geom.specs.Disk.{Disk}
 use Rattle.cpm_memory.specs.Contents.{Contents, byte_at, run_at}
-use Rattle.cpm_bdos.specs.Did.{Did, did}
+use Rattle.cpm_bdos.specs.StepResult.{StepResult, did}
 use Rattle.cpm_bdos.specs.declared.session.Session.{Session}
 use Rattle.cpm_bdos.specs.declared.session.CommandPart.{CommandPart}
 use Rattle.cpm_bdos.specs.declared.session.CommandPart.TheVariants as part
@@ -22,7 +22,7 @@ use Rattle.cpm_ccp.specs.Showing.{show_begun, shown_on}
 use Rattle.cpm_ccp.specs.Loading.{unknown, load_begun, load_record}
 
 -- the first step of each command
-abbrev pub begun_by : Command → Disk → Session → Contents → Did
+abbrev pub begun_by : Command → Disk → Session → Contents → StepResult
 begun_by Nothing system s m = stepped (finished s) m
 begun_by (SelectDrive drive) system s m = drive_selected drive s m
 begun_by (Directory file) system s m = stepped (list_next system 0 0 true (on_file s file)) m
@@ -46,12 +46,12 @@ looks_first (TypeFile file) = true
 looks_first TypeForm = true
 looks_first _ = false
 
-abbrev pub begun_command : Command → Disk → Session → Contents → Did
+abbrev pub begun_command : Command → Disk → Session → Contents → StepResult
 begun_command command system s m =
     if is_stopped s && looks_first command then stepped (held_at_part s part.Begin) m else begun_by command system s m
 
 -- one part of the command processor
-abbrev pub in_part : CommandPart → Disk → Session → Contents → Did
+abbrev pub in_part : CommandPart → Disk → Session → Contents → StepResult
 in_part part.Line system s m = edit_command_line part.Begin s m
 in_part part.Begin system s m = begun_command (command_of s.disks.current (typed_line s)) system s m
 in_part (part.Directory next column) system s m = stepped (listed_on system next column s) m
@@ -63,10 +63,10 @@ in_part part.Show system s m = stepped (shown_on system s) m
 in_part (part.Load next) system s m = load_record system next s m
 
 -- own: in a program the command processor is called, and prompts; the modes of other calls are not its own
-abbrev pub command_in_mode : Mode → Disk → Session → Contents → Did
+abbrev pub command_in_mode : Mode → Disk → Session → Contents → StepResult
 command_in_mode mode.Program system s m = stepped (prompted system (byte_at m 4) s) m
 command_in_mode (mode.Command part) system s m = in_part part system s m
 command_in_mode _ system s m = did s m GoesOn
 
-abbrev pub ccp : Disk → Session → Contents → Did
+abbrev pub ccp : Disk → Session → Contents → StepResult
 ccp system s m = command_in_mode s.mode system s m

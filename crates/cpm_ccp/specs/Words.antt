@@ -12,11 +12,11 @@ is_space c = c == 0x20
 unfoldable pub first_word : List ℕ → List ℕ
 first_word line = before_first is_space (after_spaces line)
 
--- all that stands behind the first word, its spaces too
+-- all that stands after the first word, its spaces too
 unfoldable pub tail_of : List ℕ → List ℕ
 tail_of line = drop (position_or_len is_space (after_spaces line)) (after_spaces line)
 
--- CP/M 2.2 Operating System Manual, section 1.3, Switching Disks: a drive's letter and a colon; own: nothing but spaces behind them
+-- CP/M 2.2 Operating System Manual, section 1.3, Switching Disks: a drive's letter and a colon; own: nothing but spaces after them
 unfoldable pub is_drive_alone : List ℕ → List ℕ → Bool
 is_drive_alone word tail = (length word == 2) && (is_drive word && list_all is_space tail)
 

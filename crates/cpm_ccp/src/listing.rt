@@ -2,7 +2,7 @@
 
 ghost use Rattle.std.specs.Prelude.{◌≡◌, ◌+◌, ◌<◌, ◌≤◌, MatchOption, length, map};
 ghost use Rattle.cpm_geom.specs.Geometry.{dpb_of};
-ghost use Rattle.cpm_console.specs.Terminal.{said, step_output};
+ghost use Rattle.cpm_console.specs.Terminal.{said, most_waiting, step_output};
 ghost use Rattle.cpm_directory.specs.Directory.{entries_of};
 ghost use Rattle.cpm_ccp.specs.Listing.{is_listed, listed_from, before_file, low_seven, file_text, entries_listed, next_listed};
 ghost use Rattle.cpm_ccp.specs.Listing.{has_next, file_shown, listing_ended, drive_used, list_next, shows_file, listed_on};
@@ -58,8 +58,8 @@ fn next_listed(session: &Session, system: &Image, from: u16) -> Option<u16>
 /// Shows characters with their high bits off.
 #[tactic(auto, using(crate::proofs::Texts::texts))]
 fn say_low_seven(console: &mut Console, text: &[u8])
-    requires screen { length console.old.screen + length text.now ≤ 8192 }
-    requires printer { length console.old.printer + length text.now ≤ 8192 }
+    requires screen { length console.old.screen + length text.now ≤ most_waiting }
+    requires printer { length console.old.printer + length text.now ≤ most_waiting }
     ensures { console.new ≡ said console.old (map low_seven text.now) }
 {
     for character in text {

@@ -3,7 +3,7 @@
 ghost use Rattle.std.specs.Prelude.{◌≡◌, ◌+◌, ◌≤◌, ℕ, List, [], ◌∷◌, ◌++◌, length};
 ghost use Rattle.cpm_memory.specs.Contents.{after_run};
 ghost use Rattle.cpm_memory.specs.Room.{HasRoom, HasRoomFor};
-ghost use Rattle.cpm_bdos.specs.Did.{did};
+ghost use Rattle.cpm_bdos.specs.StepResult.{did};
 ghost use Rattle.cpm_bdos.specs.Bounds.{IsBounded};
 ghost use Rattle.cpm_bdos.specs.Behind.{session_behind, did_behind};
 ghost use Rattle.cpm_ccp.specs.Loading.{unknown, load_begun, name_bytes, default_files, memory_started, started, record_loaded, load_record, load};
@@ -72,7 +72,7 @@ fn default_files(tail: &[u8]) -> [u8; 33]
     bytes
 }
 
-/// Puts the tail of a line into the buffer, its length in front and a 0 behind it.
+/// Puts the tail of a line into the buffer, its length in front and a 0 after it.
 fn fill_buffer<M: Memory>(memory: &mut M, tail: &[u8])
     requires short { length tail.now ≤ 255 }
     requires room { HasRoomFor 5 (M.contents memory.old) }
@@ -169,7 +169,7 @@ pub fn load_step<M: Memory>(session: &mut Session, memory: &mut M, system: &Imag
     ensures leads { M.Leads memory.old memory.new }
     ensures bounds { IsBounded session.old (M.contents memory.old) (did session.new (M.contents memory.new) result) }
 
-    // Output that waits already changes nothing in a step, which shows its own behind it.
+    // Output that waits already changes nothing in a step, which shows its own after it.
     ensures behind { (p q : List ℕ) → load system.now (session_behind p q session.old) (M.contents memory.old)
         ≡ did_behind p q (did session.new (M.contents memory.new) result) }
 {

@@ -52,7 +52,7 @@ pub(crate) fn rename_of(current: u8, tail: &[u8]) -> Command
     Command::Rename { old, new }
 }
 
-/// The text behind `=`, or `_` in its place; spaces in front are skipped.
+/// The text after `=`, or `_` in its place; spaces in front are skipped.
 #[tactic(auto, unfolding(crate::specs::Command::behind_equals))]
 fn behind_equals(text: &[u8]) -> Option<&[u8]>
     ensures { option_map (λ p. p.now) result ≡ behind_equals text.now }

@@ -1,9 +1,9 @@
-//! The prompt, the line behind it, and the commands that leave it another drive or user.
+//! The prompt, the line after it, and the commands that leave it another drive or user.
 
 ghost use Rattle.std.specs.Prelude.{◌≡◌, ◌<◌, ◌≤◌, length};
 ghost use Rattle.cpm_memory.specs.Contents.{byte_at};
 ghost use Rattle.cpm_memory.specs.Room.{HasRoom};
-ghost use Rattle.cpm_bdos.specs.Did.{did};
+ghost use Rattle.cpm_bdos.specs.StepResult.{did};
 ghost use Rattle.cpm_ccp.specs.Prompt.{drive_asked, prompted, edit_command_line, with_drive_and_user, with_user, drive_selected, user_selected};
 ghost use Rattle.cpm_console.specs.Terminal.{step_output};
 

@@ -2,7 +2,7 @@
 
 ghost use Rattle.std.specs.Prelude.{◌≡◌, ◌≤◌, ℕ, List, length};
 ghost use Rattle.cpm_memory.specs.Room.{HasRoom};
-ghost use Rattle.cpm_bdos.specs.Did.{did};
+ghost use Rattle.cpm_bdos.specs.StepResult.{did};
 ghost use Rattle.cpm_bdos.specs.Bounds.{IsBounded};
 ghost use Rattle.cpm_bdos.specs.Behind.{session_behind, did_behind};
 ghost use Rattle.cpm_ccp.specs.Command.{HasOperands, command_of};
@@ -35,7 +35,7 @@ pub fn ccp_step<M: Memory>(session: &mut Session, memory: &mut M, system: &Image
     ensures leads { M.Leads memory.old memory.new }
     ensures bounds { IsBounded session.old (M.contents memory.old) (did session.new (M.contents memory.new) result) }
 
-    // Output that waits already changes nothing in a step, which shows its own behind it.
+    // Output that waits already changes nothing in a step, which shows its own after it.
     ensures behind { (p q : List ℕ) → ccp system.now (session_behind p q session.old) (M.contents memory.old)
         ≡ did_behind p q (did session.new (M.contents memory.new) result) }
 {

@@ -9,10 +9,10 @@ use arrayvec::ArrayVec;
 use cpm_memory::Memory;
 use std::marker::Model;
 
-/// The most bytes that the tail of a command may have: it begins at 0081h, and the 0 behind it lies below 0100h.
+/// The most bytes that the tail of a command may have: it begins at 0081h, and the 0 after it lies below 0100h.
 pub const MOST_TAIL: usize = 126;
 
-/// The tail of a command: its line behind the first word.
+/// The tail of a command: its line after the first word.
 #[derive(Clone, Drop)]
 pub struct Tail {
     text: ArrayVec<u8, MOST_TAIL>,
@@ -29,7 +29,7 @@ impl Model for Tail {
 impl Tail {
     /// The tail of exactly these bytes; none where there are more than 126.
     pub fn new(text: &[u8]) -> Option<Tail>
-        ensures { MatchOption result (126 < length text.now) (λ tail. (tail ≡ text.now) × (length text.now ≤ 126)) }
+        ensures { MatchOption result (MOST_TAIL < length text.now) (λ tail. (tail ≡ text.now) × (length text.now ≤ MOST_TAIL)) }
     {
         let text = ArrayVec::try_from(text).ok()?;
         Some(Tail { text })
@@ -38,7 +38,7 @@ impl Tail {
     /// The bytes of the tail.
     pub fn text(&self) -> &[u8]
         ensures value { result.now ≡ self.now }
-        ensures short { length result.now ≤ 126 }
+        ensures short { length result.now ≤ MOST_TAIL }
     {
         self.text.as_slice()
     }

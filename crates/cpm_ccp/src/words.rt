@@ -15,7 +15,7 @@ pub(crate) fn first_word(line: &[u8]) -> &[u8]
     split_first_word(line).0
 }
 
-/// The tail of a line: all that stands behind its first word, its spaces too.
+/// The tail of a line: all that stands after its first word, its spaces too.
 pub(crate) fn tail(line: &[u8]) -> &[u8]
     ensures tail { result.now ≡ tail_of line.now }
     ensures length { length result.now ≤ length line.now }
@@ -67,7 +67,7 @@ fn is_blank(text: &[u8]) -> bool
     text.iter().all(|c| *c == b' ')
 }
 
-/// The text behind the spaces in front.
+/// The text after the spaces in front.
 pub(crate) fn after_spaces(text: &[u8]) -> &[u8]
     ensures { result.now ≡ after_spaces text.now }
 {

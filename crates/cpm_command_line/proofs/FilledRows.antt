@@ -14,7 +14,8 @@ use Rattle.clap.specs.ValueTests.{accepts}
 use Rattle.clap.specs.Kinds.{Kinds, or_else, range_kinds, request_kinds, value_kinds, values_kinds}
 use Rattle.clap.specs.Faults.{action_fault, default_fault, defaults_fault, repeat_fault, use_fault, values_fault}
 use Rattle.clap.specs.declared.builder.action.ArgAction.{ArgAction}
-use Rattle.clap.specs.declared.builder.action.ArgAction.TheVariants.{Append, Set, SetTrue}
+use Rattle.clap.specs.declared.builder.action.ArgAction.TheVariants.{Append, Help, Set, SetTrue}
+use Rattle.clap.specs.declared.error.kind.ErrorKind.TheVariants as kind
 use Rattle.clap.specs.declared.builder.value_parser.ValueParser.{ValueParser}
 use Rattle.clap.specs.Values.{read_as, refused_kind}
 use Rattle.clap.specs.declared.builder.value_parser.Reading.{Reading}
@@ -71,10 +72,10 @@ abbrev pub AllFilled : List Rule → List Row → Type 0
 AllFilled c [] = ⊤
 AllFilled c (r ∷ rs) = IsFilled c r × AllFilled c rs
 
--- a use of the argument sets or adds values, and has one at least
+-- a use of the argument sets or adds values, and has one at least; or it asks for help
 pub record IsSetting (a : Rule) : Type 0 where
-  pub action : (action_of a ≡ Set) ⊎ (action_of a ≡ SetTrue) ⊎ (action_of a ≡ Append)
-  pub values : (nat_lt 0 (unwrap_or_range a.range).start_inclusive ≡ true) ⊎ HasFirst a.missing
+  pub action : (action_of a ≡ Set) ⊎ (action_of a ≡ SetTrue) ⊎ (action_of a ≡ Append) ⊎ (action_of a ≡ Help)
+  pub values : (nat_lt 0 (unwrap_or_range a.range).start_inclusive ≡ true) ⊎ HasFirst a.missing ⊎ (action_of a ≡ Help)
 
 -- no two arguments have one id, and each sets its values
 pub record IsPlain (c : List Rule) : Type 0 where
@@ -163,19 +164,33 @@ values_passing i p (v ∷ vs) e =
 pub fault_passes : (a : Rule) (vs : List Text) → values_fault a vs ≡ [] → values_pass a vs ≡ true
 fault_passes a vs e = values_passing _ _ vs e
 
+-- a use that asks for help is no use without fault
+pub help_faults : (a : Rule) → action_of a ≡ Help → (again : Bool) (values : List Text) (rows : List Row) → use_fault again a values rows ≡ [] → ⊥
+help_faults a is again values rows e =
+    let acts : action_fault (action_of a) again a (values_or_missing a values) rows ≡ [] =
+    (nothing (range_kinds (unwrap_or_range a.range).start_inclusive (most_values a) (length values)) _ e).1 in
+    let bad : kind.DisplayHelp ∷ [] ≡ [] = subst (λ (x : ArgAction). action_fault x again a (values_or_missing a values) rows ≡ []) is acts in
+    cc
+
 module _ (a : Rule) (setting : IsSetting a) (again : Bool) (rows : List Row) where
   set_faultless : (vs : List Text) → action_fault (action_of a) again a vs rows ≡ [] → values_fault a vs ≡ []
   set_faultless vs e = ⊎_elim
       (λ (h : action_of a ≡ Set). (nothing (repeat_fault again a.id rows) (values_fault a vs) (subst (λ (x : ArgAction). action_fault x again a vs rows ≡ []) h e)).1)
       (λ others. ⊎_elim
       (λ (h : action_of a ≡ SetTrue). (nothing (repeat_fault again a.id rows) (values_fault a vs) (subst (λ (x : ArgAction). action_fault x again a vs rows ≡ []) h e)).1)
+      (λ last. ⊎_elim
       (λ (h : action_of a ≡ Append). subst (λ (x : ArgAction). action_fault x again a vs rows ≡ []) h e)
+      (λ (h : action_of a ≡ Help). absurd (no_help (subst (λ (x : ArgAction). action_fault x again a vs rows ≡ []) h e)))
+      last)
       others)
       setting.action
+    where
+      no_help : kind.DisplayHelp ∷ [] ≡ [] → ⊥
+      no_help bad = cc
 
   has_values : (values : List Text) → use_fault again a values rows ≡ [] → HasFirst (values_or_missing a values)
   has_values (v ∷ vs) e = tt
-  has_values [] e = ⊎_elim (λ h. absurd (none h)) (λ h. h) setting.values
+  has_values [] e = ⊎_elim (λ h. absurd (none h)) (λ others. ⊎_elim (λ h. h) (λ h. absurd (help_faults a h again [] rows e)) others) setting.values
     where
       least : ℕ
       least = (unwrap_or_range a.range).start_inclusive
@@ -201,7 +216,10 @@ used_filled c plain a among again values rows e all =
     (λ (h : action_of a ≡ Set). subst (λ (x : ArgAction). AllFilled c (used_as x a.id (reading_by a) (values_or_missing a values) rows)) (sym h) set)
     (λ others. ⊎_elim
     (λ (h : action_of a ≡ SetTrue). subst (λ (x : ArgAction). AllFilled c (used_as x a.id (reading_by a) (values_or_missing a values) rows)) (sym h) set)
+    (λ last. ⊎_elim
     (λ (h : action_of a ≡ Append). subst (λ (x : ArgAction). AllFilled c (used_as x a.id (reading_by a) (values_or_missing a values) rows)) (sym h) (filled rows all))
+    (λ h. absurd (help_faults a h again values rows e))
+    last)
     others)
     setting.action
 

@@ -1,21 +1,22 @@
 -- The rows that words with no fault give a command without subcommands.
-use Rattle.std.proofs.Common.{◌≡◌, ◌⊎◌, inl, inr, ◌&&◌, ◌||◌, sym, subst, ap, refl, ◌∙◌, Bool, true, false, not, List, [], Some, None, IsSome, codes}
+use Rattle.std.proofs.Common.{◌≡◌, ◌⊎◌, inl, inr, ◌&&◌, ◌||◌, ℕ, sym, subst, ap, refl, ◌∙◌, Bool, true, false, cond, not, List, [], ◌∷◌, Some, None, IsSome, is_some, codes}
 use Rattle.std.specs.Str.{bytes_eq}
-use Rattle.clap.specs.Walk.{Row, Rule, Text, first_of, has_row, nothing_held, one_of, rows_after, settled, walk}
-use Rattle.clap.specs.Simple.{Shape, filled}
+use Rattle.clap.specs.Walk.{Row, Rule, Text, action_of, arg_by_short, first_of, has_row, has_short, nothing_held, one_of, rows_after, settled, takes_values, walk}
+use Rattle.clap.specs.Simple.{Shape, filled, help_rule}
 use Rattle.clap.specs.Takes.{is_given}
+use Rattle.clap.specs.declared.builder.action.ArgAction.TheVariants.{Help}
 use Rattle.clap.specs.Kinds.{check_kinds}
 use Rattle.clap.specs.Faults.{check_fault, level_fault}
 use Rattle.cpm_command_line.specs.CommandLine.{IsFlag, flag}
 use Rattle.cpm_command_line.proofs.FilledRows.{AllFilled, HasFirst, HasText, IsIn, IsPlain, IsSetting, defaults_have, given_has, no_row, same_bytes, text_filled}
-use Rattle.cpm_command_line.proofs.WalkRows.{HasNoShorts, level_checked, level_filled}
+use Rattle.cpm_command_line.proofs.WalkRows.{HasHelpShorts, level_checked, level_filled}
 
-module _ (s : Shape) (plain : IsPlain s.rules) (none : HasNoShorts s.rules) (words : List Text) (e : level_fault s [] nothing_held words false [] ≡ []) where
+module _ (s : Shape) (plain : IsPlain s.rules) (shorts : HasHelpShorts s.rules) (words : List Text) (e : level_fault s [] nothing_held words false [] ≡ []) where
   rows : List Row
   rows = rows_after s.rules [] words
 
   all : AllFilled s.rules (rows_after s.rules [] words)
-  all = level_filled s plain none [] nothing_held words false [] e tt
+  all = level_filled s plain shorts [] nothing_held words false [] e tt
 
   -- what is required was given
   pub leaf_checked : check_fault s (rows_after s.rules [] words) false ≡ []
@@ -56,7 +57,22 @@ flag_in name rows has = go (bytes_eq has.text (codes "true")) refl has.passes
     go false e pass = record { value = false; given = has.one ∙ ap (λ (v : Text). Some v) (same_bytes _ _ pass) }
 
 pub flag_word : (name : Text) → IsSetting (flag_rule name)
-flag_word name = record { action = inr (inl refl); values = inr tt }
+flag_word name = record { action = inr (inl refl); values = inr (inl tt) }
+
+-- ---- the flag for help
+
+pub help_word : IsSetting (filled help_rule)
+help_word = record { action = inr (inr (inr refl)); values = inr (inr refl) }
+
+-- an argument that is found where it stands alone is that flag
+pub help_found : (x : ℕ) (a : Rule) → arg_by_short (filled help_rule ∷ []) x ≡ Some a → (action_of a ≡ Help) × (takes_values a ≡ false)
+help_found x a is = go (not (is_some (filled help_rule).index) && has_short (filled help_rule) x) is
+  where
+    go : (b : Bool) → cond b (Some (filled help_rule)) None ≡ Some a → (action_of a ≡ Help) × (takes_values a ≡ false)
+    go true h =
+        let same : filled help_rule ≡ a = cc in
+        (subst (λ (r : Rule). action_of r ≡ Help) same refl, subst (λ (r : Rule). takes_values r ≡ false) same refl)
+    go false h = absurd (let bad : ⊥ = cc in bad)
 
 -- ---- the last check, where one word is required, and where two are
 

@@ -4,7 +4,8 @@ pub mod WalkRows
 pub mod LeafRows
 pub mod WholeCom
 pub mod WholeDisk
-pub mod HelpLemmas
+pub mod HelpKinds
+pub mod LineLemmas
 pub mod RefusalLemmas
 pub mod RestLemmas
 pub mod ShownLemmas

@@ -4,16 +4,17 @@ use Rattle.std.specs.Prelude.{encode_utf8, fold, slice_get}
 use Rattle.std.specs.Option.{option_map_or}
 use Rattle.std.specs.Str.{bytes_eq, chars}
 use Rattle.clap.specs.Lexer.{long_of, short_of}
-use Rattle.clap.specs.Walk.{Held, Names, Outcome, Rule, Step, Text, Waiting, Walk, after_flag, after_step, arg_by_id, arg_by_index, arg_by_long, arg_by_short, bundle, bundle_met, bundle_step, finished, flag_met, idle, is_pending, long_met, long_or_other, next, option, option_met, option_word, plain, plain_word, done, waits, refused, positional, positional_held, reacted, settled, settled_rows, short_met, short_or_plain, subcommand, subcommand_met, subcommand_or_other, takes_several, takes_values, to_positional, trailing, used_by_id, value, walk, walk_from, walked, walked_from, word_met}
+use Rattle.clap.specs.Walk.{Held, Names, Outcome, Rule, Step, Text, Waiting, Walk, action_of, after_flag, after_step, arg_by_id, arg_by_index, arg_by_long, arg_by_short, bundle, bundle_met, bundle_step, finished, flag_met, idle, is_pending, long_met, long_or_other, next, option, option_met, option_word, plain, plain_word, done, waits, refused, positional, positional_held, reacted, settled, settled_rows, short_met, short_or_plain, subcommand, subcommand_met, subcommand_or_other, takes_several, takes_values, to_positional, trailing, used_by_id, value, walk, walk_from, walked, walked_from, word_met}
 use Rattle.clap.specs.Simple.{Shape}
 use Rattle.clap.specs.Kinds.{Kinds, or_else}
-use Rattle.clap.specs.Faults.{check_fault, defaults_fault, flag_word_fault, level_fault, long_fault, option_fault, other_fault, positional_fault, react_fault, settle_fault, step_fault, turn_fault, use_fault, walk_fault, word_fault}
+use Rattle.clap.specs.Faults.{bundle_fault, bundle_step_fault, check_fault, defaults_fault, flag_word_fault, flags_fault, level_fault, long_fault, option_fault, other_fault, positional_fault, react_fault, settle_fault, short_fault, step_fault, turn_fault, use_fault, walk_fault, word_fault}
+use Rattle.clap.specs.declared.builder.action.ArgAction.TheVariants.{Help}
 use Rattle.clap.specs.declared.error.kind.ErrorKind.TheVariants as kind
-use Rattle.cpm_command_line.proofs.FilledRows.{AllFilled, IsIn, IsPlain, defaults_filled, find_in, nothing, used_filled}
+use Rattle.cpm_command_line.proofs.FilledRows.{AllFilled, IsIn, IsPlain, defaults_filled, find_in, help_faults, nothing, used_filled}
 
--- no argument of the command has a short name
-abbrev pub HasNoShorts : List Rule → Type 0
-HasNoShorts c = (x : ℕ) → arg_by_short c x ≡ None
+-- an argument of the command with a short name asks for help
+abbrev pub HasHelpShorts : List Rule → Type 0
+HasHelpShorts c = (x : ℕ) (a : Rule) → arg_by_short c x ≡ Some a → (action_of a ≡ Help) × (takes_values a ≡ false)
 
 module _ (c : List Rule) (plain_rules : IsPlain c) (again : Bool) where
   pub settled_filled : (h : Held) → settle_fault c again h ≡ [] → AllFilled c h.rows → AllFilled c (settled c h).rows
@@ -68,23 +69,31 @@ after_rows c waiting word h (waits id) = refl
 after_rows c waiting word h plain = plain_rows c waiting word h
 after_rows c waiting word h refused = plain_rows c waiting word h
 
--- with no short names, a bundle changes no row
-bundle_rows : (c : List Rule) → HasNoShorts c → (k : ℕ) (flags : Text) (skip : ℕ) (o : Outcome) (h : Held) → (bundle_met c k flags skip o h).0.rows ≡ h.rows
-unfolding bundle_met
-bundle_rows c none zero flags skip o h = refl
-bundle_rows c none (suc k) flags skip o h = go (bundle_rows c none k) (slice_get (chars flags) 0) skip
+-- where short names ask for help alone, a bundle with no fault changes no row
+bundle_rows : (c : List Rule) → HasHelpShorts c → (again : Bool) (k : ℕ) (flags : Text) (skip : ℕ) (o : Outcome) (h : Held) → flags_fault c again k flags skip h ≡ []
+    → (bundle_met c k flags skip o h).0.rows ≡ h.rows
+unfolding bundle_met flags_fault
+bundle_rows c shorts again zero flags skip o h e = refl
+bundle_rows c shorts again (suc k) flags skip o h e = go (bundle_rows c shorts again k) (slice_get (chars flags) 0) skip e
   where
-    unknown : (found : Option Rule) → found ≡ None → (rest : Text) (more : Held → Held × Outcome) → (short_met c found rest h more).0.rows ≡ h.rows
-    unknown None is rest more = refl
-    unknown (Some a) is rest more = absurd (let bad : ⊥ = cc in bad)
+    no_use : (a : Rule) → (action_of a ≡ Help) × (takes_values a ≡ false) → (rest : Text) (more : Held → Kinds) → short_fault c again (Some a) rest h more ≡ [] → ⊥
+    no_use a is rest more f =
+        let reacts : or_else (react_fault c again a [] h) (more (reacted c a [] h)) ≡ [] = rw is.1 at f in
+        let uses = (nothing (react_fault c again a [] h) _ reacts).0 in
+        help_faults a is.0 again [] (settled c h).rows (nothing (settle_fault c again h) _ uses).1
 
-    go : ((text : Text) (n : ℕ) (so_far : Outcome) (held : Held) → (bundle_met c k text n so_far held).0.rows ≡ held.rows) → (first : Option ℕ) (n : ℕ)
-        → (bundle_step c first flags n o h (bundle_met c k)).0.rows ≡ h.rows
-    go rest None n = refl
-    go rest (Some x) zero = unknown (arg_by_short c x) (none x) _ _
-    go rest (Some x) (suc n) = rest _ n o h
+    known : (found : Option Rule) → ((a : Rule) → found ≡ Some a → (action_of a ≡ Help) × (takes_values a ≡ false)) → (rest : Text) (fails : Held → Kinds)
+        (more : Held → Held × Outcome) → short_fault c again found rest h fails ≡ [] → (short_met c found rest h more).0.rows ≡ h.rows
+    known None is rest fails more f = refl
+    known (Some a) is rest fails more f = absurd (no_use a (is a refl) rest fails f)
 
-module _ (s : Shape) (plain_rules : IsPlain s.rules) (none : HasNoShorts s.rules) where
+    go : ((text : Text) (n : ℕ) (so_far : Outcome) (held : Held) → flags_fault c again k text n held ≡ [] → (bundle_met c k text n so_far held).0.rows ≡ held.rows)
+        → (first : Option ℕ) (n : ℕ) → bundle_step_fault c again first flags n h (flags_fault c again k) ≡ [] → (bundle_step c first flags n o h (bundle_met c k)).0.rows ≡ h.rows
+    go rest None n f = refl
+    go rest (Some x) zero f = known (arg_by_short c x) (shorts x) _ _ _ f
+    go rest (Some x) (suc n) f = rest _ n o h f
+
+module _ (s : Shape) (plain_rules : IsPlain s.rules) (shorts : HasHelpShorts s.rules) where
   again : Bool
   again = s.args_override_self
 
@@ -93,13 +102,14 @@ module _ (s : Shape) (plain_rules : IsPlain s.rules) (none : HasNoShorts s.rules
   flag_word_filled waiting word (Some p) h e all =
       subst (AllFilled s.rules) (sym (after_rows s.rules waiting word (long_met s.rules (arg_by_long s.rules p.0) p.1 h).0 (long_met s.rules (arg_by_long s.rules p.0) p.1 h).1))
       (long_filled s.rules plain_rules s.args_override_self (arg_by_long s.rules p.0) (λ a is. find_in _ s.rules a is) p.1 h e all)
-  flag_word_filled waiting word None h e all = go (short_of word)
+  flag_word_filled waiting word None h e all = go (short_of word) e
     where
-      go : (flags : Option Text) → AllFilled s.rules (short_or_plain s.rules waiting word flags h).0.rows
-      go None = subst (AllFilled s.rules) (sym (plain_rows s.rules waiting word h)) all
-      go (Some flags) = subst (AllFilled s.rules)
+      go : (flags : Option Text) → option_map_or (λ text. bundle_fault s.rules s.args_override_self text h) flags [] ≡ []
+          → AllFilled s.rules (short_or_plain s.rules waiting word flags h).0.rows
+      go None f = subst (AllFilled s.rules) (sym (plain_rows s.rules waiting word h)) all
+      go (Some flags) f = subst (AllFilled s.rules)
           (sym (after_rows s.rules waiting word (bundle s.rules flags h).0 (bundle s.rules flags h).1
-          ∙ bundle_rows s.rules none (length flags) flags h.skip plain (record h { skip = 0 }))) all
+          ∙ bundle_rows s.rules shorts s.args_override_self (length flags) flags h.skip plain (record h { skip = 0 }) f)) all
 
   met_filled : (names : Names) (is_trailing : Bool) (waiting : Waiting) (position : ℕ) (word : Text) (h : Held) → word_fault s names is_trailing waiting word h ≡ []
       → AllFilled s.rules h.rows → AllFilled s.rules (word_met s.rules names is_trailing waiting position word h).0.rows

@@ -12,8 +12,8 @@ use Rattle.clap.proofs.ValueTestLemmas.{accepts-Accepts}
 use Rattle.cpm_command_line.specs.CommandLine.{IsCountIfAny, IsPick, IsWhole, IsWholeAsm, IsWholeCheck, IsWholeCom, IsWholeDebug, IsWholeList, IsWholeRun, asm_app, check_app, com_app, debug_app, host_app, list_app, operand, repeated_option, run_app, steps_option, value_option, words_left_out}
 use Rattle.cpm_flags.specs.declared.regs.Cpu.TheVariants.{I8080, Z80}
 use Rattle.cpm_command_line.proofs.FilledRows.{HasText, IsPlain, IsSetting, plain_by_ids, same_bytes}
-use Rattle.cpm_command_line.proofs.LeafRows.{both_given, default_text, flag_in, flag_rule, flag_word, given_first, leaf_checked, one_given, text_or_none}
-use Rattle.cpm_command_line.proofs.WalkRows.{HasNoShorts, level_checked}
+use Rattle.cpm_command_line.proofs.LeafRows.{both_given, default_text, flag_in, flag_rule, flag_word, given_first, help_found, help_word, leaf_checked, one_given, text_or_none}
+use Rattle.cpm_command_line.proofs.WalkRows.{HasHelpShorts, level_checked}
 
 -- ---- the subcommand `com` as clap builds it
 
@@ -45,7 +45,7 @@ operand_word : (index : ℕ) (id : Text) → IsSetting (with_index index (filled
 operand_word index id = record { action = inl refl; values = inl refl }
 
 tail_words : IsSetting (with_index 2 (filled (words_left_out (codes "tail"))))
-tail_words = record { action = inr (inr refl); values = inl refl }
+tail_words = record { action = inr (inr (inl refl)); values = inl refl }
 
 value_word : (name : Text) → IsSetting (filled (value_option name))
 value_word name = record { action = inl refl; values = inl refl }
@@ -54,14 +54,14 @@ steps_word : IsSetting (filled steps_option)
 steps_word = record { action = inl refl; values = inl refl }
 
 repeated_words : (name : Text) → IsSetting (filled (repeated_option name))
-repeated_words name = record { action = inr (inr refl); values = inl refl }
+repeated_words name = record { action = inr (inr (inl refl)); values = inl refl }
 
 com_plain : IsPlain com_built.rules
 com_plain = plain_by_ids com_built.rules refl
-    (operand_word _ _, (tail_words, (flag_word _, (steps_word, (value_word _, (repeated_words _, (repeated_words _, (flag_word _, (value_word _, (flag_word _, (flag_word _, (flag_word _, (flag_word _, tt)))))))))))))
+    (operand_word _ _, (tail_words, (flag_word _, (steps_word, (value_word _, (repeated_words _, (repeated_words _, (flag_word _, (value_word _, (flag_word _, (flag_word _, (flag_word _, (flag_word _, (help_word, tt))))))))))))))
 
-com_no_shorts : HasNoShorts com_built.rules
-com_no_shorts x = refl
+com_shorts : HasHelpShorts com_built.rules
+com_shorts x a is = help_found x a is
 
 -- ---- the entries of `com`
 
@@ -90,49 +90,49 @@ count_of rows (inr has) =
 com_whole : (words : List Text) → level_fault com_built [] nothing_held words false [] ≡ [] → IsWholeCom (rows_after com_built.rules [] words)
 com_whole words e =
     let rows = rows_after com_built.rules [] words in
-    let file = one_given (is_given (codes "file") rows) (leaf_checked com_built com_plain com_no_shorts words e) in
+    let file = one_given (is_given (codes "file") rows) (leaf_checked com_built com_plain com_shorts words e) in
     record {
-      file = given_first com_built com_plain com_no_shorts words e file_rule (inl refl) file;
-      z80 = pick_of rows (default_text com_built com_plain com_no_shorts words e z80_rule (inr (inr (inl refl))) tt);
-      steps = count_of rows (text_or_none com_built com_plain com_no_shorts words e steps_rule (inr (inr (inr (inl refl)))));
+      file = given_first com_built com_plain com_shorts words e file_rule (inl refl) file;
+      z80 = pick_of rows (default_text com_built com_plain com_shorts words e z80_rule (inr (inr (inl refl))) tt);
+      steps = count_of rows (text_or_none com_built com_plain com_shorts words e steps_rule (inr (inr (inr (inl refl)))));
       keyboard = flag_in (codes "keyboard") rows
-          (default_text com_built com_plain com_no_shorts words e (flag_rule (codes "keyboard")) (inr (inr (inr (inr (inr (inr (inr (inl refl)))))))) tt);
+          (default_text com_built com_plain com_shorts words e (flag_rule (codes "keyboard")) (inr (inr (inr (inr (inr (inr (inr (inl refl)))))))) tt);
       progress = flag_in (codes "progress") rows
-          (default_text com_built com_plain com_no_shorts words e (flag_rule (codes "progress")) (inr (inr (inr (inr (inr (inr (inr (inr (inr (inl refl)))))))))) tt);
+          (default_text com_built com_plain com_shorts words e (flag_rule (codes "progress")) (inr (inr (inr (inr (inr (inr (inr (inr (inr (inl refl)))))))))) tt);
       idle = flag_in (codes "stop-idle") rows
-          (default_text com_built com_plain com_no_shorts words e (flag_rule (codes "stop-idle"))
+          (default_text com_built com_plain com_shorts words e (flag_rule (codes "stop-idle"))
           (inr (inr (inr (inr (inr (inr (inr (inr (inr (inr (inl refl))))))))))) tt);
       raw = flag_in (codes "raw") rows
-          (default_text com_built com_plain com_no_shorts words e (flag_rule (codes "raw"))
+          (default_text com_built com_plain com_shorts words e (flag_rule (codes "raw"))
           (inr (inr (inr (inr (inr (inr (inr (inr (inr (inr (inr (inl refl)))))))))))) tt);
       quiet = flag_in (codes "quiet") rows
-          (default_text com_built com_plain com_no_shorts words e (flag_rule (codes "quiet"))
+          (default_text com_built com_plain com_shorts words e (flag_rule (codes "quiet"))
           (inr (inr (inr (inr (inr (inr (inr (inr (inr (inr (inr (inr (inl refl))))))))))))) tt);
     }
 
 -- ---- the other subcommands
 
 list_plain : IsPlain list_built.rules
-list_plain = plain_by_ids list_built.rules refl (operand_word _ _, (flag_word _, tt))
+list_plain = plain_by_ids list_built.rules refl (operand_word _ _, (flag_word _, (help_word, tt)))
 
-list_no_shorts : HasNoShorts list_built.rules
-list_no_shorts x = refl
+list_shorts : HasHelpShorts list_built.rules
+list_shorts x a is = help_found x a is
 
 list_whole : (words : List Text) → level_fault list_built [] nothing_held words false [] ≡ [] → IsWholeList (rows_after list_built.rules [] words)
 list_whole words e =
     let rows = rows_after list_built.rules [] words in
-    let file = one_given (is_given (codes "file") rows) (leaf_checked list_built list_plain list_no_shorts words e) in
+    let file = one_given (is_given (codes "file") rows) (leaf_checked list_built list_plain list_shorts words e) in
     record {
-      file = given_first list_built list_plain list_no_shorts words e file_rule (inl refl) file;
-      z80 = pick_of rows (default_text list_built list_plain list_no_shorts words e z80_rule (inr (inl refl)) tt);
+      file = given_first list_built list_plain list_shorts words e file_rule (inl refl) file;
+      z80 = pick_of rows (default_text list_built list_plain list_shorts words e z80_rule (inr (inl refl)) tt);
     }
 
 asm_plain : IsPlain asm_built.rules
 asm_plain = plain_by_ids asm_built.rules refl
-    (operand_word _ _, (operand_word _ _, (value_word _, tt)))
+    (operand_word _ _, (operand_word _ _, (value_word _, (help_word, tt))))
 
-asm_no_shorts : HasNoShorts asm_built.rules
-asm_no_shorts x = refl
+asm_shorts : HasHelpShorts asm_built.rules
+asm_shorts x a is = help_found x a is
 
 abbrev source_rule : Rule
 source_rule = with_index 1 (filled (operand (codes "source")))
@@ -143,32 +143,32 @@ out_rule = with_index 2 (filled (operand (codes "out")))
 asm_whole : (words : List Text) → level_fault asm_built [] nothing_held words false [] ≡ [] → IsWholeAsm (rows_after asm_built.rules [] words)
 asm_whole words e =
     let rows = rows_after asm_built.rules [] words in
-    let given = both_given (is_given (codes "source") rows) (is_given (codes "out") rows) (leaf_checked asm_built asm_plain asm_no_shorts words e) in
+    let given = both_given (is_given (codes "source") rows) (is_given (codes "out") rows) (leaf_checked asm_built asm_plain asm_shorts words e) in
     record {
-      source = given_first asm_built asm_plain asm_no_shorts words e source_rule (inl refl) given.0;
-      out = given_first asm_built asm_plain asm_no_shorts words e out_rule (inr (inl refl)) given.1;
+      source = given_first asm_built asm_plain asm_shorts words e source_rule (inl refl) given.0;
+      out = given_first asm_built asm_plain asm_shorts words e out_rule (inr (inl refl)) given.1;
     }
 
 check_plain : IsPlain check_built.rules
-check_plain = plain_by_ids check_built.rules refl (operand_word _ _, tt)
+check_plain = plain_by_ids check_built.rules refl (operand_word _ _, (help_word, tt))
 
-check_no_shorts : HasNoShorts check_built.rules
-check_no_shorts x = refl
+check_shorts : HasHelpShorts check_built.rules
+check_shorts x a is = help_found x a is
 
 abbrev image_rule : Rule
 image_rule = with_index 1 (filled (operand (codes "image")))
 
 check_whole : (words : List Text) → level_fault check_built [] nothing_held words false [] ≡ [] → IsWholeCheck (rows_after check_built.rules [] words)
 check_whole words e =
-    let image = one_given (is_given (codes "image") (rows_after check_built.rules [] words)) (leaf_checked check_built check_plain check_no_shorts words e) in
-    record { image = given_first check_built check_plain check_no_shorts words e image_rule (inl refl) image }
+    let image = one_given (is_given (codes "image") (rows_after check_built.rules [] words)) (leaf_checked check_built check_plain check_shorts words e) in
+    record { image = given_first check_built check_plain check_shorts words e image_rule (inl refl) image }
 
 run_plain : IsPlain run_built.rules
 run_plain = plain_by_ids run_built.rules refl
-    (operand_word _ _, (value_word _, (value_word _, (flag_word _, (flag_word _, (value_word _, (flag_word _, (repeated_words _, (flag_word _, tt)))))))))
+    (operand_word _ _, (value_word _, (value_word _, (flag_word _, (flag_word _, (value_word _, (flag_word _, (repeated_words _, (flag_word _, (help_word, tt))))))))))
 
-run_no_shorts : HasNoShorts run_built.rules
-run_no_shorts x = refl
+run_shorts : HasHelpShorts run_built.rules
+run_shorts x a is = help_found x a is
 
 abbrev config_rule : Rule
 config_rule = with_index 1 (filled (operand (codes "config")))
@@ -176,33 +176,33 @@ config_rule = with_index 1 (filled (operand (codes "config")))
 run_whole : (words : List Text) → level_fault run_built [] nothing_held words false [] ≡ [] → IsWholeRun (rows_after run_built.rules [] words)
 run_whole words e =
     let rows = rows_after run_built.rules [] words in
-    let config = one_given (is_given (codes "config") rows) (leaf_checked run_built run_plain run_no_shorts words e) in
+    let config = one_given (is_given (codes "config") rows) (leaf_checked run_built run_plain run_shorts words e) in
     record {
-      config = given_first run_built run_plain run_no_shorts words e config_rule (inl refl) config;
+      config = given_first run_built run_plain run_shorts words e config_rule (inl refl) config;
       progress = flag_in (codes "progress") rows
-          (default_text run_built run_plain run_no_shorts words e (flag_rule (codes "progress")) (inr (inr (inr (inl refl)))) tt);
+          (default_text run_built run_plain run_shorts words e (flag_rule (codes "progress")) (inr (inr (inr (inl refl)))) tt);
       idle = flag_in (codes "stop-idle") rows
-          (default_text run_built run_plain run_no_shorts words e (flag_rule (codes "stop-idle")) (inr (inr (inr (inr (inl refl))))) tt);
+          (default_text run_built run_plain run_shorts words e (flag_rule (codes "stop-idle")) (inr (inr (inr (inr (inl refl))))) tt);
       raw = flag_in (codes "raw") rows
-          (default_text run_built run_plain run_no_shorts words e (flag_rule (codes "raw")) (inr (inr (inr (inr (inr (inr (inl refl))))))) tt);
+          (default_text run_built run_plain run_shorts words e (flag_rule (codes "raw")) (inr (inr (inr (inr (inr (inr (inl refl))))))) tt);
       here = flag_in (codes "outputs-here") rows
-          (default_text run_built run_plain run_no_shorts words e (flag_rule (codes "outputs-here"))
+          (default_text run_built run_plain run_shorts words e (flag_rule (codes "outputs-here"))
           (inr (inr (inr (inr (inr (inr (inr (inr (inl refl))))))))) tt);
     }
 
 debug_plain : IsPlain debug_built.rules
-debug_plain = plain_by_ids debug_built.rules refl (operand_word _ _, (flag_word _, (value_word _, tt)))
+debug_plain = plain_by_ids debug_built.rules refl (operand_word _ _, (flag_word _, (value_word _, (help_word, tt))))
 
-debug_no_shorts : HasNoShorts debug_built.rules
-debug_no_shorts x = refl
+debug_shorts : HasHelpShorts debug_built.rules
+debug_shorts x a is = help_found x a is
 
 debug_whole : (words : List Text) → level_fault debug_built [] nothing_held words false [] ≡ [] → IsWholeDebug (rows_after debug_built.rules [] words)
 debug_whole words e =
     let rows = rows_after debug_built.rules [] words in
-    let file = one_given (is_given (codes "file") rows) (leaf_checked debug_built debug_plain debug_no_shorts words e) in
+    let file = one_given (is_given (codes "file") rows) (leaf_checked debug_built debug_plain debug_shorts words e) in
     record {
-      file = given_first debug_built debug_plain debug_no_shorts words e file_rule (inl refl) file;
-      z80 = pick_of rows (default_text debug_built debug_plain debug_no_shorts words e z80_rule (inr (inl refl)) tt);
+      file = given_first debug_built debug_plain debug_shorts words e file_rule (inl refl) file;
+      z80 = pick_of rows (default_text debug_built debug_plain debug_shorts words e z80_rule (inr (inl refl)) tt);
     }
 
 -- ---- the whole command line

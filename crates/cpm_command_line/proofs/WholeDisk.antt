@@ -10,8 +10,8 @@ use Rattle.clap.proofs.ValueTestLemmas.{accepts-Accepts}
 use Rattle.cpm_command_line.specs.CommandLine.{operand, value_option}
 use Rattle.cpm_command_line.specs.DiskLine.{IsUser, IsUserIfAny, IsWholeDisk, IsWholeGet, IsWholeListing, IsWholeNew, IsWholePut, IsWholeRemove, IsWholeRename, disk_app, get_app, list_disk_app, new_disk_app, operands, put_app, remove_app, rename_app, user_if_any_option, user_option}
 use Rattle.cpm_command_line.proofs.FilledRows.{HasText, IsPlain, IsSetting, plain_by_ids}
-use Rattle.cpm_command_line.proofs.LeafRows.{both_given, default_text, given_first, flag_in, flag_rule, flag_word, leaf_checked, one_given, text_or_none}
-use Rattle.cpm_command_line.proofs.WalkRows.{HasNoShorts, level_checked}
+use Rattle.cpm_command_line.proofs.LeafRows.{both_given, default_text, given_first, flag_in, flag_rule, flag_word, help_found, help_word, leaf_checked, one_given, text_or_none}
+use Rattle.cpm_command_line.proofs.WalkRows.{HasHelpShorts, level_checked}
 
 -- ---- the commands as clap builds them
 
@@ -88,115 +88,115 @@ to_word : IsSetting (filled (value_option (codes "to")))
 to_word = record { action = inl refl; values = inl refl }
 
 files_words : IsSetting files_rule
-files_words = record { action = inr (inr refl); values = inl refl }
+files_words = record { action = inr (inr (inl refl)); values = inl refl }
 
 names_words : IsSetting names_rule
-names_words = record { action = inr (inr refl); values = inl refl }
+names_words = record { action = inr (inr (inl refl)); values = inl refl }
 
 new_plain : IsPlain new_built.rules
-new_plain = plain_by_ids new_built.rules refl (one_word, (flag_word _, tt))
+new_plain = plain_by_ids new_built.rules refl (one_word, (flag_word _, (help_word, tt)))
 
 list_plain : IsPlain list_built.rules
-list_plain = plain_by_ids list_built.rules refl (one_word, (user_if_any_word, tt))
+list_plain = plain_by_ids list_built.rules refl (one_word, (user_if_any_word, (help_word, tt)))
 
 put_plain : IsPlain put_built.rules
-put_plain = plain_by_ids put_built.rules refl (one_word, (files_words, (user_word, (flag_word _, (flag_word _, (flag_word _, tt))))))
+put_plain = plain_by_ids put_built.rules refl (one_word, (files_words, (user_word, (flag_word _, (flag_word _, (flag_word _, (help_word, tt)))))))
 
 get_plain : IsPlain get_built.rules
-get_plain = plain_by_ids get_built.rules refl (one_word, (names_words, (user_word, (flag_word _, (to_word, (flag_word _, (flag_word _, tt)))))))
+get_plain = plain_by_ids get_built.rules refl (one_word, (names_words, (user_word, (flag_word _, (to_word, (flag_word _, (flag_word _, (help_word, tt))))))))
 
 remove_plain : IsPlain remove_built.rules
-remove_plain = plain_by_ids remove_built.rules refl (one_word, (names_words, (user_word, tt)))
+remove_plain = plain_by_ids remove_built.rules refl (one_word, (names_words, (user_word, (help_word, tt))))
 
 rename_plain : IsPlain rename_built.rules
-rename_plain = plain_by_ids rename_built.rules refl (one_word, (change_word, (user_word, tt)))
+rename_plain = plain_by_ids rename_built.rules refl (one_word, (change_word, (user_word, (help_word, tt))))
 
-new_no_shorts : HasNoShorts new_built.rules
-new_no_shorts x = refl
+new_shorts : HasHelpShorts new_built.rules
+new_shorts x a is = help_found x a is
 
-list_no_shorts : HasNoShorts list_built.rules
-list_no_shorts x = refl
+list_shorts : HasHelpShorts list_built.rules
+list_shorts x a is = help_found x a is
 
-put_no_shorts : HasNoShorts put_built.rules
-put_no_shorts x = refl
+put_shorts : HasHelpShorts put_built.rules
+put_shorts x a is = help_found x a is
 
-get_no_shorts : HasNoShorts get_built.rules
-get_no_shorts x = refl
+get_shorts : HasHelpShorts get_built.rules
+get_shorts x a is = help_found x a is
 
-remove_no_shorts : HasNoShorts remove_built.rules
-remove_no_shorts x = refl
+remove_shorts : HasHelpShorts remove_built.rules
+remove_shorts x a is = help_found x a is
 
-rename_no_shorts : HasNoShorts rename_built.rules
-rename_no_shorts x = refl
+rename_shorts : HasHelpShorts rename_built.rules
+rename_shorts x a is = help_found x a is
 
 -- ---- the entries of each command
 
 new_whole : (words : List Text) → level_fault new_built [] nothing_held words false [] ≡ [] → IsWholeNew (rows_after new_built.rules [] words)
 new_whole words e =
     let rows = rows_after new_built.rules [] words in
-    let image = one_given (is_given (codes "image") rows) (leaf_checked new_built new_plain new_no_shorts words e) in
+    let image = one_given (is_given (codes "image") rows) (leaf_checked new_built new_plain new_shorts words e) in
     record {
-      image = given_first new_built new_plain new_no_shorts words e image_rule (inl refl) image;
-      large = flag_in (codes "large") rows (default_text new_built new_plain new_no_shorts words e (flag_rule (codes "large")) (inr (inl refl)) tt);
+      image = given_first new_built new_plain new_shorts words e image_rule (inl refl) image;
+      large = flag_in (codes "large") rows (default_text new_built new_plain new_shorts words e (flag_rule (codes "large")) (inr (inl refl)) tt);
     }
 
 list_whole : (words : List Text) → level_fault list_built [] nothing_held words false [] ≡ [] → IsWholeListing (rows_after list_built.rules [] words)
 list_whole words e =
     let rows = rows_after list_built.rules [] words in
-    let image = one_given (is_given (codes "image") rows) (leaf_checked list_built list_plain list_no_shorts words e) in
+    let image = one_given (is_given (codes "image") rows) (leaf_checked list_built list_plain list_shorts words e) in
     record {
-      image = given_first list_built list_plain list_no_shorts words e image_rule (inl refl) image;
-      user = user_if_any_in rows (text_or_none list_built list_plain list_no_shorts words e user_if_any_rule (inr (inl refl)));
+      image = given_first list_built list_plain list_shorts words e image_rule (inl refl) image;
+      user = user_if_any_in rows (text_or_none list_built list_plain list_shorts words e user_if_any_rule (inr (inl refl)));
     }
 
 put_whole : (words : List Text) → level_fault put_built [] nothing_held words false [] ≡ [] → IsWholePut (rows_after put_built.rules [] words)
 put_whole words e =
     let rows = rows_after put_built.rules [] words in
-    let given = both_given (is_given (codes "image") rows) (is_given (codes "file") rows) (leaf_checked put_built put_plain put_no_shorts words e) in
+    let given = both_given (is_given (codes "image") rows) (is_given (codes "file") rows) (leaf_checked put_built put_plain put_shorts words e) in
     record {
-      image = given_first put_built put_plain put_no_shorts words e image_rule (inl refl) given.0;
-      files = given_first put_built put_plain put_no_shorts words e files_rule (inr (inl refl)) given.1;
-      user = user_in rows (default_text put_built put_plain put_no_shorts words e user_rule (inr (inr (inl refl))) tt);
-      text = flag_in (codes "text") rows (default_text put_built put_plain put_no_shorts words e (flag_rule (codes "text")) (inr (inr (inr (inl refl)))) tt);
+      image = given_first put_built put_plain put_shorts words e image_rule (inl refl) given.0;
+      files = given_first put_built put_plain put_shorts words e files_rule (inr (inl refl)) given.1;
+      user = user_in rows (default_text put_built put_plain put_shorts words e user_rule (inr (inr (inl refl))) tt);
+      text = flag_in (codes "text") rows (default_text put_built put_plain put_shorts words e (flag_rule (codes "text")) (inr (inr (inr (inl refl)))) tt);
       read_only = flag_in (codes "read-only") rows
-          (default_text put_built put_plain put_no_shorts words e (flag_rule (codes "read-only")) (inr (inr (inr (inr (inl refl))))) tt);
+          (default_text put_built put_plain put_shorts words e (flag_rule (codes "read-only")) (inr (inr (inr (inr (inl refl))))) tt);
       system = flag_in (codes "system") rows
-          (default_text put_built put_plain put_no_shorts words e (flag_rule (codes "system")) (inr (inr (inr (inr (inr (inl refl)))))) tt);
+          (default_text put_built put_plain put_shorts words e (flag_rule (codes "system")) (inr (inr (inr (inr (inr (inl refl)))))) tt);
     }
 
 get_whole : (words : List Text) → level_fault get_built [] nothing_held words false [] ≡ [] → IsWholeGet (rows_after get_built.rules [] words)
 get_whole words e =
     let rows = rows_after get_built.rules [] words in
-    let given = both_given (is_given (codes "image") rows) (is_given (codes "name") rows) (leaf_checked get_built get_plain get_no_shorts words e) in
+    let given = both_given (is_given (codes "image") rows) (is_given (codes "name") rows) (leaf_checked get_built get_plain get_shorts words e) in
     record {
-      image = given_first get_built get_plain get_no_shorts words e image_rule (inl refl) given.0;
-      names = given_first get_built get_plain get_no_shorts words e names_rule (inr (inl refl)) given.1;
-      user = user_in rows (default_text get_built get_plain get_no_shorts words e user_rule (inr (inr (inl refl))) tt);
-      text = flag_in (codes "text") rows (default_text get_built get_plain get_no_shorts words e (flag_rule (codes "text")) (inr (inr (inr (inl refl)))) tt);
+      image = given_first get_built get_plain get_shorts words e image_rule (inl refl) given.0;
+      names = given_first get_built get_plain get_shorts words e names_rule (inr (inl refl)) given.1;
+      user = user_in rows (default_text get_built get_plain get_shorts words e user_rule (inr (inr (inl refl))) tt);
+      text = flag_in (codes "text") rows (default_text get_built get_plain get_shorts words e (flag_rule (codes "text")) (inr (inr (inr (inl refl)))) tt);
       force = flag_in (codes "force") rows
-          (default_text get_built get_plain get_no_shorts words e (flag_rule (codes "force")) (inr (inr (inr (inr (inr (inl refl)))))) tt);
+          (default_text get_built get_plain get_shorts words e (flag_rule (codes "force")) (inr (inr (inr (inr (inr (inl refl)))))) tt);
       dry = flag_in (codes "dry-run") rows
-          (default_text get_built get_plain get_no_shorts words e (flag_rule (codes "dry-run")) (inr (inr (inr (inr (inr (inr (inl refl))))))) tt);
+          (default_text get_built get_plain get_shorts words e (flag_rule (codes "dry-run")) (inr (inr (inr (inr (inr (inr (inl refl))))))) tt);
     }
 
 remove_whole : (words : List Text) → level_fault remove_built [] nothing_held words false [] ≡ [] → IsWholeRemove (rows_after remove_built.rules [] words)
 remove_whole words e =
     let rows = rows_after remove_built.rules [] words in
-    let given = both_given (is_given (codes "image") rows) (is_given (codes "name") rows) (leaf_checked remove_built remove_plain remove_no_shorts words e) in
+    let given = both_given (is_given (codes "image") rows) (is_given (codes "name") rows) (leaf_checked remove_built remove_plain remove_shorts words e) in
     record {
-      image = given_first remove_built remove_plain remove_no_shorts words e image_rule (inl refl) given.0;
-      names = given_first remove_built remove_plain remove_no_shorts words e names_rule (inr (inl refl)) given.1;
-      user = user_in rows (default_text remove_built remove_plain remove_no_shorts words e user_rule (inr (inr (inl refl))) tt);
+      image = given_first remove_built remove_plain remove_shorts words e image_rule (inl refl) given.0;
+      names = given_first remove_built remove_plain remove_shorts words e names_rule (inr (inl refl)) given.1;
+      user = user_in rows (default_text remove_built remove_plain remove_shorts words e user_rule (inr (inr (inl refl))) tt);
     }
 
 rename_whole : (words : List Text) → level_fault rename_built [] nothing_held words false [] ≡ [] → IsWholeRename (rows_after rename_built.rules [] words)
 rename_whole words e =
     let rows = rows_after rename_built.rules [] words in
-    let given = both_given (is_given (codes "image") rows) (is_given (codes "change") rows) (leaf_checked rename_built rename_plain rename_no_shorts words e) in
+    let given = both_given (is_given (codes "image") rows) (is_given (codes "change") rows) (leaf_checked rename_built rename_plain rename_shorts words e) in
     record {
-      image = given_first rename_built rename_plain rename_no_shorts words e image_rule (inl refl) given.0;
-      change = given_first rename_built rename_plain rename_no_shorts words e change_rule (inr (inl refl)) given.1;
-      user = user_in rows (default_text rename_built rename_plain rename_no_shorts words e user_rule (inr (inr (inl refl))) tt);
+      image = given_first rename_built rename_plain rename_shorts words e image_rule (inl refl) given.0;
+      change = given_first rename_built rename_plain rename_shorts words e change_rule (inr (inl refl)) given.1;
+      user = user_in rows (default_text rename_built rename_plain rename_shorts words e user_rule (inr (inr (inl refl))) tt);
     }
 
 -- ---- all words from `disk` on

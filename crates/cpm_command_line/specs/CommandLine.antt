@@ -13,7 +13,7 @@ use Rattle.clap.specs.declared.builder.value_parser.ValueParser.TheVariants as p
 use Rattle.cpm_flags.specs.declared.regs.Cpu.{Cpu}
 use Rattle.cpm_flags.specs.declared.regs.Cpu.TheVariants.{I8080, Z80}
 use Rattle.cpm_command_line.specs.declared.task.Task.{Task}
-use Rattle.cpm_command_line.specs.declared.task.Task.TheVariants.{Asm, Check, Com, Debug, Disk, List as Listing, Run}
+use Rattle.cpm_command_line.specs.declared.task.Task.TheVariants.{Asm, Check, Com, Debug, Disk, Help, List as Listing, Run}
 
 -- a word that has to be there, with a name in usage
 abbrev pub operand : List ℕ → Rule
@@ -48,7 +48,7 @@ program_app = with_rule (with_rule (with_rule (with_rule (with_rule (new_app (co
     (operand (codes "file"))) (words_left_out (codes "tail"))) (flag (codes "z80"))) steps_option) (value_option (codes "keys"))
 
 -- own: `com`, with `[--disk IMAGE].. [--out-disk IMAGE].. [--keyboard] [--record SCRIPT] [--progress] [--stop-idle] [--raw]
--- [--quiet]` behind these
+-- [--quiet]` after these
 abbrev pub com_app : App
 com_app = with_rule (with_rule (with_rule (with_rule (with_rule (with_rule (with_rule (with_rule program_app
     (repeated_option (codes "disk"))) (repeated_option (codes "out-disk"))) (flag (codes "keyboard"))) (value_option (codes "record")))
@@ -80,12 +80,11 @@ abbrev pub debug_app : App
 debug_app = with_rule (with_rule (with_rule (new_app (codes "debug"))
     (operand (codes "file"))) (flag (codes "z80"))) (value_option (codes "list"))
 
--- a command without its subcommands: it wants one, and adds no help of its own
+-- a command without its subcommands: it wants one, and has no command `help` of clap's
 abbrev pub top_app : List ℕ → App
 top_app name = record (new_app name) {
   top = record (new_app name).top {
     subcommand_required = true;
-    disable_help_flag = true;
     disable_help_subcommand = true;
   };
 }
@@ -168,6 +167,7 @@ HasEntriesOf given (Debug file cpu list) =
     × (one_of (codes "z80") given.1 ≡ Some (flag_text cpu))
     × (first_of (codes "list") given.1 ≡ option_map (λ t. t.now) list)
 HasEntriesOf given (Disk task) = ⊥
+HasEntriesOf given (Help page) = ⊥
 
 -- ---- entries that make a task
 

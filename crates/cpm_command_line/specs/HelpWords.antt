@@ -1,8 +1,12 @@
--- Which words ask for help, and for which page of it, and which ask for the version.
-use Rattle.std.specs.Prelude.{◌||◌, if◌then◌else◌, Bool, false, not, List, [], ◌∷◌, Option, Some, None, codes, take_while, unwrap_or}
-use Rattle.std.specs.List.{list_any}
+-- The pages of the help: which names ask for one, which a line has, and which words ask for the version.
+use Rattle.std.specs.Prelude.{◌≡◌, ◌&&◌, ◌||◌, ◌++◌, if◌then◌else◌, Bool, false, chars, List, [], ◌∷◌, Option, Some, None}
+use Rattle.std.specs.Prelude.{Result, MatchResult, codes, unwrap_or}
 use Rattle.std.specs.Str.{bytes_eq}
 use Rattle.clap.specs.Words.{Text}
+use Rattle.cpm_command_line.specs.Shown.{shown_of}
+use Rattle.cpm_command_line.specs.declared.fault.UsageFault.{UsageFault}
+use Rattle.cpm_command_line.specs.declared.fault.UsageFault.TheVariants as fault
+use Rattle.cpm_command_line.specs.declared.fault.UsageRefusal.{UsageRefusal}
 use Rattle.cpm_command_line.specs.declared.pages.TheConstants as text
 use Rattle.cpm_command_line.specs.declared.usage.Page.{Page}
 use Rattle.cpm_command_line.specs.declared.usage.Page.TheVariants as page
@@ -33,47 +37,95 @@ abbrev pub begins_with_help : List Text → Bool
 begins_with_help [] = false
 begins_with_help (word ∷ rest) = bytes_eq word (codes "help")
 
--- after a command's name: `help` first, or a flag for help before any `--`
-abbrev pub asks_below : List Text → Bool
-asks_below words = begins_with_help words
-    || list_any is_help_flag (take_while (λ word. not (bytes_eq word (codes "--"))) words)
+-- own: the names behind `help`, but for `disk`, with their pages
+abbrev pub topic_pages : List (Text × Page)
+topic_pages = (codes "help", page.Overview) ∷ (codes "status", page.Status) ∷ command_pages
 
--- own: behind `help disk`: the page of a command of `disk`, or else its own
-abbrev pub disk_page_of : List Text → Page
-disk_page_of [] = page.Disk
-disk_page_of (word ∷ rest) = unwrap_or (page_in disk_pages word) page.Disk
+-- own: what names behind `help` come to: a page; or a word that names no command, or that is one too many, with the
+-- page of the names before it
+pub data Naming : Type 0 where
+  known_page : Page → Naming
+  unknown_name : Text → Page → Naming
+  extra_name : Text → Page → Naming
 
--- own: behind `help`: the page of a command or of the statuses, or else the overview
-abbrev pub page_of_names : List Text → Page
-page_of_names [] = page.Overview
-page_of_names (word ∷ rest) =
-    if bytes_eq word (codes "disk") then disk_page_of rest
-    else (if bytes_eq word (codes "status") then page.Status
-    else unwrap_or (page_in command_pages word) page.Overview)
+-- own: a flag for help asks for the page of the names before it
+abbrev pub unless_flag : Text → Page → Naming → Naming
+unless_flag word p naming = if is_help_flag word then known_page p else naming
 
--- own: after `disk`: `help` with a name or without, a flag for help, or one of its commands with such a word after it
-abbrev pub asked_of_disk : List Text → Option Page
-asked_of_disk [] = None
-asked_of_disk (word ∷ rest) =
-    if bytes_eq word (codes "help") then Some (disk_page_of rest)
-    else (if is_help_flag word then Some page.Disk
-    else (if asks_below rest then page_in disk_pages word
-    else None))
+-- own: no word follows the names, or a flag for help
+abbrev pub ended_by : Page → List Text → Naming
+ended_by p [] = known_page p
+ended_by p (word ∷ rest) = unless_flag word p (extra_name word p)
 
--- own: after the program's name: `help` with names or without, a flag for help, `disk`, or a command with such a word after it
-abbrev pub asked_after_name : List Text → Option Page
-asked_after_name [] = None
-asked_after_name (word ∷ rest) =
-    if bytes_eq word (codes "help") then Some (page_of_names rest)
-    else (if is_help_flag word then Some page.Overview
-    else (if bytes_eq word (codes "disk") then asked_of_disk rest
-    else (if asks_below rest then page_in command_pages word
-    else None)))
+-- own: a word names a page, and no further one follows
+abbrev pub named_in : Option Page → Page → Text → List Text → Naming
+named_in None above word rest = unless_flag word above (unknown_name word above)
+named_in (Some p) above word rest = ended_by p rest
 
--- own: the page that the words ask for, of which the first is the program's name
-abbrev pub asked_page : List Text → Option Page
-asked_page [] = None
-asked_page (name ∷ words) = asked_after_name words
+-- own: after `help disk` or `disk help`: the page of a command of `disk`, or of `disk` itself where no name follows
+abbrev pub named_of_disk : List Text → Naming
+named_of_disk [] = known_page page.Disk
+named_of_disk (word ∷ rest) = named_in (page_in disk_pages word) page.Disk word rest
+
+-- own: after `help`: the page of a command or of the statuses, or the overview where no name follows
+abbrev pub named : List Text → Naming
+named [] = known_page page.Overview
+named (word ∷ rest) =
+    if bytes_eq word (codes "disk") then named_of_disk rest
+    else named_in (page_in topic_pages word) page.Overview word rest
+
+-- own: behind the program's name: `help`, or `disk help`
+abbrev pub is_help_line : List Text → Bool
+is_help_line (name ∷ word ∷ rest) =
+    bytes_eq word (codes "help") || (bytes_eq word (codes "disk") && begins_with_help rest)
+is_help_line _ = false
+
+-- own: behind `disk`: the names behind the word `help`
+abbrev pub named_behind_disk : List Text → Naming
+named_behind_disk [] = known_page page.Disk
+named_behind_disk (word ∷ names) = named_of_disk names
+
+-- own: what the names on such a line come to
+abbrev pub named_by : List Text → Naming
+named_by (name ∷ word ∷ rest) = if bytes_eq word (codes "help") then named rest else named_behind_disk rest
+named_by _ = known_page page.Overview
+
+-- own: the page that names ask for, where they are right
+abbrev pub page_of_naming : Naming → Option Page
+page_of_naming (known_page p) = Some p
+page_of_naming _ = None
+
+-- own: the word is said to name no command
+abbrev pub SaysUnknown : Text → UsageFault → Type 0
+SaysUnknown word (fault.UnknownCommand said) = said.bytes ≡ shown_of (chars word)
+SaysUnknown word _ = ⊥
+
+-- own: the word is said to be one too many
+abbrev pub SaysExtra : Text → UsageFault → Type 0
+SaysExtra word (fault.UnexpectedArgument said) = said.bytes ≡ shown_of (chars word)
+SaysExtra word _ = ⊥
+
+-- own: the refusal of names that ask for no page: it says which word is wrong, and points to the page of those before it
+abbrev pub IsNamingRefusal : Naming → UsageRefusal → Type 0
+IsNamingRefusal (known_page p) e = ⊥
+IsNamingRefusal (unknown_name word p) e = SaysUnknown word e.fault × (e.page ≡ p)
+IsNamingRefusal (extra_name word p) e = SaysExtra word e.fault × (e.page ≡ p)
+
+-- own: the page that names ask for, or their refusal
+abbrev pub IsNaming : Naming → Result Page UsageRefusal → Type 0
+IsNaming naming r = MatchResult r (λ p. page_of_naming naming ≡ Some p) (IsNamingRefusal naming)
+
+-- own: behind `disk`: the page of the command of it that is named, or else its own
+abbrev pub page_of_disk_words : List Text → Page
+page_of_disk_words [] = page.Disk
+page_of_disk_words (word ∷ rest) = unwrap_or (page_in disk_pages word) page.Disk
+
+-- own: the page of the command that the line names, or else the overview
+abbrev pub page_of_line : List Text → Page
+page_of_line (name ∷ word ∷ rest) =
+    if bytes_eq word (codes "disk") then page_of_disk_words rest
+    else unwrap_or (page_in command_pages word) page.Overview
+page_of_line _ = page.Overview
 
 -- own: the text of a page
 abbrev pub text_of_page : Page → Text
@@ -93,7 +145,31 @@ text_of_page page.DiskRemove = text.DISK_REMOVE_PAGE.now
 text_of_page page.DiskRename = text.DISK_RENAME_PAGE.now
 text_of_page page.Status = text.STATUS_PAGE.now
 
--- own: behind the program's name stands one word, which asks for the version
+-- own: the words of a line that prints a page
+abbrev pub line_of_page : Page → List Text
+line_of_page page.Overview = codes "cpmhost" ∷ codes "--help" ∷ []
+line_of_page page.Com = codes "cpmhost" ∷ codes "help" ∷ codes "com" ∷ []
+line_of_page page.Asm = codes "cpmhost" ∷ codes "help" ∷ codes "asm" ∷ []
+line_of_page page.List = codes "cpmhost" ∷ codes "help" ∷ codes "list" ∷ []
+line_of_page page.Check = codes "cpmhost" ∷ codes "help" ∷ codes "check" ∷ []
+line_of_page page.Run = codes "cpmhost" ∷ codes "help" ∷ codes "run" ∷ []
+line_of_page page.Debug = codes "cpmhost" ∷ codes "help" ∷ codes "debug" ∷ []
+line_of_page page.Disk = codes "cpmhost" ∷ codes "help" ∷ codes "disk" ∷ []
+line_of_page page.DiskNew = codes "cpmhost" ∷ codes "help" ∷ codes "disk" ∷ codes "new" ∷ []
+line_of_page page.DiskList = codes "cpmhost" ∷ codes "help" ∷ codes "disk" ∷ codes "list" ∷ []
+line_of_page page.DiskPut = codes "cpmhost" ∷ codes "help" ∷ codes "disk" ∷ codes "put" ∷ []
+line_of_page page.DiskGet = codes "cpmhost" ∷ codes "help" ∷ codes "disk" ∷ codes "get" ∷ []
+line_of_page page.DiskRemove = codes "cpmhost" ∷ codes "help" ∷ codes "disk" ∷ codes "remove" ∷ []
+line_of_page page.DiskRename = codes "cpmhost" ∷ codes "help" ∷ codes "disk" ∷ codes "rename" ∷ []
+line_of_page page.Status = codes "cpmhost" ∷ codes "help" ∷ codes "status" ∷ []
+
+-- own: words with a blank (32) between each two
+abbrev pub spaced : List Text → Text
+spaced [] = []
+spaced (word ∷ []) = word
+spaced (word ∷ next ∷ rest) = word ++ 0x20 ∷ spaced (next ∷ rest)
+
+-- own: after the program's name stands one word, which asks for the version
 abbrev pub asks_version : List Text → Bool
 asks_version (name ∷ word ∷ []) = bytes_eq word (codes "--version") || bytes_eq word (codes "-V")
 asks_version _ = false

@@ -1,4 +1,4 @@
--- Options that don't go together. Clap's rules take them; what is wrong with them comes behind what clap finds.
+-- Options that don't go together. Clap's rules take them; what is wrong with them comes after what clap finds.
 use Rattle.std.specs.Prelude.{◌&&◌, ◌||◌, if◌then◌else◌, nat_lt, not, Option, Some, None, is_some, length}
 use Rattle.cpm_command_line.specs.declared.fault.UsageFault.{UsageFault}
 use Rattle.cpm_command_line.specs.declared.fault.UsageFault.TheVariants.{OutWithoutDisk, ProgressAtKeyboard, RecordAlone}

@@ -32,7 +32,7 @@ is_hidden c = is_control c || (is_format_of_letters c || (is_format_of_lines c |
 abbrev pub shown_character : ℕ → ℕ
 shown_character c = if is_hidden c then 0x3F else c
 
--- own: behind these bytes at least 8 of 200 are left
+-- own: after these bytes at least 8 of 200 are left
 abbrev pub has_room_to_show : List ℕ → Bool
 has_room_to_show done = nat_le (length done + 8) 200
 

@@ -63,14 +63,12 @@ pub(crate) fn named<'a>(alloc: Global, name: &'a str) -> Command<'a>
     Command::new(alloc, name)
 }
 
-/// A command that wants a subcommand, with none yet. It adds no help of its own: the program answers
-/// that before it reads a task.
+/// A command that wants a subcommand, with none yet. What follows `help` is no line of it.
 pub(crate) fn top_command<'a>(alloc: Global, name: &'a str) -> Command<'a>
     ensures { IsCommandOf (top_app name.now) result }
 {
     Command::new(alloc, name)
         .subcommand_required(true)
-        .disable_help_flag(true)
         .disable_help_subcommand(true)
 }
 

@@ -1,15 +1,17 @@
 //! Reading the words from `disk` on. `disk` is no subcommand of the program's command, but a command
 //! of its own: the contracts of `clap` are of commands with one level of subcommands.
-ghost use Rattle.std.specs.Prelude.{◌≡◌, [], IfErr, IfOk, IsSomeAnd, codes, map, true};
-ghost use Rattle.clap.specs.Words.{fault_of, found_of, rows_of, subcommand_of, subcommand_rows_of, takes};
+ghost use Rattle.std.specs.Prelude.{◌≡◌, IfErr, IfOk, IsSomeAnd, codes, map, true};
+ghost use Rattle.clap.specs.Words.{fault_of, found_of, rows_of, subcommand_rows_of, takes};
 ghost use Rattle.cpm_command_line.specs.DiskLine.{HasDiskEntriesOf, IsWholeDisk, IsWholeDiskOf, IsWholeGet, IsWholeListing};
 ghost use Rattle.cpm_command_line.specs.DiskLine.{IsWholeNew, IsWholePut, IsWholeRemove, IsWholeRename, disk_app};
+ghost use Rattle.cpm_command_line.specs.Line.{IsDiskTask, IsPageOrMemory, asks_by_flag};
 ghost use Rattle.cpm_command_line.specs.Refusals.{IsRefusalBy};
 
 use crate::build_disk::disk_command;
 use crate::entries::{flag_of, text_if_any, text_of, texts_of, user_if_any, user_of};
-use crate::fault::{UsageError, refusal};
-use crate::task::DiskTask;
+use crate::fault::{UsageError, answer};
+use crate::task::{DiskTask, Task};
+use crate::usage::Page;
 use clap::ArgMatches;
 use std::alloc::{AllocError, Global};
 
@@ -123,14 +125,18 @@ fn task_of<'a>(alloc: Global, matches: &ArgMatches<'a>) -> Result<DiskTask<'a>, 
     }
 }
 
-/// The task that the words name, of which the first is `disk`.
-pub(crate) fn disk_task<'a>(alloc: Global, words: &'a [&'a str]) -> Result<DiskTask<'a>, UsageError>
-    ensures task { IfOk result (λ t. IsSomeAnd
-        (subcommand_of disk_app (map (λ w. w.now) words.entry.now)) (λ given. HasDiskEntriesOf given t)) }
-    ensures faultless { IfOk result (λ _. fault_of disk_app (map (λ w. w.now) words.entry.now) ≡ []) }
+/// The task that the words name, of which the first is `disk`, in a line that has this page.
+pub(crate) fn disk_task<'a>(
+    alloc: Global,
+    words: &'a [&'a str],
+    page: Page,
+) -> Result<Task<'a>, UsageError>
+    ensures task { IfOk result (IsDiskTask page (map (λ w. w.now) words.entry.now)) }
+    ensures asked { asks_by_flag (fault_of disk_app (map (λ w. w.now) words.entry.now)) ≡ true
+        → IsPageOrMemory page result }
     ensures taken { takes disk_app (map (λ w. w.now) words.entry.now) ≡ true
         → IfErr result (λ e. e ≡ UsageError.OutOfMemory) }
-    ensures refusal { IfErr result (IsRefusalBy true disk_app (map (λ w. w.now) words.entry.now)) }
+    ensures refusal { IfErr result (IsRefusalBy true page disk_app (map (λ w. w.now) words.entry.now)) }
 {
     let command = match disk_command(alloc) {
         Ok(command) => command,
@@ -138,10 +144,10 @@ pub(crate) fn disk_task<'a>(alloc: Global, words: &'a [&'a str]) -> Result<DiskT
     };
     let matches = match command.try_get_matches_from(words) {
         Ok(matches) => matches,
-        Err(error) => return Err(refusal(alloc, &error, true)),
+        Err(error) => return answer(alloc, &error, true, page),
     };
     match task_of(alloc, &matches) {
-        Ok(task) => Ok(task),
+        Ok(task) => Ok(Task::Disk(task)),
         Err(_) => Err(UsageError::OutOfMemory),
     }
 }

@@ -1,10 +1,13 @@
 //! What was wrong with the words of a command line.
-ghost use Rattle.std.specs.Prelude.{◌≡◌, ◌+◌, ◌<◌, ◌≤◌, ◌++◌, false, IsTrue, if◌then◌else◌, chars, codes, encode_utf8, length};
-ghost use Rattle.clap.specs.Words.{kind_of};
-ghost use Rattle.cpm_command_line.specs.Refusals.{IsOfKind};
+ghost use Rattle.std.specs.Prelude.{◌≡◌, ◌+◌, ◌<◌, ◌≤◌, ◌++◌, false, IfSome, IsTrue, if◌then◌else◌, chars, codes, encode_utf8, length};
+ghost use Rattle.clap.specs.Words.{IsAmong, kind_of};
+ghost use Rattle.cpm_command_line.specs.Refusals.{IsAnswer, IsOfKind, IsOfLine, kinds_of};
 ghost use Rattle.cpm_command_line.specs.Shown.{characters_of, has_room_to_show, shown_character, shown_of};
 ghost use Rattle.cpm_command_line.specs.Shown.{is_format_of_letters, is_format_of_lines, is_format_past_ffff, is_from, is_hidden};
 
+use crate::pages::page_line;
+use crate::task::Task;
+use crate::usage::Page;
 use arrayvec::ArrayString;
 use clap::Error;
 use clap::error::ErrorKind;
@@ -19,53 +22,61 @@ pub type ShownWord = ArrayString<200>;
 #[derive(Clone, Copy, Debug, PartialEq, Eq, Drop, Error)]
 pub enum UsageFault {
     /// There is no word after the program's name.
-    #[error("no command was given; try 'cpmhost com FILE' or 'cpmhost --help'")]
+    #[error("no command was given")]
     NoCommand,
     /// There is no word after `disk`.
-    #[error("no command of 'disk' was given: new, list, put, get, remove or rename; try 'cpmhost --help'")]
+    #[error("no command of 'disk' was given: new, list, put, get, remove or rename")]
     NoDiskCommand,
     /// The word stands where a command does, and names none.
-    #[error("unknown command '{0}'; try 'cpmhost --help'")]
+    #[error("unknown command '{0}'")]
     UnknownCommand(ShownWord),
     /// The command has no such option, or takes no more words.
-    #[error("unexpected argument '{0}'; try 'cpmhost --help'")]
+    #[error("unexpected argument '{0}'")]
     UnexpectedArgument(ShownWord),
     /// A word that has to be there is not.
-    #[error("the argument {0} is missing; try 'cpmhost --help'")]
+    #[error("the argument {0} is missing")]
     MissingArgument(ShownWord),
     /// An option stands without its value.
-    #[error("a value is wanted for '{0}'; try 'cpmhost --help'")]
+    #[error("a value is wanted for '{0}'")]
     MissingValue(ShownWord),
     /// The value of `--steps` is no number of 64 bits.
-    #[error("invalid value '{0}' for '--steps': a number from 0 to 18446744073709551615 is wanted; try 'cpmhost --help'")]
+    #[error("invalid value '{0}' for '--steps': a number from 0 to 18446744073709551615 is wanted")]
     NotANumber(ShownWord),
     /// The value of `--user` is no number of a user.
-    #[error("invalid value '{0}' for '--user': a number from 0 to 15 is wanted; try 'cpmhost --help'")]
+    #[error("invalid value '{0}' for '--user': a number from 0 to 15 is wanted")]
     NotAUser(ShownWord),
     /// An option was given twice.
-    #[error("the argument '{0}' was given twice; try 'cpmhost --help'")]
+    #[error("the argument '{0}' was given twice")]
     GivenTwice(ShownWord),
     /// The keys of a program are to be recorded, and come from nowhere.
-    #[error("'--record' takes the keys of '--keyboard' or '--keys'; give one of these with it; try 'cpmhost --help'")]
+    #[error("'--record' takes the keys of '--keyboard' or '--keys'; give one of these with it")]
     RecordAlone,
     /// The keys of a session are to be recorded, and none are typed.
-    #[error("'--record' takes the keys of '--keyboard'; give both, or neither; try 'cpmhost --help'")]
+    #[error("'--record' takes the keys of '--keyboard'; give both, or neither")]
     RecordUntyped,
     /// The keys are to come from a script, and to be typed.
-    #[error("'--keys' and '--keyboard' both give the keys; give one of them; try 'cpmhost --help'")]
+    #[error("'--keys' and '--keyboard' both give the keys; give one of them")]
     TwoScripts,
     /// There are more images than drives.
-    #[error("'--disk' was given more than 4 times; give it for the drives A to D; try 'cpmhost --help'")]
+    #[error("'--disk' was given more than 4 times; give it for the drives A to D")]
     TooManyDisks,
     /// A drive is to be written, and has no image.
-    #[error("'--out-disk' was given more often than '--disk'; give a '--disk' for each; try 'cpmhost --help'")]
+    #[error("'--out-disk' was given more often than '--disk'; give a '--disk' for each")]
     OutWithoutDisk,
     /// The terminal is to show what is typed at, and how much is done.
-    #[error("'--progress' and '--keyboard' both write to the terminal; give one of them; try 'cpmhost --help'")]
+    #[error("'--progress' and '--keyboard' both write to the terminal; give one of them")]
     ProgressAtKeyboard,
     /// Anything else, in the words of the reader of command lines.
-    #[error("{0}; try 'cpmhost --help'")]
+    #[error("{0}")]
     Other(ShownWord),
+}
+
+/// What was wrong with a command line, and the page of the help that tells how it is written.
+#[derive(Clone, Copy, Debug, PartialEq, Eq, Drop, Error)]
+#[error("{fault}; try '{line}'", line = page_line(*.page))]
+pub struct UsageRefusal {
+    pub fault: UsageFault,
+    pub page: Page,
 }
 
 /// Why a command line names no task.
@@ -73,7 +84,7 @@ pub enum UsageFault {
 pub enum UsageError {
     /// The words name no task.
     #[error("{0}")]
-    Usage(UsageFault),
+    Usage(UsageRefusal),
     /// Memory was refused.
     #[error("out of memory")]
     OutOfMemory,
@@ -229,41 +240,61 @@ fn wrong_number(word: ShownWord, is_disk: bool) -> UsageFault
     }
 }
 
-/// The refusal for an error of `clap` of this kind, which says `message`, in a line of `disk` or
-/// another.
-fn refusal_of(kind: ErrorKind, message: &str, is_disk: bool) -> UsageError
-    ensures { IsOfKind is_disk kind result }
+/// What is wrong by an error of `clap` of this kind, which says `message`, in a line of `disk` or another.
+/// Nothing is where memory was refused or help is asked for.
+fn fault_of_kind(kind: ErrorKind, message: &str, is_disk: bool) -> Option<UsageFault>
+    ensures { IfSome result (λ fault. IsAmong kind (kinds_of fault) × IsOfLine is_disk fault) }
 {
-    let fault = match kind {
-        ErrorKind::OutOfMemory => return UsageError::OutOfMemory,
+    match kind {
+        ErrorKind::OutOfMemory | ErrorKind::DisplayHelp => None,
         ErrorKind::MissingSubcommand | ErrorKind::DisplayHelpOnMissingArgumentOrSubcommand => {
-            missing_command(is_disk)
+            Some(missing_command(is_disk))
         }
-        ErrorKind::InvalidSubcommand => UsageFault::UnknownCommand(quoted(message, "'")),
-        ErrorKind::UnknownArgument => UsageFault::UnexpectedArgument(quoted(message, "' found")),
-        ErrorKind::MissingRequiredArgument => UsageFault::MissingArgument(missing_name(message)),
-        ErrorKind::InvalidValue => UsageFault::MissingValue(quoted(message, "' but")),
-        ErrorKind::ValueValidation => wrong_number(quoted(message, "' for '"), is_disk),
-        ErrorKind::ArgumentConflict => UsageFault::GivenTwice(quoted(message, "' cannot")),
+        ErrorKind::InvalidSubcommand => Some(UsageFault::UnknownCommand(quoted(message, "'"))),
+        ErrorKind::UnknownArgument => {
+            Some(UsageFault::UnexpectedArgument(quoted(message, "' found")))
+        }
+        ErrorKind::MissingRequiredArgument => {
+            Some(UsageFault::MissingArgument(missing_name(message)))
+        }
+        ErrorKind::InvalidValue => Some(UsageFault::MissingValue(quoted(message, "' but"))),
+        ErrorKind::ValueValidation => Some(wrong_number(quoted(message, "' for '"), is_disk)),
+        ErrorKind::ArgumentConflict => Some(UsageFault::GivenTwice(quoted(message, "' cannot"))),
         ErrorKind::NoEquals
         | ErrorKind::TooManyValues
         | ErrorKind::TooFewValues
         | ErrorKind::WrongNumberOfValues
-        | ErrorKind::DisplayHelp
         | ErrorKind::DisplayVersion
         | ErrorKind::Io
-        | ErrorKind::Format => UsageFault::Other(shown(message)),
-    };
-    UsageError::Usage(fault)
+        | ErrorKind::Format => Some(UsageFault::Other(shown(message))),
+    }
 }
 
-/// The refusal for an error of `clap`, in a line of `disk` or another.
-pub(crate) fn refusal(alloc: Global, error: &Error, is_disk: bool) -> UsageError
-    ensures kind { IsOfKind is_disk (kind_of error.now) result }
-    ensures memory { kind_of error.now ≡ ErrorKind.OutOfMemory → result ≡ UsageError.OutOfMemory }
+/// The refusal for an error of `clap` that says `message`, in a line of `disk` or another that has this page.
+fn refusal_of(kind: ErrorKind, message: &str, is_disk: bool, page: Page) -> UsageError
+    ensures { IsOfKind is_disk page kind result }
 {
-    match error.to_string(alloc) {
-        Ok(text) => refusal_of(error.kind(), message_of(text.as_str()), is_disk),
-        Err(_) => UsageError::OutOfMemory,
+    match fault_of_kind(kind, message, is_disk) {
+        Some(fault) => UsageError::Usage(UsageRefusal { fault, page }),
+        None => UsageError::OutOfMemory,
+    }
+}
+
+/// What an error of `clap` comes to, in a line of `disk` or another that has this page: the page where a
+/// flag asks for it, or else a refusal.
+pub(crate) fn answer<'a>(
+    alloc: Global,
+    error: &Error,
+    is_disk: bool,
+    page: Page,
+) -> Result<Task<'a>, UsageError>
+    ensures { IsAnswer is_disk page (kind_of error.now) result }
+{
+    match error.kind() {
+        ErrorKind::DisplayHelp => Ok(Task::Help(page)),
+        kind => match error.to_string(alloc) {
+            Ok(text) => Err(refusal_of(kind, message_of(text.as_str()), is_disk, page)),
+            Err(_) => Err(UsageError::OutOfMemory),
+        },
     }
 }

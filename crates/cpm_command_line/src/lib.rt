@@ -12,8 +12,8 @@ mod read;
 mod task;
 mod usage;
 
-pub use fault::{ShownWord, UsageError, UsageFault, shown, shown_line};
-pub use pages::page_text;
+pub use fault::{ShownWord, UsageError, UsageFault, UsageRefusal, shown, shown_line};
+pub use pages::{page_line, page_text};
 pub use read::command;
 pub use task::{ComTask, DiskTask, RunTask, Task};
-pub use usage::{Page, VERSION, asks_version, help, page_asked};
+pub use usage::{Page, VERSION, asks_version};

@@ -1,6 +1,7 @@
 //! The texts of the help's pages.
-ghost use Rattle.std.specs.Prelude.{◌≡◌};
-ghost use Rattle.cpm_command_line.specs.HelpWords.{text_of_page};
+ghost use Rattle.std.specs.Prelude.{◌≡◌, Some};
+ghost use Rattle.cpm_command_line.specs.HelpWords.{line_of_page, spaced, text_of_page};
+ghost use Rattle.cpm_command_line.specs.Line.{asked_page};
 
 use crate::usage::Page;
 
@@ -26,9 +27,10 @@ the page of a command of disk.
 'cpmhost help debug' also tells the lines that debug reads, and
 'cpmhost help status' the exit statuses.
 
-'cpmhost --help' prints this page, and 'cpmhost --version' the version.
+'cpmhost help' and 'cpmhost --help' print the list of commands, and
+'cpmhost --version' the version.
 
-A file whose name is 'help' or begins with '-' is given as './NAME'.
+A file whose name begins with '-' is given as './NAME'.
 ";
 
 /// The page of `com`.
@@ -365,5 +367,29 @@ pub fn page_text(page: Page) -> &'static str
         Page::DiskRemove => DISK_REMOVE_PAGE,
         Page::DiskRename => DISK_RENAME_PAGE,
         Page::Status => STATUS_PAGE,
+    }
+}
+
+/// The command line that prints a page.
+pub fn page_line(page: Page) -> &'static str
+    ensures line { result.now ≡ spaced (line_of_page page) }
+    ensures asks { asked_page (line_of_page page) ≡ Some page }
+{
+    match page {
+        Page::Overview => "cpmhost --help",
+        Page::Com => "cpmhost help com",
+        Page::Asm => "cpmhost help asm",
+        Page::List => "cpmhost help list",
+        Page::Check => "cpmhost help check",
+        Page::Run => "cpmhost help run",
+        Page::Debug => "cpmhost help debug",
+        Page::Disk => "cpmhost help disk",
+        Page::DiskNew => "cpmhost help disk new",
+        Page::DiskList => "cpmhost help disk list",
+        Page::DiskPut => "cpmhost help disk put",
+        Page::DiskGet => "cpmhost help disk get",
+        Page::DiskRemove => "cpmhost help disk remove",
+        Page::DiskRename => "cpmhost help disk rename",
+        Page::Status => "cpmhost help status",
     }
 }

@@ -1,18 +1,21 @@
 //! Reading the entries that a command line gave.
-ghost use Rattle.std.specs.Prelude.{◌≡◌, [], IfOk, IfErr, IsSomeAnd, None, codes, map, true, false};
-ghost use Rattle.clap.specs.Words.{fault_of, found_of, rows_of, subcommand_of, subcommand_rows_of, takes};
+ghost use Rattle.std.specs.Prelude.{◌≡◌, IfOk, IfErr, IsSomeAnd, None, Some, codes, map, true, false};
+ghost use Rattle.clap.specs.Words.{fault_of, found_of, rows_of, subcommand_rows_of, takes};
 ghost use Rattle.cpm_command_line.specs.CommandLine.{HasEntriesOf, IsWhole, IsWholeAsm, IsWholeCheck, IsWholeCom};
 ghost use Rattle.cpm_command_line.specs.CommandLine.{IsWholeDebug, IsWholeList, IsWholeOf, IsWholeRun, host_app};
-ghost use Rattle.cpm_command_line.specs.Line.{HasUsers, IsTaskOf, app_of_line, names_disk, words_of_line};
+ghost use Rattle.cpm_command_line.specs.HelpWords.{is_help_line, named_by, page_of_line};
+ghost use Rattle.cpm_command_line.specs.Line.{HasUsers, IsFaultless, IsHostTask, IsPageOrMemory, IsTaskOf};
+ghost use Rattle.cpm_command_line.specs.Line.{app_of_line, asked_page, asks_by_flag, names_disk, words_of_line};
 ghost use Rattle.cpm_command_line.specs.Options.{task_fault};
-ghost use Rattle.cpm_command_line.specs.Refusals.{IsRefusalBy, IsRefusalOf, IsTaskRefusal};
+ghost use Rattle.cpm_command_line.specs.Refusals.{IsHelpAnswer, IsRefusalBy, IsRefusalOf, IsTaskRefusal};
 
 use crate::build::host_command;
 use crate::disk::disk_task;
 use crate::entries::{cpu_of, flag_of, steps_of, text_if_any, text_of, texts_if_any};
-use crate::fault::{UsageError, refusal};
+use crate::fault::{UsageError, UsageRefusal, answer};
 use crate::options::options_fault;
 use crate::task::{ComTask, RunTask, Task};
+use crate::usage::{Page, is_help_line, page_of_help_line, page_of_line};
 use clap::ArgMatches;
 use std::alloc::{AllocError, Global};
 
@@ -137,14 +140,14 @@ fn task_of<'a>(alloc: Global, matches: &ArgMatches<'a>) -> Result<Task<'a>, Allo
     }
 }
 
-/// The task that words name which don't name `disk`.
-fn host_task<'a>(alloc: Global, words: &'a [&'a str]) -> Result<Task<'a>, UsageError>
-    ensures task { IfOk result (λ t. IsSomeAnd
-        (subcommand_of host_app (map (λ w. w.now) words.entry.now)) (λ given. HasEntriesOf given t)) }
-    ensures faultless { IfOk result (λ _. fault_of host_app (map (λ w. w.now) words.entry.now) ≡ []) }
+/// The task that words name which don't name `disk`, in a line that has this page.
+fn host_task<'a>(alloc: Global, words: &'a [&'a str], page: Page) -> Result<Task<'a>, UsageError>
+    ensures task { IfOk result (IsHostTask page (map (λ w. w.now) words.entry.now)) }
+    ensures asked { asks_by_flag (fault_of host_app (map (λ w. w.now) words.entry.now)) ≡ true
+        → IsPageOrMemory page result }
     ensures taken { takes host_app (map (λ w. w.now) words.entry.now) ≡ true
         → IfErr result (λ e. e ≡ UsageError.OutOfMemory) }
-    ensures refusal { IfErr result (IsRefusalBy false host_app (map (λ w. w.now) words.entry.now)) }
+    ensures refusal { IfErr result (IsRefusalBy false page host_app (map (λ w. w.now) words.entry.now)) }
 {
     let command = match host_command(alloc) {
         Ok(command) => command,
@@ -152,7 +155,7 @@ fn host_task<'a>(alloc: Global, words: &'a [&'a str]) -> Result<Task<'a>, UsageE
     };
     let matches = match command.try_get_matches_from(words) {
         Ok(matches) => matches,
-        Err(error) => return Err(refusal(alloc, &error, false)),
+        Err(error) => return answer(alloc, &error, false, page),
     };
     match task_of(alloc, &matches) {
         Ok(task) => Ok(task),
@@ -160,7 +163,7 @@ fn host_task<'a>(alloc: Global, words: &'a [&'a str]) -> Result<Task<'a>, UsageE
     }
 }
 
-/// Whether the word behind the program's name is `disk`.
+/// Whether the word after the program's name is `disk`.
 fn is_disk_line(words: &[&str]) -> bool
     ensures { result ≡ names_disk (map (λ w. w.now) words.now) }
 {
@@ -170,57 +173,76 @@ fn is_disk_line(words: &[&str]) -> bool
     }
 }
 
-/// The task that the words name by clap's rules.
+/// The task that the words name by clap's rules, where they are no question behind `help`.
 fn task_by_rules<'a>(alloc: Global, words: &'a [&'a str]) -> Result<Task<'a>, UsageError>
-    ensures task { IfOk result (IsTaskOf (map (λ w. w.now) words.entry.now)) }
-    ensures faultless { IfOk result (λ _. fault_of (app_of_line (map (λ w. w.now) words.entry.now))
-        (words_of_line (map (λ w. w.now) words.entry.now)) ≡ []) }
+    ensures task { is_help_line (map (λ w. w.now) words.entry.now) ≡ false
+        → IfOk result (λ t. IsTaskOf (map (λ w. w.now) words.entry.now) t
+        × IsFaultless (map (λ w. w.now) words.entry.now) t) }
+    ensures asked { (p : Page) → is_help_line (map (λ w. w.now) words.entry.now) ≡ false
+        → asked_page (map (λ w. w.now) words.entry.now) ≡ Some p → IsPageOrMemory p result }
     ensures taken { takes (app_of_line (map (λ w. w.now) words.entry.now))
         (words_of_line (map (λ w. w.now) words.entry.now)) ≡ true
         → IfErr result (λ e. e ≡ UsageError.OutOfMemory) }
     ensures refusal { IfErr result (IsRefusalBy (names_disk (map (λ w. w.now) words.entry.now))
+        (page_of_line (map (λ w. w.now) words.entry.now))
         (app_of_line (map (λ w. w.now) words.entry.now))
         (words_of_line (map (λ w. w.now) words.entry.now))) }
 {
+    let page = page_of_line(words);
     if is_disk_line(words) {
-        match disk_task(alloc, &words[1..]) {
-            Ok(task) => Ok(Task::Disk(task)),
-            Err(error) => Err(error),
-        }
+        disk_task(alloc, &words[1..], page)
     } else {
-        host_task(alloc, words)
+        host_task(alloc, words, page)
+    }
+}
+
+/// The page that a question behind `help` asks for, or its refusal.
+fn help_task<'a>(words: &[&str]) -> Result<Task<'a>, UsageError>
+    ensures { IsHelpAnswer (named_by (map (λ w. w.now) words.now)) result }
+{
+    match page_of_help_line(words) {
+        Ok(page) => Ok(Task::Help(page)),
+        Err(refusal) => Err(UsageError::Usage(refusal)),
     }
 }
 
 /// The task that the words name, of which the first is the program's own name.
 ///
 /// `Usage` says what is wrong first with words that name none. `OutOfMemory` comes only where memory
-/// is refused, whatever is wrong with the words behind that place.
+/// is refused, whatever is wrong with the words after that place.
 pub fn command<'a>(alloc: Global, words: &'a [&'a str]) -> Result<Task<'a>, UsageError>
     // The task has the subcommand and all entries that clap's rules give the words, and its options
-    // go together.
+    // go together. Or it is the page of the help that the words ask for.
     ensures task { IfOk result (λ t. IsTaskOf (map (λ w. w.now) words.entry.now) t × (task_fault t ≡ None)) }
+
+    // Where the words ask for a page, the task is that page.
+    ensures asked { (p : Page) → asked_page (map (λ w. w.now) words.entry.now) ≡ Some p → IsPageOrMemory p result }
 
     // The number of a user is from 0 to 15.
     ensures users { IfOk result HasUsers }
 
     // Words with a fault are refused. Words that the rules take are refused for what is wrong first with
     // the options of the task that they name.
-    ensures faultless { IfOk result (λ _. fault_of (app_of_line (map (λ w. w.now) words.entry.now))
-        (words_of_line (map (λ w. w.now) words.entry.now)) ≡ []) }
+    ensures faultless { IfOk result (IsFaultless (map (λ w. w.now) words.entry.now)) }
     ensures taken { takes (app_of_line (map (λ w. w.now) words.entry.now))
         (words_of_line (map (λ w. w.now) words.entry.now)) ≡ true
         → IfErr result (IsTaskRefusal (map (λ w. w.now) words.entry.now)) }
 
-    // A refusal says what is wrong first.
+    // A refusal says what is wrong first, and points to the page of the command that the words name.
     ensures refusal { IfErr result (IsRefusalOf (map (λ w. w.now) words.entry.now)) }
 {
+    if is_help_line(words) {
+        return help_task(words);
+    }
     let task = match task_by_rules(alloc, words) {
         Ok(task) => task,
         Err(error) => return Err(error),
     };
     match options_fault(&task) {
-        Some(fault) => Err(UsageError::Usage(fault)),
+        Some(fault) => Err(UsageError::Usage(UsageRefusal {
+            fault,
+            page: page_of_line(words),
+        })),
         None => Ok(task),
     }
 }

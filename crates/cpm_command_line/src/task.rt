@@ -1,5 +1,6 @@
 //! What a command line asks for.
 
+use crate::usage::Page;
 use cpm_flags::Cpu;
 
 /// A subcommand with its words.
@@ -34,11 +35,13 @@ pub enum Task<'a> {
     },
     /// `disk ..`: make an image of a disk, or do something with the files in one.
     Disk(DiskTask<'a>),
+    /// `help ..`, `-h` or `--help`: print this page of the help.
+    Help(Page),
 }
 
 /// `com FILE [TAIL..] [--z80] [--steps N] [--keys SCRIPT] [--disk IMAGE].. [--out-disk IMAGE]..
 /// [--keyboard] [--record SCRIPT] [--progress] [--stop-idle] [--raw] [--quiet]`: run the program in FILE on
-/// that processor for at most `steps` steps, with the words of `tail` behind its name, and with the keys of SCRIPT or,
+/// that processor for at most `steps` steps, with the words of `tail` after its name, and with the keys of SCRIPT or,
 /// where it is live, of standard input. `drives` are the images of the drives from A on, and `outs` the
 /// files that these are written to; `record` is the script that its keys are written to, where it is live
 /// or has a script. With `has_progress` it is told how much of the steps is done. With `stops_idle` it

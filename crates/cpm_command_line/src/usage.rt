@@ -1,12 +1,11 @@
-//! The help and the version, and the words that ask for them.
-ghost use Rattle.std.specs.Prelude.{◌≡◌, codes, map, not, option_map, take_while};
-ghost use Rattle.std.specs.List.{list_any};
-ghost use Rattle.std.specs.Str.{bytes_eq};
-ghost use Rattle.cpm_command_line.specs.HelpWords.{asked_of_disk, asked_page, asks_below, asks_version, begins_with_help};
-ghost use Rattle.cpm_command_line.specs.HelpWords.{command_pages, disk_page_of, disk_pages, is_help_flag, page_in};
-ghost use Rattle.cpm_command_line.specs.HelpWords.{page_of_names, text_of_page};
+//! The pages of the help, and the words that ask for one or for the version.
+ghost use Rattle.std.specs.Prelude.{◌≡◌, map};
+ghost use Rattle.cpm_command_line.specs.HelpWords.{IsNaming, asks_version, begins_with_help, command_pages, disk_pages};
+ghost use Rattle.cpm_command_line.specs.HelpWords.{ended_by, is_help_flag, is_help_line, named, named_behind_disk, named_by, named_of_disk};
+ghost use Rattle.cpm_command_line.specs.HelpWords.{page_in, page_of_disk_words, page_of_line, topic_pages, unless_flag};
+ghost use Rattle.cpm_command_line.specs.HelpWords.{unknown_name};
 
-use crate::pages::page_text;
+use crate::fault::{UsageFault, UsageRefusal, shown};
 
 /// What `cpmhost --version` prints.
 pub const VERSION: &str = "cpmhost 0.6.0\n";
@@ -83,15 +82,77 @@ fn disk_command_page(word: &str) -> Option<Page>
     }
 }
 
-/// Whether a flag for help stands before any `--`.
-fn has_flag(words: &[&str]) -> bool
-    ensures { result ≡ list_any (λ w. is_help_flag w.now)
-        (take_while (λ w. not (bytes_eq w.now (codes "--"))) words.now) }
+/// The page that a word behind `help` names, but for `disk`.
+fn topic_page(word: &str) -> Option<Page>
+    ensures { result ≡ page_in topic_pages word.now }
 {
-    words
-        .iter()
-        .take_while(|word| **word != "--")
-        .any(|word| is_flag(word))
+    match word {
+        "help" => Some(Page::Overview),
+        "status" => Some(Page::Status),
+        _ => command_page(word),
+    }
+}
+
+/// The page of names that are read, where a word follows that is none: a flag for help, or one that names no
+/// command.
+fn page_before_name(page: Page, word: &str) -> Result<Page, UsageRefusal>
+    ensures { IsNaming (unless_flag word.now page (unknown_name word.now page)) result }
+{
+    if is_flag(word) {
+        Ok(page)
+    } else {
+        let fault = UsageFault::UnknownCommand(shown(word));
+        Err(UsageRefusal { fault, page })
+    }
+}
+
+/// The page of names behind which these words stand: none, or a flag for help.
+fn page_before_end(page: Page, rest: &[&str]) -> Result<Page, UsageRefusal>
+    ensures { IsNaming (ended_by page (map (λ w. w.now) rest.now)) result }
+{
+    match rest {
+        [word, ..] => {
+            if is_flag(word) {
+                Ok(page)
+            } else {
+                let fault = UsageFault::UnexpectedArgument(shown(word));
+                Err(UsageRefusal { fault, page })
+            }
+        }
+        [] => Ok(page),
+    }
+}
+
+/// The page that names after `help disk` or `disk help` ask for: that of `disk` where there are none.
+fn disk_page_named(names: &[&str]) -> Result<Page, UsageRefusal>
+    ensures { IsNaming (named_of_disk (map (λ w. w.now) names.now)) result }
+{
+    match names {
+        [first, rest @ ..] => match disk_command_page(first) {
+            Some(page) => page_before_end(page, rest),
+            None => page_before_name(Page::Disk, first),
+        },
+        [] => Ok(Page::Disk),
+    }
+}
+
+/// The page that names after `help` ask for: the overview where there are none.
+fn page_named(names: &[&str]) -> Result<Page, UsageRefusal>
+    ensures { IsNaming (named (map (λ w. w.now) names.now)) result }
+{
+    match names {
+        [first, rest @ ..] => {
+            if *first == "disk" {
+                disk_page_named(rest)
+            } else {
+                match topic_page(first) {
+                    Some(page) => page_before_end(page, rest),
+                    None => page_before_name(Page::Overview, first),
+                }
+            }
+        }
+        [] => Ok(Page::Overview),
+    }
 }
 
 /// Whether the first word is `help`.
@@ -104,94 +165,70 @@ fn is_help_first(words: &[&str]) -> bool
     }
 }
 
-/// Whether the words after a command's name ask for help.
-fn is_asked_below(words: &[&str]) -> bool
-    ensures { result ≡ asks_below (map (λ w. w.now) words.now) }
+/// Whether the line, whose first word is the program's own name, is a question behind `help` or `disk help`.
+pub(crate) fn is_help_line(words: &[&str]) -> bool
+    ensures { result ≡ is_help_line (map (λ w. w.now) words.now) }
 {
-    is_help_first(words) || has_flag(words)
+    match words {
+        [_, first, rest @ ..] => *first == "help" || (*first == "disk" && is_help_first(rest)),
+        _ => false,
+    }
 }
 
-/// The page that names behind `disk` name: that of `disk` where they name no command of it.
-fn disk_page(names: &[&str]) -> Page
-    ensures { result ≡ disk_page_of (map (λ w. w.now) names.now) }
+/// The page that the names behind the first of these words ask for, which is `help` behind `disk`.
+fn disk_page_behind(words: &[&str]) -> Result<Page, UsageRefusal>
+    ensures { IsNaming (named_behind_disk (map (λ w. w.now) words.now)) result }
 {
-    match names {
+    match words {
+        [_, names @ ..] => disk_page_named(names),
+        [] => Ok(Page::Disk),
+    }
+}
+
+/// The page that such a line asks for, or what is wrong with it.
+pub(crate) fn page_of_help_line(words: &[&str]) -> Result<Page, UsageRefusal>
+    ensures { IsNaming (named_by (map (λ w. w.now) words.now)) result }
+{
+    match words {
+        [_, first, rest @ ..] => {
+            if *first == "help" {
+                page_named(rest)
+            } else {
+                disk_page_behind(rest)
+            }
+        }
+        _ => Ok(Page::Overview),
+    }
+}
+
+/// The page of the command of `disk` that the words begin with: that of `disk` where they begin with none.
+fn page_of_disk_words(words: &[&str]) -> Page
+    ensures { result ≡ page_of_disk_words (map (λ w. w.now) words.now) }
+{
+    match words {
         [first, ..] => disk_command_page(first).unwrap_or(Page::Disk),
         [] => Page::Disk,
     }
 }
 
-/// The page that names behind `help` name: the overview where they name none.
-fn page_named(names: &[&str]) -> Page
-    ensures { result ≡ page_of_names (map (λ w. w.now) names.now) }
+/// The page of the command that the line names, whose first word is the program's own name: the overview
+/// where it names none.
+pub(crate) fn page_of_line(words: &[&str]) -> Page
+    ensures { result ≡ page_of_line (map (λ w. w.now) words.now) }
 {
-    match names {
-        [first, rest @ ..] => {
+    match words {
+        [_, first, rest @ ..] => {
             if *first == "disk" {
-                disk_page(rest)
-            } else if *first == "status" {
-                Page::Status
+                page_of_disk_words(rest)
             } else {
                 command_page(first).unwrap_or(Page::Overview)
             }
         }
-        [] => Page::Overview,
+        _ => Page::Overview,
     }
 }
 
-/// The page that the words after `disk` ask for.
-fn page_asked_of_disk(words: &[&str]) -> Option<Page>
-    ensures { result ≡ asked_of_disk (map (λ w. w.now) words.now) }
-{
-    match words {
-        [first, rest @ ..] => {
-            if *first == "help" {
-                Some(disk_page(rest))
-            } else if is_flag(first) {
-                Some(Page::Disk)
-            } else if is_asked_below(rest) {
-                disk_command_page(first)
-            } else {
-                None
-            }
-        }
-        [] => None,
-    }
-}
-
-/// The page of the help that the words ask for, of which the first is the program's own name: by `help`
-/// with the names of a command, or by `help`, `-h` or `--help` after them, also those of a command of
-/// `disk`.
-pub fn page_asked(words: &[&str]) -> Option<Page>
-    ensures { result ≡ asked_page (map (λ w. w.now) words.now) }
-{
-    match words {
-        [_, first, rest @ ..] => {
-            if *first == "help" {
-                Some(page_named(rest))
-            } else if is_flag(first) {
-                Some(Page::Overview)
-            } else if *first == "disk" {
-                page_asked_of_disk(rest)
-            } else if is_asked_below(rest) {
-                command_page(first)
-            } else {
-                None
-            }
-        }
-        _ => None,
-    }
-}
-
-/// The page's text, where the words ask for one.
-pub fn help(words: &[&str]) -> Option<&'static str>
-    ensures { option_map (λ text. text.now) result
-        ≡ option_map text_of_page (asked_page (map (λ w. w.now) words.now)) }
-{
-    Some(page_text(page_asked(words)?))
-}
-
-/// Whether the words ask for the version: behind the program's own name stands `--version` or `-V` alone.
+/// Whether the words ask for the version: after the program's own name stands `--version` or `-V` alone.
 pub fn asks_version(words: &[&str]) -> bool
     ensures { result ≡ asks_version (map (λ w. w.now) words.now) }
 {

@@ -5,7 +5,7 @@ use Rattle.std.specs.List.{list_any}
 use Rattle.std.specs.Str.{bytes_eq}
 use Rattle.std.proofs.lemmas.List.{drop_more, map_more}
 use Rattle.cpm_config.specs.Entries.{Text}
-use Rattle.cpm_config.specs.Rules.{Placed, is_among, name_placed, repeated_after}
+use Rattle.cpm_config.specs.Rules.{PlacedName, is_among, name_placed, repeated_after}
 use Rattle.cpm_config.specs.declared.field.Field.TheVariants.{Frames}
 use Rattle.cpm_config.specs.declared.draft.SessionDraft.{SessionDraft}
 use Rattle.cpm_config.specs.declared.names.NameUse.{NameUse}
@@ -28,12 +28,12 @@ pub repeated-step : (ns : List NameUse) (i : ℕ) (found : Bool) → i < length 
     ≡ (if found then Some (at ns i).place else repeated_after (map name_placed (take (i + 1) ns)) (map name_placed (drop (i + 1) ns)))
 repeated-step ns i found within is =
     ap (λ (rest : List NameUse). repeated_after (map name_placed (take i ns)) (map name_placed rest)) (drop_more ns i blank within)
-    ∙ ap₂ (λ (b : Bool) (before : List Placed). if b then Some (at ns i).place else repeated_after before (map name_placed (drop (i + 1) ns)))
+    ∙ ap₂ (λ (b : Bool) (before : List PlacedName). if b then Some (at ns i).place else repeated_after before (map name_placed (drop (i + 1) ns)))
     (sym (is ∙ among-placed (take i ns) (at ns i).name.now)) (sym (map_more name_placed ns i blank within))
 
 -- the names of one session more, with those after it
-pub placed_step : (done new one rest : List Placed) → new ≡ done ++ one → new ++ rest ≡ done ++ (one ++ rest)
-placed_step done new one rest more = ap (λ (ps : List Placed). ps ++ rest) more ∙ append_assoc done one rest
+pub placed_step : (done new one rest : List PlacedName) → new ≡ done ++ one → new ++ rest ≡ done ++ (one ++ rest)
+placed_step done new one rest more = ap (λ (ps : List PlacedName). ps ++ rest) more ∙ append_assoc done one rest
 
 -- a session at a place, with those after it
 pub session_at : (ss : List SessionDraft) (i : ℕ) (s : SessionDraft) → i < length ss → s ≡ get_or ss i s → s ∷ drop (i + 1) ss ≡ drop i ss

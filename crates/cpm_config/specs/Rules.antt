@@ -87,7 +87,7 @@ abbrev pub at_fault : Option SessionEntries → ℤ → ℤ → Option Field
 at_fault None steps at = Some field.Fork
 at_fault (Some parent) steps at = if is_at parent.steps steps at then None else Some field.At
 
--- the field by which a session of this count of steps can't begin so, behind those before it
+-- the field by which a session of this count of steps can't begin so, after those before it
 abbrev pub origin_fault : List SessionEntries → ℤ → OriginEntries → Option Field
 origin_fault before steps (Opens cpu quota drives) = None
 origin_fault before steps (Forks parent at) = at_fault (parent_in before parent) steps at
@@ -101,7 +101,7 @@ abbrev pub fault_or : ℕ → Option Field → Option ConfigKey → Option Confi
 fault_or n (Some f) next = Some (config_key n f)
 fault_or n None next = next
 
--- the first place in the sessions, numbered on from n and behind those before them, that has a fault
+-- the first place in the sessions, numbered on from n and after those before them, that has a fault
 abbrev pub first_fault : (List SessionEntries → SessionEntries → Option Field) → ℕ → List SessionEntries → List SessionEntries → Option ConfigKey
 first_fault fault n before [] = None
 first_fault fault n before (s ∷ ss) =
@@ -126,7 +126,7 @@ abbrev pub origin_drives : List SessionEntries → OriginEntries → List Text
 origin_drives before (Opens cpu quota drives) = drives
 origin_drives before (Forks parent at) = drives_if_any (named_in before parent)
 
--- the drives of a session, behind those before it
+-- the drives of a session, after those before it
 abbrev pub drives_of : List SessionEntries → SessionEntries → List Text
 drives_of before s = origin_drives before s.origin
 
@@ -152,7 +152,7 @@ abbrev pub field_or : Option Field → Option Field → Option Field
 field_or (Some f) next = Some f
 field_or None next = next
 
--- the first field of a forked session, behind those before it, that breaks a rule
+-- the first field of a forked session, after those before it, that breaks a rule
 unfoldable pub forked_fault : List SessionEntries → SessionEntries → Option Field
 forked_fault before s =
     if not (is_name s.name) then Some field.Name
@@ -166,11 +166,11 @@ abbrev pub session_origin_fault : List SessionEntries → SessionEntries → Ori
 session_origin_fault before s (Opens cpu quota drives) = opened_fault s cpu quota drives
 session_origin_fault before s (Forks parent at) = forked_fault before s
 
--- the first field of a session, behind those before it, that breaks a rule
+-- the first field of a session, after those before it, that breaks a rule
 abbrev pub session_fault : List SessionEntries → SessionEntries → Option Field
 session_fault before s = session_origin_fault before s s.origin
 
--- the first place in the sessions, numbered on from n and behind those before them, that breaks a rule
+-- the first place in the sessions, numbered on from n and after those before them, that breaks a rule
 abbrev pub sessions_fault : ℕ → List SessionEntries → List SessionEntries → Option ConfigKey
 sessions_fault = first_fault session_fault
 
@@ -185,47 +185,47 @@ range_fault c =
 -- ---- names
 
 -- a name, and where it stands
-abbrev pub Placed : Type 0
-Placed = ConfigKey × Text
+abbrev pub PlacedName : Type 0
+PlacedName = ConfigKey × Text
 
-abbrev pub session_names : ℕ → List SessionEntries → List Placed
+abbrev pub session_names : ℕ → List SessionEntries → List PlacedName
 session_names n [] = []
 session_names n (s ∷ ss) = (config_key n field.Name, s.name) ∷ session_names (n + 1) ss
 
-abbrev pub placed_if_any : ConfigKey → Option Text → List Placed
+abbrev pub placed_if_any : ConfigKey → Option Text → List PlacedName
 placed_if_any p None = []
 placed_if_any p (Some t) = (p, t) ∷ []
 
-abbrev pub all_placed : ConfigKey → List Text → List Placed
+abbrev pub all_placed : ConfigKey → List Text → List PlacedName
 all_placed p = map (λ t. (p, t))
 
-abbrev pub all_placed_if_any : ConfigKey → Option (List Text) → List Placed
+abbrev pub all_placed_if_any : ConfigKey → Option (List Text) → List PlacedName
 all_placed_if_any p None = []
 all_placed_if_any p (Some ts) = all_placed p ts
 
 -- the files that a session writes
-abbrev pub file_names_of : ℕ → SessionEntries → List Placed
+abbrev pub file_names_of : ℕ → SessionEntries → List PlacedName
 file_names_of n s = (config_key n field.Console, s.console) ∷ (placed_if_any (config_key n field.List) s.list
     ++ all_placed_if_any (config_key n field.Out) s.out)
 
-abbrev pub file_names_of_all : ℕ → List SessionEntries → List Placed
+abbrev pub file_names_of_all : ℕ → List SessionEntries → List PlacedName
 file_names_of_all n [] = []
 file_names_of_all n (s ∷ ss) = file_names_of n s ++ file_names_of_all (n + 1) ss
 
 -- one of the names is this one
-abbrev pub is_among : List Placed → Text → Bool
+abbrev pub is_among : List PlacedName → Text → Bool
 is_among ps t = list_any (λ p. bytes_eq p.1 t) ps
 
 -- the place of the first name that is among those before it, of which these stand further before
-abbrev pub repeated_after : List Placed → List Placed → Option ConfigKey
+abbrev pub repeated_after : List PlacedName → List PlacedName → Option ConfigKey
 repeated_after before [] = None
 repeated_after before (p ∷ ps) =
     if is_among before p.1 then Some p.0 else repeated_after (before ++ p ∷ []) ps
 
-abbrev pub repeated : List Placed → Option ConfigKey
+abbrev pub repeated : List PlacedName → Option ConfigKey
 repeated = repeated_after []
 
-abbrev pub name_placed : NameUse → Placed
+abbrev pub name_placed : NameUse → PlacedName
 name_placed n = (n.place, n.name.now)
 
 -- the place of the first session that has the name of an earlier one, else of the first file to

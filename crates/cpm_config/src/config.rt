@@ -128,7 +128,7 @@ impl Config {
     /// The first kind of fault in the whole file is answered: `Text`, where the bytes are no TOML (or
     /// an integer does not fit 64 bits); `Key`, where a key is missing, unknown or of another type;
     /// `Range`, where a value breaks a rule; `Twice`, where two sessions have one name or one file would
-    /// be written twice. `OutOfMemory` comes only where memory is refused, whatever is wrong behind
+    /// be written twice. `OutOfMemory` comes only where memory is refused, whatever is wrong after
     /// that place.
     pub fn read(alloc: Global, bytes: &[u8]) -> Result<Config, ConfigError>
         ensures read { IsRead bytes.now result }

@@ -9,6 +9,12 @@ ghost use Rattle.cpm_config.specs.Rules.{opened_fault, origin_fault, range_fault
 use crate::draft::{Draft, OriginDraft, SessionDraft};
 use crate::field::{ConfigKey, Field};
 
+/// The fewest frames of a host.
+const LEAST_FRAMES: u64 = 16;
+
+/// The most frames of a host: all pages of 64 sessions.
+const MOST_FRAMES: u64 = 16_384;
+
 fn is_between(low: u64, high: u64, number: i64) -> bool
     ensures { result ≡ is_between low high number }
 {
@@ -162,7 +168,7 @@ fn forked_fault(
     None
 }
 
-/// The first field of a session, behind those before it, that breaks a rule.
+/// The first field of a session, after those before it, that breaks a rule.
 fn session_fault(before: &[SessionDraft<'_>], session: &SessionDraft<'_>) -> Option<Field>
     ensures { result ≡ session_fault (map session_draft_view before.now) (session_draft_view session.now) }
 {
@@ -210,7 +216,7 @@ fn has_one_to_64(sessions: &Vec<SessionDraft<'_>>) -> bool
 pub(crate) fn range_fault(draft: &Draft<'_>) -> Option<ConfigKey>
     ensures { result ≡ range_fault (draft_view draft.now) }
 {
-    if !is_between(16, 16_384, draft.frames) {
+    if !is_between(LEAST_FRAMES, MOST_FRAMES, draft.frames) {
         return at_top(Field::Frames);
     }
     if !is_between(1, 1_000_000_000, draft.quantum) {

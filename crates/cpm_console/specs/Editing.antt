@@ -6,7 +6,7 @@ use Rattle.cpm_console.specs.declared.line.Keystroke.{Keystroke}
 use Rattle.cpm_console.specs.declared.line.Keystroke.TheVariants.{Interrupt, NewLine, Erase, Repeat, End, ListEcho, Retype, Restart, EraseAll, Character}
 use Rattle.cpm_console.specs.declared.line.LineState.{LineState}
 use Rattle.cpm_console.specs.declared.line.LineState.TheVariants.{GoesOn, Ended, Interrupted}
-use Rattle.cpm_console.specs.Draft.{Draft}
+use Rattle.cpm_console.specs.EditedLine.{EditedLine}
 
 -- CP/M 2.2 Operating System Manual, section 1.5, Line Editing and Output Control, and section 5.2, function 10
 -- (Read Console Buffer): the keys that edit a line. ^C counts only in a line with no character; every other
@@ -51,51 +51,51 @@ erasure (suc n) = 0x08 ∷ 0x20 ∷ 0x08 ∷ erasure n
 
 -- CP/M 2.2 Operating System Manual, section 5.2, function 10: the line that is given up is left, and the next begins at
 -- the same column, below a prompt's end; own: `#` closes it
-abbrev pub fresh_line : Draft → List ℕ
+abbrev pub fresh_line : EditedLine → List ℕ
 fresh_line l = 0x23 ∷ 0x0D ∷ 0x0A ∷ replicate l.start 0x20
 
 -- a line with no character yet
-abbrev pub begun_line : ℕ → ℕ → Draft
+abbrev pub begun_line : ℕ → ℕ → EditedLine
 begun_line start limit = record { start = start; limit = limit; characters = [] }
 
 -- the line with one character more, without its last one, and with none
-abbrev pub with_character : Draft → ℕ → Draft
+abbrev pub with_character : EditedLine → ℕ → EditedLine
 with_character l c = record l { characters = l.characters ++ c ∷ [] }
 
-abbrev pub without_last : Draft → Draft
+abbrev pub without_last : EditedLine → EditedLine
 without_last l = record l { characters = take (length l.characters - 1) l.characters }
 
-abbrev pub emptied : Draft → Draft
+abbrev pub emptied : EditedLine → EditedLine
 emptied l = record l { characters = [] }
 
 -- the echo of the last character, as it was when typed; of an empty line nothing
-abbrev pub last_echo : Draft → List ℕ
+abbrev pub last_echo : EditedLine → List ℕ
 last_echo l =
     echo (columns l.start (take (length l.characters - 1) l.characters)) (drop (length l.characters - 1) l.characters)
 
 -- the echo of a character that is typed at the line's end
-abbrev pub typed_echo : Draft → ℕ → List ℕ
+abbrev pub typed_echo : EditedLine → ℕ → List ℕ
 typed_echo l c = echo_at (columns l.start l.characters) c
 
 -- the console and the line after a key, and whether the line goes on
-pub record Edited : Type 0 where
+pub record EditResult : Type 0 where
   pub terminal : Terminal
-  pub line : Draft
+  pub line : EditedLine
   pub progress : LineState
 
-abbrev pub edited : Terminal → Draft → LineState → Edited
+abbrev pub edited : Terminal → EditedLine → LineState → EditResult
 edited t l p = record { terminal = t; line = l; progress = p }
 
 -- CP/M 2.2 Operating System Manual, section 5.2, function 10: the line ends where it has as many characters as it may;
 -- own: in the same step, and as by return
-abbrev pub put_in : Terminal → Draft → ℕ → Edited
+abbrev pub put_in : Terminal → EditedLine → ℕ → EditResult
 put_in t l c =
     if length l.characters + 1 == l.limit then edited (said t (typed_echo l c ++ 0x0D ∷ [])) (with_character l c) Ended
     else edited (said t (typed_echo l c)) (with_character l c) GoesOn
 
 -- CP/M 2.2 Operating System Manual, section 1.5, Line Editing and Output Control, and section 5.2, function 10: what each key shows and leaves. The bytes that
 -- it shows, and that ^E keeps the column where the line began, are own.
-abbrev pub edit : Keystroke → Terminal → Draft → ℕ → Edited
+abbrev pub edit : Keystroke → Terminal → EditedLine → ℕ → EditResult
 edit Interrupt t l key = edited (said t (0x5E ∷ 0x43 ∷ [])) l Interrupted  -- `^C`
 edit NewLine t l key = edited (said t (0x0D ∷ 0x0A ∷ [])) l GoesOn
 edit Erase t l key = edited (said t (erasure (length (last_echo l)))) (without_last l) GoesOn
@@ -108,5 +108,5 @@ edit EraseAll t l key = edited (said t (erasure (length (echo l.start l.characte
 edit Character t l key = put_in t l key
 
 -- a key, by what it means in the line
-abbrev pub key_into_line : Terminal → Draft → ℕ → Edited
+abbrev pub key_into_line : Terminal → EditedLine → ℕ → EditResult
 key_into_line t l key = edit (keystroke (length l.characters == 0) key) t l key

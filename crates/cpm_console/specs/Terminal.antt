@@ -26,6 +26,10 @@ step_output = 4096
 abbrev pub most_pending : ℕ
 most_pending = 4096
 
+-- own: so many bytes may wait on each device
+abbrev pub most_waiting : ℕ
+most_waiting = 8192
+
 -- own: a console on which nothing was done
 abbrev pub blank_terminal : Terminal
 blank_terminal = record { keys = []; screen = []; printer = []; column = 0; list_echo = false }

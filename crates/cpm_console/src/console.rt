@@ -2,7 +2,7 @@
 
 ghost use Rattle.std.specs.Prelude.{◌≡◌, ◌<◌, ◌≤◌, ◌+◌, ◌-◌, ◌%◌, ◌↔◌, ◌++◌, ◌∷◌, [], length, take, drop, min, slice_get, IsTrue, IfNone, IfOk, if◌then◌else◌};
 ghost use Rattle.cpm_console.specs.Terminal.{blank_terminal, pressed, key_read, has_room, shown, printed, said, expanded};
-ghost use Rattle.cpm_console.specs.Terminal.{column_after, column_past, waiting_on, with_waiting, most_pending};
+ghost use Rattle.cpm_console.specs.Terminal.{column_after, column_past, waiting_on, with_waiting, most_pending, most_waiting};
 
 use crate::device::Device;
 use circular_buffer::HeapCircularBuffer;
@@ -31,13 +31,13 @@ pub struct Console {
 
 impl Model for Console {
     ghost use Rattle.std.specs.Prelude.{◌≡◌};
-    ghost use Rattle.cpm_console.specs.Terminal.{Terminal};
+    ghost use Rattle.cpm_console.specs.Terminal.{Terminal, most_pending, most_waiting};
 
     ghost Value = { Terminal };
 
     ghost view = { λ c. record { keys = c.pending.items; screen = c.screen.items; printer = c.printer.items; column = c.column; list_echo = c.list_echo } };
 
-    ghost invariant = { λ c. (c.pending.capacity ≡ 4096) × (c.screen.capacity ≡ 8192) × (c.printer.capacity ≡ 8192) };
+    ghost invariant = { λ c. (c.pending.capacity ≡ most_pending) × (c.screen.capacity ≡ most_waiting) × (c.printer.capacity ≡ most_waiting) };
 }
 
 /// A ring with the same bytes and as much room.
@@ -56,7 +56,7 @@ fn ring_copy(
 }
 
 impl Console {
-    /// A console on which nothing was done. All the memory that it ever takes is taken here; refused for want of it.
+    /// A console on which nothing was done. All the memory that it ever takes is taken here; refused if there is none left.
     pub fn new(alloc: Global) -> Result<Self, AllocError>
         ensures { IfOk result (λ c. c ≡ blank_terminal) }
     {
@@ -72,7 +72,7 @@ impl Console {
         })
     }
 
-    /// An equal console; refused for want of memory.
+    /// An equal console; refused if out of memory.
     pub fn copy(&self, alloc: Global) -> Result<Console, AllocError>
         ensures { IfOk result (λ c. c ≡ self.now) }
     {
@@ -115,7 +115,7 @@ impl Console {
     /// How many keys are pending.
     pub fn pending(&self) -> usize
         ensures value { result ≡ length self.now.keys }
-        ensures fits { result ≤ 4096 }
+        ensures fits { result ≤ most_pending }
     {
         self.pending.len()
     }
@@ -123,7 +123,7 @@ impl Console {
     /// How many console bytes wait to be taken.
     pub fn held(&self) -> usize
         ensures value { result ≡ length self.now.screen }
-        ensures fits { result ≤ 8192 }
+        ensures fits { result ≤ most_waiting }
     {
         self.screen.len()
     }
@@ -131,7 +131,7 @@ impl Console {
     /// How many list bytes wait to be taken.
     pub fn held_list(&self) -> usize
         ensures value { result ≡ length self.now.printer }
-        ensures fits { result ≤ 8192 }
+        ensures fits { result ≤ most_waiting }
     {
         self.printer.len()
     }
@@ -168,7 +168,7 @@ impl Console {
     /// Shows a byte on the console as it is. There must be room for it.
     #[tactic(auto, unfolding(crate::specs::Terminal::shown))]
     pub fn put(&mut self, byte: u8)
-        requires { length self.old.screen < 8192 }
+        requires { length self.old.screen < most_waiting }
         ensures { self.new ≡ shown self.old (byte ∷ []) }
     {
         self.screen.push_back(byte);
@@ -178,7 +178,7 @@ impl Console {
     /// Sends a byte to the list device. There must be room for it.
     #[tactic(auto, unfolding(crate::specs::Terminal::printed))]
     pub fn put_list(&mut self, byte: u8)
-        requires { length self.old.printer < 8192 }
+        requires { length self.old.printer < most_waiting }
         ensures { self.new ≡ printed self.old (byte ∷ []) }
     {
         self.printer.push_back(byte);
@@ -186,8 +186,8 @@ impl Console {
 
     /// Shows a byte on the console as it is, and on the list device too while it echoes. There must be room for it.
     pub fn say(&mut self, byte: u8)
-        requires screen { length self.old.screen < 8192 }
-        requires printer { length self.old.printer < 8192 }
+        requires screen { length self.old.screen < most_waiting }
+        requires printer { length self.old.printer < most_waiting }
         ensures { self.new ≡ said self.old (byte ∷ []) }
     {
         self.say_all(&[byte]);
@@ -196,8 +196,8 @@ impl Console {
     /// Shows bytes as they are, and on the list device too while it echoes. There must be room for them.
     #[tactic(auto, unfolding(crate::specs::Terminal::said))]
     pub fn say_all(&mut self, bytes: &[u8])
-        requires screen { length self.old.screen + length bytes.now ≤ 8192 }
-        requires printer { length self.old.printer + length bytes.now ≤ 8192 }
+        requires screen { length self.old.screen + length bytes.now ≤ most_waiting }
+        requires printer { length self.old.printer + length bytes.now ≤ most_waiting }
         ensures { self.new ≡ said self.old bytes.now }
     {
         self.screen.fill_from_slice(bytes);
@@ -211,8 +211,8 @@ impl Console {
     /// echoes. There must be room for 8 bytes.
     #[tactic(auto, unfolding(crate::specs::Terminal::expanded))]
     pub fn write(&mut self, byte: u8)
-        requires screen { length self.old.screen + 8 ≤ 8192 }
-        requires printer { length self.old.printer + 8 ≤ 8192 }
+        requires screen { length self.old.screen + 8 ≤ most_waiting }
+        requires printer { length self.old.printer + 8 ≤ most_waiting }
         ensures { self.new ≡ said self.old (expanded self.old.column byte) }
     {
         if byte == b'\t' {

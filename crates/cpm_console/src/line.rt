@@ -2,8 +2,8 @@
 
 ghost use Rattle.std.specs.Prelude.{◌≡◌, ◌<◌, ◌≤◌, ◌+◌, ◌*◌, ◌-◌, ◌↔◌, ◌++◌, ◌∷◌, ◌==◌, [], ℕ, length, take, drop};
 ghost use Rattle.std.specs.Prelude.{min, slice_get, IsTrue, IfOk, if◌then◌else◌, true, false, not, fold, replicate};
-ghost use Rattle.cpm_console.specs.Terminal.{said, IsWithin, step_output};
-ghost use Rattle.cpm_console.specs.Draft.{Draft};
+ghost use Rattle.cpm_console.specs.Terminal.{said, IsWithin, most_waiting, step_output};
+ghost use Rattle.cpm_console.specs.EditedLine.{EditedLine};
 ghost use Rattle.cpm_console.specs.Editing.{echo_at, next_column, columns, echo, erasure, without_last, last_echo, with_character};
 ghost use Rattle.cpm_console.specs.Editing.{emptied, fresh_line, keystroke, edited, put_in, begun_line, key_into_line};
 
@@ -77,9 +77,9 @@ pub struct Line {
 }
 
 impl Model for Line {
-    ghost use Rattle.cpm_console.specs.Draft.{Draft};
+    ghost use Rattle.cpm_console.specs.EditedLine.{EditedLine};
 
-    ghost Value = { Draft };
+    ghost Value = { EditedLine };
 
     ghost view = { λ l. record { start = l.start; limit = l.limit; characters = l.characters.items } };
 }
@@ -331,8 +331,8 @@ fn columns(column: u8, characters: &[u8]) -> u8
 /// Shows spaces.
 #[tactic(auto, using(crate::proofs::Said::saying))]
 fn say_spaces(console: &mut Console, count: u8)
-    requires screen { length console.old.screen + count ≤ 8192 }
-    requires printer { length console.old.printer + count ≤ 8192 }
+    requires screen { length console.old.screen + count ≤ most_waiting }
+    requires printer { length console.old.printer + count ≤ most_waiting }
     ensures { console.new ≡ said console.old (replicate count 32) }
 {
     for _ in 0..count {
@@ -343,8 +343,8 @@ fn say_spaces(console: &mut Console, count: u8)
 /// Erases columns to the left.
 #[tactic(auto, using(crate::proofs::Said::saying))]
 fn erase(console: &mut Console, count: usize)
-    requires screen { length console.old.screen + 3 * count ≤ 8192 }
-    requires printer { length console.old.printer + 3 * count ≤ 8192 }
+    requires screen { length console.old.screen + 3 * count ≤ most_waiting }
+    requires printer { length console.old.printer + 3 * count ≤ most_waiting }
     ensures { console.new ≡ said console.old (erasure count) }
 {
     for _ in 0..count {
@@ -355,8 +355,8 @@ fn erase(console: &mut Console, count: usize)
 /// Shows the echo of a character at a column.
 #[tactic(auto, unfolding(crate::specs::Editing::echo_at))]
 fn say_echo(console: &mut Console, column: u8, character: u8)
-    requires screen { length console.old.screen + 8 ≤ 8192 }
-    requires printer { length console.old.printer + 8 ≤ 8192 }
+    requires screen { length console.old.screen + 8 ≤ most_waiting }
+    requires printer { length console.old.printer + 8 ≤ most_waiting }
     ensures { console.new ≡ said console.old (echo_at column character) }
 {
     if character == b'\t' {
@@ -371,8 +371,8 @@ fn say_echo(console: &mut Console, column: u8, character: u8)
 /// Shows the echo of characters from a column on, and returns the column after them.
 #[tactic(auto, using(crate::proofs::Said::saying))]
 fn say_echoes(console: &mut Console, column: u8, characters: &[u8]) -> u8
-    requires screen { length console.old.screen + length (echo column characters.now) + 8 ≤ 8192 }
-    requires printer { length console.old.printer + length (echo column characters.now) + 8 ≤ 8192 }
+    requires screen { length console.old.screen + length (echo column characters.now) + 8 ≤ most_waiting }
+    requires printer { length console.old.printer + length (echo column characters.now) + 8 ≤ most_waiting }
     ensures said { console.new ≡ said console.old (echo column characters.now) }
     ensures column { result ≡ columns column characters.now }
 {

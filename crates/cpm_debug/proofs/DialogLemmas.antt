@@ -10,7 +10,7 @@ use Rattle.cpm_machine.specs.MachineState.{MachineState}
 use Rattle.cpm_debug.specs.Debug.{IsDialogCutShort, IsDebugRefusal, IsFailure, IsHeld, IsReadFailure, IsUnanswered, debugged, debug_system_drive}
 use Rattle.cpm_debug.specs.Dialog.{debug_answer, answer_to, dialog, is_quit, request_pressed, reply, unknown_line}
 use Rattle.cpm_debug.specs.Hearing.{Hears, heard, lines_within}
-use Rattle.cpm_debug.specs.Orders.{Request, press_of, request_of}
+use Rattle.cpm_debug.specs.Orders.{DebugRequest, press_of, request_of}
 use Rattle.cpm_debug.specs.declared.error.DebugError.{DebugError}
 use Rattle.cpm_debug.specs.declared.error.DebugError.TheVariants.{ProgramTooLong, Unreadable, Unwritable, OutOfMemory}
 use Rattle.cpm_debug.proofs.HearingLemmas.{heard_bounded}
@@ -109,13 +109,13 @@ answered_more {system = system} {cpu = cpu} {listing = listing} {start = start} 
     ∙ ap (λ t. before_it ++ t) (first_answer system cpu listing line more now goes_on) ∙ sym (append_assoc before_it text behind)
     ∙ ap (λ t. t ++ behind) (sym (answered left room so line goes_on))
 
-pub so_far_more : {system : Disk} {cpu : Cpu} {listing : List ℕ} {start now : MachineState} {known rest before after_it : Option (List ℕ)} (left room bytes : ℕ) (next : MachineState) (heard_rest later : Option (List ℕ)) (line : List ℕ) (asks : Request)
+pub so_far_more : {system : Disk} {cpu : Cpu} {listing : List ℕ} {start now : MachineState} {known rest before after_it : Option (List ℕ)} (left room bytes : ℕ) (next : MachineState) (heard_rest later : Option (List ℕ)) (line : List ℕ) (asks : DebugRequest)
     → IsSoFar system cpu listing start now known rest before after_it (suc left) room → Hears room bytes rest heard_rest (Some line) → asks ≡ request_of line → is_quit asks ≡ false
     → next ≡ (debug_answer system cpu listing asks now).state → Appends after_it later (debug_answer system cpu listing asks now).text → IsSoFar system cpu listing start next known heard_rest before later left bytes
 so_far_more {system = system} {cpu = cpu} {listing = listing} {start = start} {now = now} {known = known} {rest = rest} {before = before} {after_it = after_it} left room bytes next heard_rest later line asks so hears is goes_on state writes =
     let on : is_quit (request_of line) ≡ false = ap is_quit (sym is) ∙ goes_on in
     let there : next ≡ (answer_to system cpu listing line now).state = state ∙ ap (λ q. (debug_answer system cpu listing q now).state) is in
-    let wrote : Appends after_it later (answer_to system cpu listing line now).text = subst (λ (q : Request). Appends after_it later (debug_answer system cpu listing q now).text) is writes in
+    let wrote : Appends after_it later (answer_to system cpu listing line now).text = subst (λ (q : DebugRequest). Appends after_it later (debug_answer system cpu listing q now).text) is writes in
     record {
       lines = so.lines ++ line ∷ [];
       follows = one_more known rest heard_rest left room bytes so.lines line so.follows hears;
@@ -136,7 +136,7 @@ pub held_all : {system : Disk} {cpu : Cpu} {listing : List ℕ} {start now : Mac
 held_all {known = known} {rest = rest} left room so none =
     record { lines = so.lines; heard = no_turn known rest room so.lines (subst (λ n. Follows known rest n room so.lines) none so.follows); written = so.written }
 
-pub held_quit : {system : Disk} {cpu : Cpu} {listing : List ℕ} {start now : MachineState} {known rest before after_it : Option (List ℕ)} (left room bytes : ℕ) (heard_rest : Option (List ℕ)) (line : List ℕ) (asks : Request)
+pub held_quit : {system : Disk} {cpu : Cpu} {listing : List ℕ} {start now : MachineState} {known rest before after_it : Option (List ℕ)} (left room bytes : ℕ) (heard_rest : Option (List ℕ)) (line : List ℕ) (asks : DebugRequest)
     → IsSoFar system cpu listing start now known rest before after_it (suc left) room → Hears room bytes rest heard_rest (Some line) → asks ≡ request_of line → is_quit asks ≡ true
     → IsHeld system cpu listing start known before after_it
 held_quit {system = system} {cpu = cpu} {listing = listing} {start = start} {now = now} {known = known} {rest = rest} {before = before} {after_it = after_it} left room bytes heard_rest line asks so hears is ends =
@@ -171,7 +171,7 @@ both_empty [] ys e = e
 both_empty (x ∷ xs) ys e = absurd (let bad : ⊥ = cc in bad)
 
 -- the writer failed
-pub unanswered : {system : Disk} {cpu : Cpu} {listing : List ℕ} {start now : MachineState} {known rest before after_it : Option (List ℕ)} (left room bytes : ℕ) (heard_rest : Option (List ℕ)) (line : List ℕ) (asks : Request)
+pub unanswered : {system : Disk} {cpu : Cpu} {listing : List ℕ} {start now : MachineState} {known rest before after_it : Option (List ℕ)} (left room bytes : ℕ) (heard_rest : Option (List ℕ)) (line : List ℕ) (asks : DebugRequest)
     → IsSoFar system cpu listing start now known rest before after_it (suc left) room → Hears room bytes rest heard_rest (Some line) → asks ≡ request_of line → is_quit asks ≡ false
     → (debug_answer system cpu listing asks now).text ≢ [] → IsUnanswered system cpu listing start known
 unanswered {system = system} {cpu = cpu} {listing = listing} {start = start} {now = now} {known = known} {rest = rest} left room bytes heard_rest line asks so hears is goes_on some =

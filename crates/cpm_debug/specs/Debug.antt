@@ -18,7 +18,7 @@ pub record IsHeld (system : Disk) (cpu : Cpu) (listing : List ℕ) (s : MachineS
   pub heard : IfSome known (λ text. lines ≡ heard text)
   pub written : Appends before now (dialog system cpu listing lines s)
 
--- The reader failed behind some lines, which were answered.
+-- The reader failed after some lines, which were answered.
 pub record IsDialogCutShort (system : Disk) (cpu : Cpu) (listing : List ℕ) (s : MachineState) (known before now : Option (List ℕ)) : Type 0 where
   pub lines : List (List ℕ)
   pub more : List (List ℕ)

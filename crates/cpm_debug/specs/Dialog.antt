@@ -16,11 +16,11 @@ use Rattle.cpm_machine.specs.Until.{executed_until, granted_until}
 use Rattle.cpm_machine.specs.declared.reply.Granted.{Granted}
 use Rattle.cpm_machine.specs.declared.reply.Why.{Why}
 use Rattle.cpm_machine.specs.declared.reply.Why.TheVariants.{All, Stopped, Break, Blocked}
-use Rattle.cpm_debug.specs.Orders.{Request, Grant, GrantUntil, Dump, ListAt, Registers, Press, Output, Quit, Unknown, request_of}
+use Rattle.cpm_debug.specs.Orders.{DebugRequest, Grant, GrantUntil, Dump, ListAt, Registers, Press, Output, Quit, Unknown, request_of}
 use Rattle.cpm_debug.specs.Source.{source_line}
 
 -- the text of an answer, and the state after it
-pub record Reply : Type 0 where
+pub record DialogReply : Type 0 where
   pub text : List ℕ
   pub state : MachineState
 
@@ -30,7 +30,7 @@ pub record Reply : Type 0 where
 abbrev pub ended_line : List ℕ → List ℕ
 ended_line text = text ++ 0x0A ∷ []
 
--- a line, and behind it a line of the listing, where there is one
+-- a line, and after it a line of the listing, where there is one
 abbrev pub with_source : List ℕ → List ℕ → List ℕ
 with_source text [] = ended_line text
 with_source text (b ∷ source) = ended_line text ++ ended_line (b ∷ source)
@@ -49,19 +49,19 @@ grant_line g = decimal g.executed ++ codes " " ++ why_text g.why
 
 -- ---- bytes of the memory
 
--- so many bytes from an address on; behind FFFFh comes 0000h
+-- so many bytes from an address on; after FFFFh comes 0000h
 abbrev pub bytes_from : Contents → ℕ → ℕ → List ℕ
 bytes_from m address n = tabulated n (λ k. byte_at m ((address + k) % 65536))
 
 -- ---- keys
 
 -- the state after keys, and whether all were accepted
-pub record Pressed : Type 0 where
+pub record PressResult : Type 0 where
   pub accepted : Bool
   pub state : MachineState
 
--- keys in order; behind one that is refused they are dropped
-abbrev pub press : List ℕ → MachineState → Pressed
+-- keys in order; after one that is refused they are dropped
+abbrev pub press : List ℕ → MachineState → PressResult
 press [] s = record { accepted = true; state = s }
 press (key ∷ keys) s = if takes_key s then press keys (keyed key s) else record { accepted = false; state = s }
 
@@ -70,7 +70,7 @@ abbrev pub keys_in_text : List ℕ → List ℕ
 keys_in_text text = unwrap_or (keys_of text) []
 
 -- what becomes of the keys of a request; where it has none, none is accepted
-abbrev pub request_pressed : Request → MachineState → Pressed
+abbrev pub request_pressed : DebugRequest → MachineState → PressResult
 request_pressed (Press keys) s = press keys s
 request_pressed _ s = record { accepted = false; state = s }
 
@@ -86,15 +86,15 @@ without_console s =
 abbrev pub unknown_line : List ℕ
 unknown_line = ended_line (codes "?")
 
-abbrev pub reply : List ℕ → MachineState → Reply
+abbrev pub reply : List ℕ → MachineState → DialogReply
 reply text s = record { text = text; state = s }
 
 -- a line, with the line of the listing that shows the bytes at PC, and the state
-abbrev pub reply_to_line : List ℕ → List ℕ → MachineState → Reply
+abbrev pub reply_to_line : List ℕ → List ℕ → MachineState → DialogReply
 reply_to_line listing text s = reply (with_source text (source_line listing s.session.regs.pc)) s
 
 -- what is answered with this system drive and this listing, and the state after it
-unfoldable pub debug_answer : Disk → Cpu → List ℕ → Request → MachineState → Reply
+unfoldable pub debug_answer : Disk → Cpu → List ℕ → DebugRequest → MachineState → DialogReply
 debug_answer system cpu listing (Grant steps) s = reply_to_line listing (grant_line (granted system steps s)) (after system (executed system steps s) s)
 debug_answer system cpu listing (GrantUntil pc steps) s =
     reply_to_line listing (grant_line (granted_until system pc steps s)) (after system (executed_until system pc steps s) s)
@@ -108,12 +108,12 @@ debug_answer system cpu listing Unknown s = reply unknown_line s
 
 -- ---- dialogs
 
-unfoldable pub is_quit : Request → Bool
+unfoldable pub is_quit : DebugRequest → Bool
 is_quit Quit = true
 is_quit _ = false
 
 -- what is answered to a line
-abbrev pub answer_to : Disk → Cpu → List ℕ → List ℕ → MachineState → Reply
+abbrev pub answer_to : Disk → Cpu → List ℕ → List ℕ → MachineState → DialogReply
 answer_to system cpu listing line s = debug_answer system cpu listing (request_of line) s
 
 -- what is answered to lines, one after another, up to the order that ends the dialog

@@ -5,16 +5,16 @@ use Rattle.cpm_debug.specs.declared.order.Order.{Order}
 use Rattle.cpm_debug.specs.declared.order.Order.TheVariants as order
 
 -- what a line asks for
-pub data Request : Type 0 where
-  Grant : (steps : ℕ) → Request
-  GrantUntil : (pc steps : ℕ) → Request
-  Dump : (address : ℕ) → Request
-  ListAt : (address : ℕ) → Request
-  Registers : Request
-  Press : (keys : List ℕ) → Request
-  Output : Request
-  Quit : Request
-  Unknown : Request
+pub data DebugRequest : Type 0 where
+  Grant : (steps : ℕ) → DebugRequest
+  GrantUntil : (pc steps : ℕ) → DebugRequest
+  Dump : (address : ℕ) → DebugRequest
+  ListAt : (address : ℕ) → DebugRequest
+  Registers : DebugRequest
+  Press : (keys : List ℕ) → DebugRequest
+  Output : DebugRequest
+  Quit : DebugRequest
+  Unknown : DebugRequest
 
 -- ---- addresses
 
@@ -41,32 +41,32 @@ address_of _ = None
 -- ---- the text of an order
 
 -- S and a count
-abbrev pub grant_of : Option ℕ → Request
+abbrev pub grant_of : Option ℕ → DebugRequest
 grant_of (Some steps) = Grant steps
 grant_of None = Unknown
 
 -- G, an address, a space and a count
-abbrev pub grant_until_of : Option ℕ → Option ℕ → Request
+abbrev pub grant_until_of : Option ℕ → Option ℕ → DebugRequest
 grant_until_of (Some pc) (Some steps) = GrantUntil pc steps
 grant_until_of (Some pc) None = Unknown
 grant_until_of None steps = Unknown
 
-abbrev pub addressed_grant : List ℕ → Request
+abbrev pub addressed_grant : List ℕ → DebugRequest
 addressed_grant (a ∷ b ∷ c ∷ d ∷ e ∷ count) = if e == 0x20 then grant_until_of (word_of_digits a b c d) (count_of count) else Unknown
 addressed_grant _ = Unknown
 
 -- D and an address
-abbrev pub dump_of : Option ℕ → Request
+abbrev pub dump_of : Option ℕ → DebugRequest
 dump_of (Some address) = Dump address
 dump_of None = Unknown
 
 -- L and an address
-abbrev pub list_of : Option ℕ → Request
+abbrev pub list_of : Option ℕ → DebugRequest
 list_of (Some address) = ListAt address
 list_of None = Unknown
 
 -- K and keys as a key script writes them, at least one
-abbrev pub press_of : Option (List ℕ) → Request
+abbrev pub press_of : Option (List ℕ) → DebugRequest
 press_of (Some (key ∷ keys)) = Press (key ∷ keys)
 press_of (Some []) = Unknown
 press_of None = Unknown
@@ -74,11 +74,11 @@ press_of None = Unknown
 -- ---- orders
 
 -- an order of a letter: R, O, Q
-abbrev pub letter_request : ℕ → Request
+abbrev pub letter_request : ℕ → DebugRequest
 letter_request c = if c == 0x52 then Registers else (if c == 0x4F then Output else (if c == 0x51 then Quit else Unknown))
 
 -- an order of a letter, a space and a text: S, G, D, L, K
-abbrev pub text_request : ℕ → List ℕ → Request
+abbrev pub text_request : ℕ → List ℕ → DebugRequest
 text_request c text = if c == 0x53 then grant_of (count_of text)
     else (if c == 0x47 then addressed_grant text
     else (if c == 0x44 then dump_of (address_of text)
@@ -86,13 +86,13 @@ text_request c text = if c == 0x53 then grant_of (count_of text)
     else (if c == 0x4B then press_of (keys_of text) else Unknown))))
 
 -- what a line asks for; a line of no other form is unknown
-abbrev pub request_of : List ℕ → Request
+abbrev pub request_of : List ℕ → DebugRequest
 request_of [] = Unknown
 request_of (c ∷ []) = letter_request c
 request_of (c ∷ space ∷ text) = if space == 0x20 then text_request c text else Unknown
 
 -- what an order that was read asks for
-abbrev pub request_of_order : Order → Request
+abbrev pub request_of_order : Order → DebugRequest
 request_of_order (order.Grant steps) = Grant steps
 request_of_order (order.GrantUntil pc steps) = GrantUntil pc steps
 request_of_order (order.Dump address) = Dump address

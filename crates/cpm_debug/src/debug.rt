@@ -82,7 +82,7 @@ fn converse<R: BufRead, W: Write>(
 /// before it reads the next, up to `Q`, to the end of the input, or to 1,000,000 lines. A line is dropped, and ends the dialog, where it doesn't end within the
 /// first 16,777,216 bytes.
 ///
-/// The orders are `S n`, `G addr n`, `D addr`, `L addr`, `R`, `K text`, `O` and `Q`. Behind the answer to `S`, `G` and `R` comes the line of the
+/// The orders are `S n`, `G addr n`, `D addr`, `L addr`, `R`, `K text`, `O` and `Q`. After the answer to `S`, `G` and `R` comes the line of the
 /// assembler's listing that shows the bytes at the program's PC, if it has one. An empty listing has none.
 ///
 /// What a live reader gives can't be named; what is written is then the answer to some lines.

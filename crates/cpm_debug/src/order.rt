@@ -119,7 +119,7 @@ impl<'a> Order<'a> {
         }
     }
 
-    /// The order of a letter and the text behind its space.
+    /// The order of a letter and the text after its space.
     fn of_text(letter: u8, text: &'a [u8]) -> Order<'a>
         ensures { request_of_order result ≡ text_request letter text.now }
     {

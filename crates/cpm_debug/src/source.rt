@@ -23,7 +23,7 @@ fn begins_with_text(text: &[u8]) -> bool
     }
 }
 
-/// Whether a line has this beginning, and bytes behind it.
+/// Whether a line has this beginning, and bytes after it.
 fn has_bytes(head: &[u8; 6], line: &[u8]) -> bool
     ensures { result ≡ has_bytes head.now line.now }
 {

@@ -28,7 +28,7 @@ pub(crate) fn write_line<W: Write>(out: &mut W, line: &str) -> io::Result<()>
     Ok(())
 }
 
-/// Writes a line, and the line of a listing behind it, where it is no empty one.
+/// Writes a line, and the line of a listing after it, where it is no empty one.
 pub(crate) fn write_with_source<W: Write>(out: &mut W, line: &str, source: &[u8]) -> io::Result<()>
     ensures { OnOk result (Appends (W.contents out.old) (W.contents out.new) (with_source line.now source.now)) }
 {

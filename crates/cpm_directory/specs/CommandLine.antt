@@ -9,7 +9,7 @@ abbrev pub is_delimiter : ℕ → Bool
 is_delimiter c =
     nat_lt c 0x20 || (c == 0x20) || (c == 0x3D) || (c == 0x5F) || (c == 0x2E) || (c == 0x3A) || (c == 0x3B) || (c == 0x3C) || (c == 0x3E)
 
--- the text behind the spaces in front
+-- the text after the spaces in front
 unfoldable pub after_spaces : List ℕ → List ℕ
 after_spaces text = drop (position_or_len (λ c. not (c == 0x20)) text) text
 
@@ -32,7 +32,7 @@ word_in text = take (position_or_len is_delimiter text) text
 unfoldable pub after_word : List ℕ → List ℕ
 after_word text = drop (position_or_len is_delimiter text) text
 
--- the type behind a period, and the text behind it
+-- the type after a period, and the text after it
 unfoldable pub type_of : List ℕ → List ℕ
 type_of text = if slice_index text 0 == 0x2E then word_in (drop 1 text) else []
 
@@ -48,7 +48,7 @@ character_of word place =
 abbrev pub name_field : ℕ → List ℕ → List ℕ
 name_field size word = map (character_of word) (range_with_len 0 size)
 
--- the name and what is behind it, once spaces and a drive are skipped
+-- the name and what is after it, once spaces and a drive are skipped
 abbrev pub at_name : List ℕ → List ℕ
 at_name text = after_drive (after_spaces text)
 
@@ -69,6 +69,6 @@ fcb_named text =
       random_record = replicate 3 0;
     }
 
--- the text behind that name
+-- the text after that name
 unfoldable pub text_behind_name : List ℕ → List ℕ
 text_behind_name text = after_type (after_word (at_name text))

@@ -8,7 +8,7 @@ ghost use Rattle.cpm_directory.specs.CommandLine.{type_of, after_type, character
 use cpm_volume::{Extent, Fcb};
 
 /// The file control block of the name at the front of a text of capitals, spaces before it skipped, and the text
-/// behind it.
+/// after it.
 pub fn parse_fcb(text: &[u8]) -> (Fcb, &[u8])
     ensures fcb { result.0 ≡ fcb_named text.now }
     ensures rest { result.1.now ≡ text_behind_name text.now }
@@ -40,7 +40,7 @@ fn is_delimiter(c: u8) -> bool
     c < b' ' || matches!(c, b' ' | b'=' | b'_' | b'.' | b':' | b';' | b'<' | b'>')
 }
 
-/// The text behind the spaces in front.
+/// The text after the spaces in front.
 fn after_spaces(text: &[u8]) -> &[u8]
     ensures { result.now ≡ after_spaces text.now }
 {
@@ -60,7 +60,7 @@ fn first_character(text: &[u8]) -> Option<usize>
     text.iter().position(|c| *c != b' ')
 }
 
-/// The drive that is named in front, 0 for none, and the text behind its name.
+/// The drive that is named in front, 0 for none, and the text after its name.
 fn split_drive(text: &[u8]) -> (u8, &[u8])
     ensures drive { result.0 ≡ drive_of text.now }
     ensures rest { result.1.now ≡ after_drive text.now }
@@ -94,7 +94,7 @@ fn first_delimiter(text: &[u8]) -> Option<usize>
     text.iter().position(|c| is_delimiter(*c))
 }
 
-/// The type behind a period, and the text behind it.
+/// The type after a period, and the text after it.
 fn split_type(text: &[u8]) -> (&[u8], &[u8])
     ensures kind { result.0.now ≡ type_of text.now }
     ensures rest { result.1.now ≡ after_type text.now }

@@ -43,7 +43,7 @@ impl ListedImage {
         ListedImage { image, entries }
     }
 
-    /// An equal image, with its entries; refused for want of memory.
+    /// An equal image, with its entries; refused if out of memory.
     pub fn copy(&self, alloc: Global) -> Result<ListedImage, AllocError>
         ensures { IfOk result (λ listed. listed ≡ self.now) }
     {
@@ -140,7 +140,7 @@ impl ListedImage {
     }
 }
 
-/// The entries of an image. The places behind them have the first one again.
+/// The entries of an image. The places after them have the first one again.
 fn entries_in(image: &Image) -> [Entry; MOST_ENTRIES]
     ensures { Lists result image.now }
 {

@@ -3,12 +3,12 @@ use Rattle.std.proofs.Common.{◌≡◌, ◌∙◌, ℕ, ◌-◌, ◌*◌, Bool,
 use Rattle.std.proofs.lemmas.Bool.{false≢true, true≢false}
 use Rattle.cpm_geom.specs.Disk.{Disk}
 use Rattle.cpm_image_files.specs.Filled.{filled}
-use Rattle.cpm_image_files.specs.Shelf.{records_for, DiskHasFile}
+use Rattle.cpm_image_files.specs.ImageFiles.{records_for, DiskHasFile}
 use Rattle.cpm_image_files.specs.Texts.{from_text, to_text}
 use Rattle.cpm_image_files.specs.declared.name.FileName.{FileName}
 use Rattle.cpm_image_files.proofs.FilledLemmas.{what_is_put}
 use Rattle.cpm_image_files.proofs.TextLemmas.{texts_come_back}
-use Rattle.cpm_disk_commands.specs.Filing.{stored, IsTaken, RoundLaw}
+use Rattle.cpm_disk_commands.specs.DiskCommands.{stored, IsTaken, RoundLaw}
 
 -- the file's records are those that were put
 whole_is : (disk : Disk) (file : FileName) (is_text : Bool) (bytes got : List ℕ) → DiskHasFile disk file.user file.name (stored is_text bytes) → (taken : IsTaken disk file is_text got)

@@ -8,8 +8,8 @@ use Rattle.cpm_image_files.specs.declared.name.FileName.{FileName}
 use Rattle.cpm_disk_commands.specs.Listing.{is_blank_byte}
 use Rattle.cpm_disk_commands.specs.Names.{with_marks, one_name}
 use Rattle.cpm_disk_commands.specs.Refusals.{file_named}
-use Rattle.cpm_disk_commands.specs.declared.error.FilingError.{FilingError}
-use Rattle.cpm_disk_commands.specs.declared.error.FilingError.TheVariants.{NoHostName}
+use Rattle.cpm_disk_commands.specs.declared.error.DiskCommandError.{DiskCommandError}
+use Rattle.cpm_disk_commands.specs.declared.error.DiskCommandError.TheVariants.{NoHostName}
 
 -- a capital as the small letter, without its attribute
 unfoldable pub small : ℕ → ℕ
@@ -51,7 +51,7 @@ ApartLaw =
     → host_text name ≡ host_text other → same_name name other ≡ true
 
 -- why a file gets no name on the host: its text can't be one
-abbrev pub IsNoHostName : (image : List ℕ) → FileName → FilingError → Type 0
+abbrev pub IsNoHostName : (image : List ℕ) → FileName → DiskCommandError → Type 0
 IsNoHostName image file (NoHostName shown about) =
     (shown.bytes ≡ shown_of (chars image)) × (about ≡ file_named file) × (is_host_name (host_text file.name) file.name ≡ false)
 IsNoHostName image file _ = ⊥

@@ -1,5 +1,5 @@
 pub mod Damage
-pub mod Filing
+pub mod DiskCommands
 pub mod HostNames
 pub mod Listing
 pub mod Matching

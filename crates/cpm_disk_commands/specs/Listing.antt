@@ -9,15 +9,15 @@ use Rattle.cpm_directory.specs.WellFormed.{IsChecked}
 use Rattle.cpm_geom.specs.Disk.{Disk}
 use Rattle.cpm_geom.specs.Geometry.{dpb_of}
 use Rattle.cpm_geom.specs.declared.format.Format.{Format}
-use Rattle.cpm_image_files.specs.Shelf.{IsSoundDisk}
+use Rattle.cpm_image_files.specs.ImageFiles.{IsSoundDisk}
 use Rattle.cpm_image_files.specs.declared.listing.DiskFile.{DiskFile}
-use Rattle.cpm_image_files.specs.declared.listing.Shelf.{Shelf}
+use Rattle.cpm_image_files.specs.declared.listing.DiskListing.{DiskListing}
 use Rattle.cpm_disk_commands.specs.Damage.{damage_of}
-use Rattle.cpm_disk_commands.specs.declared.error.FilingError.{FilingError}
-use Rattle.cpm_disk_commands.specs.declared.error.FilingError.TheVariants.{Damaged, OutputUnwritable, OutOfMemory}
+use Rattle.cpm_disk_commands.specs.declared.error.DiskCommandError.{DiskCommandError}
+use Rattle.cpm_disk_commands.specs.declared.error.DiskCommandError.TheVariants.{Damaged, OutputUnwritable, OutOfMemory}
 
 -- Why there is no list: the fault of the first entry that has one; or the disk is sound, but there was no memory.
-abbrev pub IsListTold : Disk → (image : List ℕ) → FilingError → Type 0
+abbrev pub IsListTold : Disk → (image : List ℕ) → DiskCommandError → Type 0
 IsListTold disk image (Damaged shown damage) =
     (shown.bytes ≡ shown_of (chars image)) × IsChecked (dpb_of disk.format) (entries_of disk) (Err damage.fault) × (damage ≡ damage_of disk damage.fault)
 IsListTold disk image OutOfMemory = IsSoundDisk disk
@@ -69,7 +69,7 @@ is_blank_byte c = c % 128 == 0x20
 unfoldable pub visible : ℕ → ℕ
 visible c = if nat_lt 0x20 (c % 128) && nat_lt (c % 128) 0x7F then c % 128 else 0x3F
 
--- a part of a name, without the blanks behind it
+-- a part of a name, without the blanks after it
 unfoldable pub seen_part : List ℕ → List ℕ
 seen_part [] = []
 seen_part (c ∷ cs) = if list_all is_blank_byte (c ∷ cs) then [] else visible c ∷ seen_part cs
@@ -89,9 +89,10 @@ system_of name = if nat_lt 127 (slice_index name 9) then codes ", system" else [
 unfoldable pub unit_of : ℕ → List ℕ
 unit_of count = if count == 1 then codes " record" else codes " records"
 
+-- a file has at most 65,536 records: an extent's number goes up to 511, and an extent has 128
 unfoldable pub file_line : DiskFile → List ℕ
 file_line file =
-    codes "user " ++ right 2 (decimal file.user) ++ codes "  " ++ left_aligned 12 (seen_name file.name) ++ codes "  " ++ right 4 (decimal file.records)
+    codes "user " ++ right 2 (decimal file.user) ++ codes "  " ++ left_aligned 12 (seen_name file.name) ++ codes " " ++ right 5 (decimal file.records)
     ++ unit_of file.records ++ read_only_of file.name ++ system_of file.name ++ codes "\n"
 
 -- ---- the list
@@ -110,11 +111,11 @@ lines_of user (file ∷ files) = (if is_wanted user file then file_line file els
 unfoldable pub free_line : Format → ℕ → List ℕ
 free_line format free = decimal free ++ codes " of " ++ decimal ((dpb_of format).last_block - 1) ++ codes " blocks are free\n"
 
-abbrev pub list_text : Format → Option ℕ → Shelf → List ℕ
-list_text format user shelf = lines_of user (in_order shelf.files.items) ++ free_line format shelf.free_blocks
+abbrev pub list_text : Format → Option ℕ → DiskListing → List ℕ
+list_text format user listing = lines_of user (in_order listing.files.items) ++ free_line format listing.free_blocks
 
 -- Why a list is not written: its writer refuses some of it; or memory is refused, and the writer is as it was.
-abbrev pub IsListWriteRefusal : {W : Type 0} → FilingError → W → W → Type 0
+abbrev pub IsListWriteRefusal : {W : Type 0} → DiskCommandError → W → W → Type 0
 IsListWriteRefusal {W} (OutputUnwritable reason) old new = ⊤
 IsListWriteRefusal {W} OutOfMemory old new = new ≡ old
 IsListWriteRefusal {W} _ old new = ⊥

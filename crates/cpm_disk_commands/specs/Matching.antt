@@ -6,8 +6,8 @@ use Rattle.cpm_volume.specs.Files.{has_wildcard, name_matches}
 use Rattle.cpm_image_files.specs.declared.listing.DiskFile.{DiskFile}
 use Rattle.cpm_disk_commands.specs.Names.{pattern_text}
 use Rattle.cpm_disk_commands.specs.declared.damage.NamedFile.{NamedFile}
-use Rattle.cpm_disk_commands.specs.declared.error.FilingError.{FilingError}
-use Rattle.cpm_disk_commands.specs.declared.error.FilingError.TheVariants.{NotPattern, NoFile, OutOfMemory}
+use Rattle.cpm_disk_commands.specs.declared.error.DiskCommandError.{DiskCommandError}
+use Rattle.cpm_disk_commands.specs.declared.error.DiskCommandError.TheVariants.{NotPattern, NoFile, OutOfMemory}
 
 -- the file is of the user and its name matches; one with a question mark in its name can't be named
 unfoldable pub is_meant : ℕ → List ℕ → DiskFile → Bool
@@ -28,7 +28,7 @@ pub record AreMeant (text : List ℕ) (user : ℕ) (files : List DiskFile) (name
   pub some : named ≢ []
 
 -- Why there are none: the text is no pattern; it is one, but no file of the user matches; or one does, but there was no memory.
-abbrev pub IsMatchRefusal : (image text : List ℕ) → (user : ℕ) → List DiskFile → FilingError → Type 0
+abbrev pub IsMatchRefusal : (image text : List ℕ) → (user : ℕ) → List DiskFile → DiskCommandError → Type 0
 IsMatchRefusal image text user files (NotPattern shown) = (shown.bytes ≡ shown_of (chars text)) × (pattern_text text ≡ None)
 IsMatchRefusal image text user files (NoFile shown pattern number) =
     (shown.bytes ≡ shown_of (chars image)) × (pattern.bytes ≡ shown_of (chars text)) × (number ≡ user)

@@ -27,7 +27,7 @@ capital_letter c = if nat_le 0x61 c && nat_le c 0x7A then c - 32 else c
 unfoldable pub name_part : List ℕ → List ℕ
 name_part text = take (position_or_len (λ c. c == 0x2E) text) text
 
--- behind it
+-- after it
 unfoldable pub type_part : List ℕ → List ℕ
 type_part text = drop (position_or_len (λ c. c == 0x2E) text + 1) text
 
@@ -52,7 +52,7 @@ is_sized most part = nat_le (length part) most && nat_le (length part) (star_of 
 abbrev pub is_part : (ℕ → Bool) → ℕ → List ℕ → Bool
 is_part is_of_kind most part = is_sized most part && list_all is_of_kind part
 
--- 1 to 8 characters and, behind a dot, up to 3 (own)
+-- 1 to 8 characters and, after a dot, up to 3 (own)
 unfoldable pub has_parts : (ℕ → Bool) → List ℕ → Bool
 has_parts is_of_kind text =
     nat_lt 0 (length (name_part text)) && (is_part is_of_kind 8 (name_part text) && is_part is_of_kind 3 (type_part text))

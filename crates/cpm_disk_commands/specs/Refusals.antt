@@ -9,31 +9,31 @@ use Rattle.cpm_volume.specs.Files.{same_name}
 use Rattle.cpm_geom.specs.Disk.{Disk}
 use Rattle.cpm_geom.specs.Geometry.{dpb_of, format_of_length}
 use Rattle.cpm_image_files.specs.declared.name.FileName.{FileName}
-use Rattle.cpm_image_files.specs.declared.refusal.ShelfError.{ShelfError}
-use Rattle.cpm_image_files.specs.declared.refusal.ShelfError.TheVariants as shelf
+use Rattle.cpm_image_files.specs.declared.refusal.ImageFilesError.{ImageFilesError}
+use Rattle.cpm_image_files.specs.declared.refusal.ImageFilesError.TheVariants as image_error
 use Rattle.cpm_disk_commands.specs.Damage.{damage_of}
 use Rattle.cpm_disk_commands.specs.Names.{one_name}
 use Rattle.cpm_disk_commands.specs.declared.damage.NamedFile.{NamedFile}
-use Rattle.cpm_disk_commands.specs.declared.error.FilingError.{FilingError}
-use Rattle.cpm_disk_commands.specs.declared.error.FilingError.TheVariants.{NotName, NotPattern, NotPair, PutTwice, NotImage, Damaged}
-use Rattle.cpm_disk_commands.specs.declared.error.FilingError.TheVariants.{NoFile, NoHostName, Refused, OutputUnwritable, OutOfMemory}
+use Rattle.cpm_disk_commands.specs.declared.error.DiskCommandError.{DiskCommandError}
+use Rattle.cpm_disk_commands.specs.declared.error.DiskCommandError.TheVariants.{NotName, NotPattern, NotPair, PutTwice, NotImage, Damaged}
+use Rattle.cpm_disk_commands.specs.declared.error.DiskCommandError.TheVariants.{NoFile, NoHostName, Refused, OutputUnwritable, OutOfMemory}
 
 -- the number of the code that the text begins with
-abbrev pub filing_status_of : FilingError → ℕ
-filing_status_of (NotName text) = 1
-filing_status_of (NotPattern text) = 1
-filing_status_of (NotPair text) = 1
-filing_status_of (PutTwice text file) = 1
-filing_status_of (OutputUnwritable reason) = 5
-filing_status_of (NotImage image count) = 6
-filing_status_of (Damaged image damage) = 6
-filing_status_of (NoFile image pattern user) = 6
-filing_status_of (Refused image file refusal) = 6
-filing_status_of (NoHostName image file) = 6
-filing_status_of OutOfMemory = 8
+abbrev pub disk_command_status_of : DiskCommandError → ℕ
+disk_command_status_of (NotName text) = 1
+disk_command_status_of (NotPattern text) = 1
+disk_command_status_of (NotPair text) = 1
+disk_command_status_of (PutTwice text file) = 1
+disk_command_status_of (OutputUnwritable reason) = 5
+disk_command_status_of (NotImage image count) = 6
+disk_command_status_of (Damaged image damage) = 6
+disk_command_status_of (NoFile image pattern user) = 6
+disk_command_status_of (Refused image file refusal) = 6
+disk_command_status_of (NoHostName image file) = 6
+disk_command_status_of OutOfMemory = 8
 
 -- bytes are no image, by their number
-abbrev pub IsNotImage : (image bytes : List ℕ) → FilingError → Type 0
+abbrev pub IsNotImage : (image bytes : List ℕ) → DiskCommandError → Type 0
 IsNotImage image bytes (NotImage shown count) =
     (shown.bytes ≡ shown_of (chars image)) × (count ≡ length bytes) × (format_of_length (length bytes) ≡ None)
 IsNotImage image bytes _ = ⊥
@@ -43,30 +43,30 @@ abbrev pub file_named : FileName → NamedFile
 file_named file = record { user = file.user; name = file.name }
 
 -- the fault of a directory is told of the image in a file of the host
-abbrev pub IsDamageTold : Disk → (image : List ℕ) → DriveFault → FilingError → Type 0
+abbrev pub IsDamageTold : Disk → (image : List ℕ) → DriveFault → DiskCommandError → Type 0
 IsDamageTold disk image fault (Damaged shown damage) = (shown.bytes ≡ shown_of (chars image)) × (damage ≡ damage_of disk fault)
 IsDamageTold disk image fault _ = ⊥
 
 -- why nothing is done is told of the image and of a file of the disk
-abbrev pub IsTold : Disk → (image : List ℕ) → NamedFile → ShelfError → FilingError → Type 0
-IsTold disk image file (shelf.Damaged fault) f = IsDamageTold disk image fault f
-IsTold disk image file (shelf.Refused refusal) (Refused shown about reason) =
+abbrev pub IsTold : Disk → (image : List ℕ) → NamedFile → ImageFilesError → DiskCommandError → Type 0
+IsTold disk image file (image_error.Damaged fault) f = IsDamageTold disk image fault f
+IsTold disk image file (image_error.Refused refusal) (Refused shown about reason) =
     (shown.bytes ≡ shown_of (chars image)) × (about ≡ file) × (reason ≡ refusal)
-IsTold disk image file (shelf.Refused refusal) _ = ⊥
-IsTold disk image file shelf.OutOfMemory f = f ≡ OutOfMemory
+IsTold disk image file (image_error.Refused refusal) _ = ⊥
+IsTold disk image file image_error.OutOfMemory f = f ≡ OutOfMemory
 
 -- there is such a reason, and it is told
-abbrev pub IsToldRefusal : Disk → (image : List ℕ) → NamedFile → (ShelfError → Type 0) → FilingError → Type 0
-IsToldRefusal disk image file Is f = (e : ShelfError) × Is e × IsTold disk image file e f
+abbrev pub IsToldRefusal : Disk → (image : List ℕ) → NamedFile → (ImageFilesError → Type 0) → DiskCommandError → Type 0
+IsToldRefusal disk image file Is f = (e : ImageFilesError) × Is e × IsTold disk image file e f
 
 -- a fault is the disk's first
-abbrev pub IsFaultOf : Disk → ShelfError → Type 0
-IsFaultOf disk (shelf.Damaged fault) = IsChecked (dpb_of disk.format) (entries_of disk) (Err fault)
-IsFaultOf disk (shelf.Refused refusal) = ⊤
-IsFaultOf disk shelf.OutOfMemory = ⊤
+abbrev pub IsFaultOf : Disk → ImageFilesError → Type 0
+IsFaultOf disk (image_error.Damaged fault) = IsChecked (dpb_of disk.format) (entries_of disk) (Err fault)
+IsFaultOf disk (image_error.Refused refusal) = ⊤
+IsFaultOf disk image_error.OutOfMemory = ⊤
 
 -- a text is no name of a file
-abbrev pub IsNotName : (text : List ℕ) → FilingError → Type 0
+abbrev pub IsNotName : (text : List ℕ) → DiskCommandError → Type 0
 IsNotName text (NotName shown) = (shown.bytes ≡ shown_of (chars text)) × (one_name text ≡ None)
 IsNotName text _ = ⊥
 
@@ -75,7 +75,7 @@ abbrev pub is_same_file : FileName → FileName → Bool
 is_same_file file other = (file.user == other.user) && same_name file.name other.name
 
 -- a word would put a file on a disk that one before it is already
-abbrev pub IsPutTwice : (before : List FileName) → FileName → (word : List ℕ) → FilingError → Type 0
+abbrev pub IsPutTwice : (before : List FileName) → FileName → (word : List ℕ) → DiskCommandError → Type 0
 IsPutTwice before file word (PutTwice shown about) =
     (shown.bytes ≡ shown_of (chars word)) × (about ≡ file_named file) × (list_any (is_same_file file) before ≡ true)
 IsPutTwice before file word _ = ⊥

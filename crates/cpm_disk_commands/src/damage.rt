@@ -94,7 +94,7 @@ fn shown_character(byte: u8) -> char {
     }
 }
 
-/// Writes the characters of a name or of a type, without the blanks behind it.
+/// Writes the characters of a name or of a type, without the blanks after it.
 fn write_characters<W: fmt::Write>(bytes: &[u8], f: &mut fmt::Formatter<W>) -> fmt::Result {
     let mut blanks: usize = 0;
     for byte in bytes {

@@ -1,6 +1,6 @@
 //! Why a command on disk images is refused.
 ghost use Rattle.std.specs.Prelude.{◌≡◌};
-ghost use Rattle.cpm_disk_commands.specs.Refusals.{filing_status_of};
+ghost use Rattle.cpm_disk_commands.specs.Refusals.{disk_command_status_of};
 
 use crate::damage::{Damage, NamedFile};
 use cpm_command_line::ShownWord;
@@ -10,7 +10,7 @@ use thiserror::Error;
 
 /// Why a command is refused. Its text is one line that begins with its code.
 #[derive(Clone, Copy, Debug, Drop, Error)]
-pub enum FilingError {
+pub enum DiskCommandError {
     /// The text is no name of a file.
     #[error("HO1 '{0}' is no name of a file: 1 to 8 characters and, behind a dot, up to 3 are wanted, none of them a blank or of <>.,;:=?*[]_")]
     NotName(ShownWord),
@@ -78,23 +78,23 @@ fn advice(reason: FileRefusal) -> &'static str {
     }
 }
 
-impl FilingError {
+impl DiskCommandError {
     /// The exit status: the number of the code.
     pub fn status(&self) -> u8
-        ensures { result ≡ filing_status_of self.now }
+        ensures { result ≡ disk_command_status_of self.now }
     {
         match self {
-            FilingError::NotName(_)
-            | FilingError::NotPattern(_)
-            | FilingError::NotPair(_)
-            | FilingError::PutTwice { .. } => 1,
-            FilingError::OutputUnwritable(_) => 5,
-            FilingError::NotImage { .. }
-            | FilingError::Damaged { .. }
-            | FilingError::NoFile { .. }
-            | FilingError::Refused { .. }
-            | FilingError::NoHostName { .. } => 6,
-            FilingError::OutOfMemory => 8,
+            DiskCommandError::NotName(_)
+            | DiskCommandError::NotPattern(_)
+            | DiskCommandError::NotPair(_)
+            | DiskCommandError::PutTwice { .. } => 1,
+            DiskCommandError::OutputUnwritable(_) => 5,
+            DiskCommandError::NotImage { .. }
+            | DiskCommandError::Damaged { .. }
+            | DiskCommandError::NoFile { .. }
+            | DiskCommandError::Refused { .. }
+            | DiskCommandError::NoHostName { .. } => 6,
+            DiskCommandError::OutOfMemory => 8,
         }
     }
 }

@@ -8,7 +8,7 @@ ghost use Rattle.cpm_disk_commands.specs.HostNames.{host_part, host_text, is_hos
 ghost use Rattle.cpm_disk_commands.specs.Names.{one_name};
 
 use crate::damage::NamedFile;
-use crate::error::FilingError;
+use crate::error::DiskCommandError;
 use crate::lines::{are_blank, is_blank_byte};
 use crate::names::name_of;
 use arrayvec::ArrayString;
@@ -17,14 +17,14 @@ use cpm_image_files::FileName;
 
 /// The name that a file of an image gets on the host; the image's name is that of its file. `NoHostName` where no file of the
 /// host can have it.
-pub fn host_name(name: &str, file: &FileName) -> Result<ArrayString<12>, FilingError>
+pub fn host_name(name: &str, file: &FileName) -> Result<ArrayString<12>, DiskCommandError>
     ensures { MatchResult result
         (λ text. (text.bytes ≡ host_text file.now.name) × (is_host_name text.bytes file.now.name ≡ true))
         (λ e. IsNoHostName name.now file.now e) }
 {
     match text_of_name(file.name()) {
         Some(text) => Ok(text),
-        None => Err(FilingError::NoHostName {
+        None => Err(DiskCommandError::NoHostName {
             image: shown(name),
             file: NamedFile {
                 user: file.user(),

@@ -1,6 +1,6 @@
 //! The laws of lists, of names and of what is put on a disk and taken off it.
 
-ghost use Rattle.cpm_disk_commands.specs.Filing.{RoundLaw};
+ghost use Rattle.cpm_disk_commands.specs.DiskCommands.{RoundLaw};
 ghost use Rattle.cpm_disk_commands.specs.HostNames.{ApartLaw, SpelledLaw};
 ghost use Rattle.cpm_disk_commands.specs.Listing.{OrderLaw};
 

@@ -3,8 +3,8 @@
 #![tactic(auto)]
 
 pub mod damage;
+pub mod disk_commands;
 pub mod error;
-pub mod filing;
 pub mod host_names;
 pub mod laws;
 mod lines;
@@ -14,8 +14,8 @@ pub mod names;
 pub mod words;
 
 pub use damage::{Damage, NamedFile, damage_of};
-pub use error::FilingError;
-pub use filing::{get_file, image_of, new_image, put_file, remove_file, rename_file};
+pub use disk_commands::{get_file, image_of, new_image, put_file, remove_file, rename_file};
+pub use error::DiskCommandError;
 pub use host_names::{host_name, text_of_name};
 pub use listing::{list_files, write_list};
 pub use matching::matching_files;

@@ -14,6 +14,9 @@ use std::alloc::AllocError;
 /// The characters of a name in a line.
 const NAME_WIDTH: usize = 12;
 
+/// The digits of its records: an extent's number goes up to 511, and an extent has 128 records.
+const RECORDS_WIDTH: usize = 5;
+
 /// Adds a line for each file, or for each of one user.
 pub(crate) fn add_lines(
     text: &mut Vec<u8>,
@@ -69,8 +72,8 @@ fn add_line(text: &mut Vec<u8>, file: &DiskFile) -> Result<(), AllocError>
     add_number(text, u32::from(file.user), 2)?;
     text.extend_from_slice(b"  ")?;
     add_padded_name(text, &file.name)?;
-    text.extend_from_slice(b"  ")?;
-    add_number(text, file.records, 4)?;
+    text.extend_from_slice(b" ")?;
+    add_number(text, file.records, RECORDS_WIDTH)?;
     text.extend_from_slice(unit_of(file.records))?;
     text.extend_from_slice(read_only_of(&file.name))?;
     text.extend_from_slice(system_of(&file.name))?;
@@ -156,7 +159,7 @@ fn add_name(text: &mut Vec<u8>, name: &[u8; 11]) -> Result<(), AllocError>
     Ok(())
 }
 
-/// Adds a part of a name without the blanks behind it.
+/// Adds a part of a name without the blanks after it.
 fn add_part(text: &mut Vec<u8>, part: &[u8]) -> Result<(), AllocError>
     ensures { OnOk result (text.new.items ≡ text.old.items ++ seen_part part.now) }
 {

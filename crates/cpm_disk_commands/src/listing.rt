@@ -6,27 +6,27 @@ ghost use Rattle.std.specs.List.{position_or_len};
 ghost use Rattle.cpm_image_files.specs.Listing.{IsListed};
 ghost use Rattle.cpm_disk_commands.specs.Listing.{comes_before, in_order, is_less, list_text, IsListTold, IsListWriteRefusal};
 
-use crate::error::FilingError;
-use crate::filing::damaged;
+use crate::disk_commands::damaged;
+use crate::error::DiskCommandError;
 use crate::lines::{add_free_line, add_lines};
 use cpm_geom::{Format, Image};
-use cpm_image_files::{DiskFile, Shelf, ShelfError, list};
+use cpm_image_files::{DiskFile, DiskListing, ImageFilesError, list};
 use std::alloc::{AllocError, Global};
 use std::io;
 use std::io::Write;
 
 /// The files of an image, each once, and how many of its blocks are free. The name is that of the image's file. Refused as
 /// `list` refuses it.
-pub fn list_files(alloc: Global, image: &Image, name: &str) -> Result<Shelf, FilingError>
+pub fn list_files(alloc: Global, image: &Image, name: &str) -> Result<DiskListing, DiskCommandError>
     ensures { MatchResult result
-        (λ shelf. IsListed image.now shelf)
+        (λ listing. IsListed image.now listing)
         (λ e. IsListTold image.now name.now e) }
 {
     match list(alloc, image) {
-        Ok(shelf) => Ok(shelf),
-        Err(ShelfError::Damaged(fault)) => Err(damaged(image, name, fault)),
-        Err(ShelfError::Refused(_)) => unreachable!(),
-        Err(ShelfError::OutOfMemory) => Err(FilingError::OutOfMemory),
+        Ok(listing) => Ok(listing),
+        Err(ImageFilesError::Damaged(fault)) => Err(damaged(image, name, fault)),
+        Err(ImageFilesError::Refused(_)) => unreachable!(),
+        Err(ImageFilesError::OutOfMemory) => Err(DiskCommandError::OutOfMemory),
     }
 }
 
@@ -36,20 +36,20 @@ pub fn list_files(alloc: Global, image: &Image, name: &str) -> Result<Shelf, Fil
 pub fn write_list<W: Write>(
     alloc: Global,
     format: Format,
-    shelf: &Shelf,
+    listing: &DiskListing,
     user: Option<u8>,
     out: &mut W,
-) -> Result<(), FilingError>
-    ensures text { OnOk result (Appends (W.contents out.old) (W.contents out.new) (list_text format user shelf.now)) }
+) -> Result<(), DiskCommandError>
+    ensures text { OnOk result (Appends (W.contents out.old) (W.contents out.new) (list_text format user listing.now)) }
     ensures refusal { IfErr result (λ e. IsListWriteRefusal e out.old out.new) }
 {
-    let text = match text_of(alloc, format, shelf, user) {
+    let text = match text_of(alloc, format, listing, user) {
         Ok(text) => text,
-        Err(_) => return Err(FilingError::OutOfMemory),
+        Err(_) => return Err(DiskCommandError::OutOfMemory),
     };
     match write_text(out, &text) {
         Ok(()) => Ok(()),
-        Err(reason) => Err(FilingError::OutputUnwritable(reason)),
+        Err(reason) => Err(DiskCommandError::OutputUnwritable(reason)),
     }
 }
 
@@ -62,23 +62,23 @@ fn write_text<W: Write>(out: &mut W, text: &[u8]) -> io::Result<()>
     Ok(())
 }
 
-/// The lines of a list; refused for want of memory.
+/// The lines of a list; refused if out of memory.
 fn text_of(
     alloc: Global,
     format: Format,
-    shelf: &Shelf,
+    listing: &DiskListing,
     user: Option<u8>,
 ) -> Result<Vec<u8>, AllocError>
-    ensures { IfOk result (λ text. text.items ≡ list_text format user shelf.now) }
+    ensures { IfOk result (λ text. text.items ≡ list_text format user listing.now) }
 {
-    let files = in_order(alloc, &shelf.files)?;
+    let files = in_order(alloc, &listing.files)?;
     let mut text = Vec::new(alloc);
     add_lines(&mut text, user, &files)?;
-    add_free_line(&mut text, format, shelf.free_blocks)?;
+    add_free_line(&mut text, format, listing.free_blocks)?;
     Ok(text)
 }
 
-/// Files in the order of their users and names; refused for want of memory.
+/// Files in the order of their users and names; refused if out of memory.
 fn in_order(alloc: Global, files: &[DiskFile]) -> Result<Vec<DiskFile>, AllocError>
     ensures { IfOk result (λ sorted. sorted.items ≡ in_order files.now) }
 {

@@ -6,7 +6,7 @@ ghost use Rattle.cpm_volume.specs.Files.{has_wildcard, name_matches, wildcard_or
 ghost use Rattle.cpm_disk_commands.specs.Matching.{is_meant, listed, meant, AreMeant, IsMatchRefusal};
 ghost use Rattle.cpm_disk_commands.specs.Refusals.{file_named};
 
-use crate::error::FilingError;
+use crate::error::DiskCommandError;
 use crate::names::pattern_of;
 use cpm_command_line::shown;
 use cpm_image_files::{DiskFile, FileName};
@@ -20,27 +20,27 @@ pub fn matching_files(
     name: &str,
     user: u8,
     pattern: &str,
-) -> Result<Vec<FileName>, FilingError>
+) -> Result<Vec<FileName>, DiskCommandError>
     requires { user < 16 }
     ensures { MatchResult result
         (λ found. AreMeant pattern.now user files.now (map file_named found.items))
         (λ e. IsMatchRefusal name.now pattern.now user files.now e) }
 {
     let Some(wanted) = pattern_of(pattern) else {
-        return Err(FilingError::NotPattern(shown(pattern)));
+        return Err(DiskCommandError::NotPattern(shown(pattern)));
     };
     match files_of(alloc, files, user, &wanted) {
-        Ok(found) if found.is_empty() => Err(FilingError::NoFile {
+        Ok(found) if found.is_empty() => Err(DiskCommandError::NoFile {
             image: shown(name),
             pattern: shown(pattern),
             user,
         }),
         Ok(found) => Ok(found),
-        Err(_) => Err(FilingError::OutOfMemory),
+        Err(_) => Err(DiskCommandError::OutOfMemory),
     }
 }
 
-/// The files of a user that match; refused for want of memory, where there is one.
+/// The files of a user that match; where there is one, refused if out of memory.
 fn files_of(
     alloc: Global,
     files: &[DiskFile],

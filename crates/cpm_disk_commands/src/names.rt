@@ -5,7 +5,7 @@ ghost use Rattle.std.specs.List.{list_all, position, position_or_len};
 ghost use Rattle.cpm_disk_commands.specs.Names.{capital_letter, character_at, fields, has_parts, is_name_character, is_part};
 ghost use Rattle.cpm_disk_commands.specs.Names.{is_pattern_character, is_special, is_sized, one_name, name_part, pattern_text, star_of, type_part};
 
-/// The name of one file: 1 to 8 characters and, behind a dot, up to 3. Letters become capitals, and blanks fill both parts up.
+/// The name of one file: 1 to 8 characters and, after a dot, up to 3. Letters become capitals, and blanks fill both parts up.
 /// None where the text is no such name.
 #[tactic(auto, unfolding(crate::specs::Names::one_name))]
 pub fn name_of(text: &str) -> Option<[u8; 11]>
@@ -64,7 +64,7 @@ fn is_pattern_part(part: &[u8], most: usize) -> bool
     is_sized(part, most) && all_of_pattern(part)
 }
 
-/// Whether a part has at most so many characters, and none behind a star.
+/// Whether a part has at most so many characters, and none after a star.
 #[tactic(auto, unfolding(crate::specs::Names::is_sized))]
 fn is_sized(part: &[u8], most: usize) -> bool
     ensures { result ≡ is_sized most part.now }
@@ -118,7 +118,7 @@ fn name_part(text: &[u8]) -> &[u8]
     &text[..dot_of(text)]
 }
 
-/// The characters behind it; none where there is no dot.
+/// The characters after it; none where there is no dot.
 #[tactic(auto, unfolding(crate::specs::Names::type_part))]
 fn type_part(text: &[u8]) -> &[u8]
     ensures { result.now ≡ type_part text.now }

@@ -7,13 +7,13 @@ ghost use Rattle.cpm_disk_commands.specs.Names.{with_marks, one_name, with_bit, 
 ghost use Rattle.cpm_disk_commands.specs.Refusals.{is_same_file, IsNotName, IsPutTwice};
 
 use crate::damage::NamedFile;
-use crate::error::FilingError;
+use crate::error::DiskCommandError;
 use crate::host_names::is_same_name;
 use crate::names::name_of;
 use cpm_command_line::shown;
 use cpm_image_files::FileName;
 
-/// What stands before and behind the first `=`; none where there is none.
+/// What stands before and after the first `=`; none where there is none.
 pub fn split_pair(text: &str) -> Option<(&str, &str)>
     ensures { MatchOption result
         (position_or_len (λ c. c == 0x3D) text.now ≡ length text.now)
@@ -40,14 +40,14 @@ pub fn file_name(
     user: u8,
     is_read_only: bool,
     is_system: bool,
-) -> Result<FileName, FilingError>
+) -> Result<FileName, DiskCommandError>
     requires { user < 16 }
     ensures { MatchResult result
         (λ file. (name : List ℕ) × (one_name text.now ≡ Some name) × (file.user ≡ user) × (file.name ≡ with_marks is_read_only is_system name))
         (λ e. IsNotName text.now e) }
 {
     let Some(name) = name_of(text) else {
-        return Err(FilingError::NotName(shown(text)));
+        return Err(DiskCommandError::NotName(shown(text)));
     };
     let name = with_marks(name, is_read_only, is_system);
     Ok(FileName::new(user, name).unwrap())
@@ -77,13 +77,13 @@ fn with_bit(character: u8, is_set: bool) -> u8
 }
 
 /// That a file is none of those before it; `PutTwice` where it is one, with the word that names it.
-pub fn check_new(before: &[FileName], file: &FileName, word: &str) -> Result<(), FilingError>
+pub fn check_new(before: &[FileName], file: &FileName, word: &str) -> Result<(), DiskCommandError>
     ensures { MatchResult result
         (λ _. list_any (is_same_file file.now) before.now ≡ false)
         (λ e. IsPutTwice before.now file.now word.now e) }
 {
     if is_among(before, file) {
-        Err(FilingError::PutTwice {
+        Err(DiskCommandError::PutTwice {
             word: shown(word),
             file: NamedFile {
                 user: file.user(),

@@ -18,7 +18,7 @@ use Rattle.cpm_volume.specs.declared.answer.Answer.TheVariants.{NoRecord as no_r
 use Rattle.cpm_volume.specs.Reserved.{is_reserved, least_free}
 use Rattle.cpm_volume.specs.Files.{extent_number, group_of, entry_place_of, block_number, deleted, entry_at, first_match, first_free, directory_records, Volume, DiskWrite, record_put, IsSound}
 use Rattle.cpm_volume.specs.Encoding.{AreBytes}
-use Rattle.cpm_volume.specs.Operations.{Outcome, ends, gives, with_entry, merged, agree, has_bad_block, closed_entry, is_unchanged, Close, refused, close_fault, closed, close_extent, opened_extent, open_extent, open_to_read, made_extent, make_extent, close_file_on_volume, make_file_on_volume, Purpose, reading, writing, Target, Place, stopped, standing, opened_in, made_in, opened_or_made, have_extent, closed_in, cross, next_target, target_of, next_place, place_at, record_in_block, get_record, Found, no_such_block, none_free, old_block, new_block, block_to_write, with_block, taken_writes, put_found, put_record, read_in, write_in, read_next_on_volume, write_next_on_volume, read_random_on_volume, write_random_on_volume, write_random_cleared_on_volume}
+use Rattle.cpm_volume.specs.Operations.{VolumeOutcome, ends, gives, with_entry, merged, agree, has_bad_block, closed_entry, is_unchanged, Close, refused, close_fault, closed, close_extent, opened_extent, open_extent, open_to_read, made_extent, make_extent, close_file_on_volume, make_file_on_volume, Purpose, reading, writing, Target, Place, stopped, standing, opened_in, made_in, opened_or_made, have_extent, closed_in, cross, next_target, target_of, next_place, place_at, record_in_block, get_record, BlockChoice, no_such_block, none_free, old_block, new_block, block_to_write, with_block, taken_writes, put_found, put_record, read_in, write_in, read_next_on_volume, write_next_on_volume, read_random_on_volume, write_random_on_volume, write_random_cleared_on_volume}
 use Rattle.cpm_volume.proofs.Closing.{closed_user}
 use Rattle.cpm_volume.proofs.Moving.{closed_volume, closes_free, goes_on, number_below}
 use Rattle.cpm_drive.specs.Laws.{IsOfBytes, Fits, AllFit}
@@ -163,7 +163,7 @@ module _ (f : Format) where
       cond_both (eqb (n / 128) (extent_number x)) (standing v x (n % 128)) (cross (dpb_of f) purpose false v user x t) PlaceFits (λ _. stands v x (n % 128) fit extent small) (λ _. crosses purpose v user x t user_fits (omega arith) small fit extent)
 
   -- ---- at the record
-  unfoldable pub OutcomeFits : Outcome → Type 0
+  unfoldable pub OutcomeFits : VolumeOutcome → Type 0
   OutcomeFits o = VolumeFits f o.volume × IsOfBytes (dpb_of f) o.extent
 
   gets : (v : Volume) (x : Extent) (current next : ℕ) → VolumeFits f v → IsOfBytes (dpb_of f) x → OutcomeFits (get_record (dpb_of f) v x current next)
@@ -184,7 +184,7 @@ module _ (f : Format) where
   BlockFits : ℕ → Type 0
   BlockFits b = (b ≤ (dpb_of f).last_block) × (directory_records (dpb_of f) ≤ b * ((dpb_of f).block_mask + 1))
 
-  FoundFits : Found → Type 0
+  FoundFits : BlockChoice → Type 0
   FoundFits no_such_block = ⊤
   FoundFits none_free = ⊤
   FoundFits (old_block b) = BlockFits b
@@ -247,7 +247,7 @@ module _ (f : Format) where
     log = rw log (fit_append f v.written ws fit.log more);
   }
 
-  puts_found : (clears : Bool) (v : Volume) (x : Extent) (current next : ℕ) (bytes : List ℕ) (it : Found) → current < 128 → AreBytes 128 bytes → VolumeFits f v → IsOfBytes (dpb_of f) x → FoundFits it → OutcomeFits (put_found (dpb_of f) clears v x current next bytes it)
+  puts_found : (clears : Bool) (v : Volume) (x : Extent) (current next : ℕ) (bytes : List ℕ) (it : BlockChoice) → current < 128 → AreBytes 128 bytes → VolumeFits f v → IsOfBytes (dpb_of f) x → FoundFits it → OutcomeFits (put_found (dpb_of f) clears v x current next bytes it)
   unfolding put_found ends OutcomeFits FoundFits BlockFits
   puts_found clears v x current next bytes no_such_block small are fit extent there = (fit, extent)
   puts_found clears v x current next bytes none_free small are fit extent there = (fit, extent)

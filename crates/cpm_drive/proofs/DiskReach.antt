@@ -9,7 +9,7 @@ use Rattle.cpm_volume.specs.declared.extent.Extent.{Extent}
 use Rattle.cpm_volume.specs.declared.extent.Entry.{Entry}
 use Rattle.cpm_volume.specs.Files.{entry_at, Volume}
 use Rattle.cpm_volume.specs.Encoding.{AreBytes}
-use Rattle.cpm_volume.specs.Operations.{Outcome}
+use Rattle.cpm_volume.specs.Operations.{VolumeOutcome}
 use Rattle.cpm_volume.specs.Names.{is_named, first_named, change_named, named_writes, NameOutcome, none_named, file_read_only, named, protects, deletion, renaming, with_attributes, marking, reserved_after, erase_files_on_volume, rename_files_on_volume, set_attributes_on_volume}
 use Rattle.cpm_volume.specs.LogLaws.{IsLogged}
 use Rattle.cpm_volume.proofs.Logging.{calls_log, named_calls_log}
@@ -171,7 +171,7 @@ module _ (drive : Drive) (writable : IsWritable drive) where
         };
       })
 
-  outcome : (o : Outcome) → IsLogged (volume_of drive.image drive.marks.reserved) o.volume → OutcomeFits drive.image.format o → OutcomeReaches drive o
+  outcome : (o : VolumeOutcome) → IsLogged (volume_of drive.image drive.marks.reserved) o.volume → OutcomeFits drive.image.format o → OutcomeReaches drive o
   unfolding OutcomeFits
   outcome o log fit = record { disk = reaches o.volume log fit.0.log; extent = fit.1 }
 

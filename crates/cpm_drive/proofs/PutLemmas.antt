@@ -16,7 +16,7 @@ use Rattle.cpm_volume.specs.declared.answer.Answer.TheVariants.{Fault as fault, 
 use Rattle.cpm_volume.specs.declared.answer.Fault.{Fault}
 use Rattle.cpm_volume.specs.Files.{Volume, DiskWrite, entry_put, record_put, block_number, entry_place_of}
 use Rattle.cpm_volume.specs.Reserved.{least_free}
-use Rattle.cpm_volume.specs.Operations.{Found, no_such_block, none_free, old_block, new_block, block_to_write, put_found, put_record, taken_writes, record_in_block, with_block, counting, ends}
+use Rattle.cpm_volume.specs.Operations.{BlockChoice, no_such_block, none_free, old_block, new_block, block_to_write, put_found, put_record, taken_writes, record_in_block, with_block, counting, ends}
 use Rattle.cpm_drive.specs.declared.drive.Drive.{Drive}
 use Rattle.cpm_drive.specs.declared.change.Change.{Change}
 use Rattle.cpm_drive.specs.Drive.{volume_of, after_write, after_writes, drive_after, call_result, after_call}
@@ -92,7 +92,7 @@ module _ (d : Dpb) (drive : Drive) (w : Volume) (fcb : Fcb) (x : Extent) (here n
   unfolding after_call ends drive_after
   stops_after answer current = rw (free, same) refl
 
-  found_after : (found : Found) → after_call (drive_written drive w.written) (stood_on x here fcb) bytes (put_found d clears (volume_of (after_writes w.written drive.image) drive.marks.reserved) x here next bytes found) ≡ after_call drive fcb bytes (put_found d clears w x here next bytes found)
+  found_after : (found : BlockChoice) → after_call (drive_written drive w.written) (stood_on x here fcb) bytes (put_found d clears (volume_of (after_writes w.written drive.image) drive.marks.reserved) x here next bytes found) ≡ after_call drive fcb bytes (put_found d clears w x here next bytes found)
   unfolding after_call put_found ends drive_after volume_of after_writes
   found_after no_such_block = rw (free, same) refl
   found_after none_free = rw (free, same) refl

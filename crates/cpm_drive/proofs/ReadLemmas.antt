@@ -15,8 +15,8 @@ use Rattle.cpm_volume.specs.Files.{Volume, block_number, entry_place_of, directo
 use Rattle.cpm_volume.specs.Laws.{position, HasReadRecord}
 use Rattle.cpm_volume.proofs.Reading.{reads_next, reads_at}
 use Rattle.cpm_directory.specs.Directory.{entries_of}
-use Rattle.cpm_volume.specs.Operations.{Outcome, ends, gives, get_record, read_in, read_next_on_volume, read_random_on_volume, record_in_block}
-use Rattle.cpm_drive.specs.Drive.{volume_of, drive_after, Called, call_result, after_call, buffer_after}
+use Rattle.cpm_volume.specs.Operations.{VolumeOutcome, ends, gives, get_record, read_in, read_next_on_volume, read_random_on_volume, record_in_block}
+use Rattle.cpm_drive.specs.Drive.{volume_of, drive_after, CallResult, call_result, after_call, buffer_after}
 use Rattle.cpm_drive.specs.declared.drive.Drive.{Drive}
 use Rattle.cpm_drive.specs.declared.change.Change.{Change}
 use Rattle.cpm_drive.specs.declared.place.Arrival.{Arrival}
@@ -38,7 +38,7 @@ pub in_block_there : (f : Format) (b current : ℕ) → b ≤ (dpb_of f).last_bl
 in_block_there f b current h = record { track_there = in_block_track f b current h }
 
 -- the tests of a read
-chain : Bool → Bool → Bool → Volume → Extent → ℕ → ℕ → ℕ → Outcome
+chain : Bool → Bool → Bool → Volume → Extent → ℕ → ℕ → ℕ → VolumeOutcome
 chain counted above none v x current next n =
     cond (not counted) (ends no_record v x current) (cond above (ends (fault Fault.BadSector) v x current) (cond none (ends no_record v x current) (gives v x next n)))
 
@@ -65,7 +65,7 @@ read_volume d v a current step none =
     place_volume d (with_change (with_change v a.closed) a.made) a.extent a.current current step ∙ rw none refl
 
 -- a call that found its record or its answer
-found_is : (drive : Drive) (fcb fcb' : Fcb) (buffer : List ℕ) (found : Result ℕ Answer) (closed : Option Change) (o : Outcome) → record_found found fcb' ≡ after_record fcb o → o.volume ≡ with_change (volume_of drive.image drive.marks.reserved) closed → after_reading drive (record { found = found; closed = closed }) fcb' buffer ≡ after_call drive fcb buffer o
+found_is : (drive : Drive) (fcb fcb' : Fcb) (buffer : List ℕ) (found : Result ℕ Answer) (closed : Option Change) (o : VolumeOutcome) → record_found found fcb' ≡ after_record fcb o → o.volume ≡ with_change (volume_of drive.image drive.marks.reserved) closed → after_reading drive (record { found = found; closed = closed }) fcb' buffer ≡ after_call drive fcb buffer o
 unfolding after_call after_record after_reading
 found_is drive fcb fcb' buffer found closed o h volume =
     ap (λ (r : RecordRead). call_result r.answer (drive_read drive (record { found = found; closed = closed })) r.fcb (buffer_after (drive_read drive (record { found = found; closed = closed })).image r.read buffer)) h ∙ ap (λ v. call_result o.answer (drive_after drive v) (record fcb { extent = o.extent; current_record = o.current }) (buffer_after (drive_after drive v).image o.read buffer)) (sym volume)
@@ -93,7 +93,7 @@ module _ (d : Dpb) (v : Volume) (fcb : Fcb) (next : ℕ) where
     unfolding after_record get_record gives
     get_found b n is h other at = rw (lt-ltb _ _ counted, ← is, le-ltb _ _ h, ne_eqb _ _ other, at) refl
 
-fcb_any : (fcb : Fcb) (x : Extent) (here : ℕ) (o : Outcome) → after_record (record fcb { extent = x; current_record = here }) o ≡ after_record fcb o
+fcb_any : (fcb : Fcb) (x : Extent) (here : ℕ) (o : VolumeOutcome) → after_record (record fcb { extent = x; current_record = here }) o ≡ after_record fcb o
 unfolding after_record
 fcb_any fcb x here o = refl
 
@@ -119,16 +119,16 @@ unfolding after_reading
 taken drive now fcb found closed answer before after is written buffer = rw (is, buffer, written) refl
 
 -- ---- a read that is done gives the file's record
-done_gives : (old new : Drive) (fcb fcb' : Fcb) (before after : List ℕ) (answer : Answer) (o : Outcome) (number : ℕ) → call_result answer new fcb' after ≡ after_call old fcb before o → o.read ≡ Some number → get_or (records_of new.image) number [] ≡ get_or (records_of old.image) number [] → after ≡ get_or (records_of old.image) number []
+done_gives : (old new : Drive) (fcb fcb' : Fcb) (before after : List ℕ) (answer : Answer) (o : VolumeOutcome) (number : ℕ) → call_result answer new fcb' after ≡ after_call old fcb before o → o.read ≡ Some number → get_or (records_of new.image) number [] ≡ get_or (records_of old.image) number [] → after ≡ get_or (records_of old.image) number []
 unfolding after_call
 done_gives old new fcb fcb' before after answer o number value read same =
-    let drive : new ≡ drive_after old o.volume = ap (λ (c : Called). c.drive) value in
-    let buffer : after ≡ buffer_after (drive_after old o.volume).image o.read before = ap (λ (c : Called). c.buffer) value in
+    let drive : new ≡ drive_after old o.volume = ap (λ (c : CallResult). c.drive) value in
+    let buffer : after ≡ buffer_after (drive_after old o.volume).image o.read before = ap (λ (c : CallResult). c.buffer) value in
     buffer ∙ rw (read, ← drive) same
 
-call_answer : (old new : Drive) (fcb fcb' : Fcb) (before after : List ℕ) (answer : Answer) (o : Outcome) → call_result answer new fcb' after ≡ after_call old fcb before o → answer ≡ o.answer
+call_answer : (old new : Drive) (fcb fcb' : Fcb) (before after : List ℕ) (answer : Answer) (o : VolumeOutcome) → call_result answer new fcb' after ≡ after_call old fcb before o → answer ≡ o.answer
 unfolding after_call
-call_answer old new fcb fcb' before after answer o value = ap (λ (c : Called). c.answer) value
+call_answer old new fcb fcb' before after answer o value = ap (λ (c : CallResult). c.answer) value
 
 not_record : no_record ≡ done → ⊥
 not_record e = cc
@@ -145,7 +145,7 @@ KeepsFiles old new =
     (n : ℕ) → directory_records (dpb_of old.image.format) ≤ n → get_or (records_of new.image) n [] ≡ get_or (records_of old.image) n []
 
 module _ (old new : Drive) (user : ℕ) (fcb fcb' : Fcb) (before after : List ℕ) (answer : Answer) (keeps : KeepsFiles old new) where
-  has_read : (n : ℕ) (o : Outcome) → call_result answer new fcb' after ≡ after_call old fcb before o → HasReadRecord (dpb_of old.image.format) user (volume_of old.image old.marks.reserved) fcb.extent n o → open_file_record (dpb_of old.image.format) (entries_of old.image) (records_of old.image) user fcb.extent n ≡ Some after
+  has_read : (n : ℕ) (o : VolumeOutcome) → call_result answer new fcb' after ≡ after_call old fcb before o → HasReadRecord (dpb_of old.image.format) user (volume_of old.image old.marks.reserved) fcb.extent n o → open_file_record (dpb_of old.image.format) (entries_of old.image) (records_of old.image) user fcb.extent n ≡ Some after
   unfolding volume_of
   has_read n o value r =
       r.there ∙ ap Some (sym (done_gives old new fcb fcb' before after answer o r.number value r.given (keeps r.number r.outside)))

@@ -7,7 +7,7 @@ use Rattle.cpm_volume.specs.declared.fcb.Fcb.{Fcb}
 use Rattle.cpm_volume.specs.declared.answer.Answer.{Answer}
 use Rattle.cpm_volume.specs.Encoding.{entry_bytes}
 use Rattle.cpm_volume.specs.Files.{Volume, DiskWrite, entry_put, record_put}
-use Rattle.cpm_volume.specs.Operations.{Outcome}
+use Rattle.cpm_volume.specs.Operations.{VolumeOutcome}
 use Rattle.cpm_directory.specs.Directory.{entries_of, record_with_entry}
 use Rattle.cpm_drive.specs.declared.drive.Drive.{Drive}
 use Rattle.cpm_drive.specs.declared.drive.Marks.{Marks}
@@ -46,13 +46,13 @@ drive_after drive v =
     }
 
 -- what a call on a record of a file leaves: its answer, the drive, the file control block and the buffer of a record
-pub record Called : Type 0 where
+pub record CallResult : Type 0 where
   pub answer : Answer
   pub drive : Drive
   pub fcb : Fcb
   pub buffer : List ℕ
 
-abbrev pub call_result : Answer → Drive → Fcb → List ℕ → Called
+abbrev pub call_result : Answer → Drive → Fcb → List ℕ → CallResult
 call_result answer drive fcb buffer = record { answer = answer; drive = drive; fcb = fcb; buffer = buffer }
 
 -- a record that was read lies in the buffer, as the disk has it
@@ -61,7 +61,7 @@ buffer_after disk None buffer = buffer
 buffer_after disk (Some n) buffer = slice_index_or (records_of disk) n []
 
 -- by the outcome on the drive's volume: what is written reaches the disk before a record is read
-unfoldable pub after_call : Drive → Fcb → List ℕ → Outcome → Called
+unfoldable pub after_call : Drive → Fcb → List ℕ → VolumeOutcome → CallResult
 after_call drive fcb buffer o =
     call_result o.answer (drive_after drive o.volume) (record fcb { extent = o.extent; current_record = o.current })
     (buffer_after (drive_after drive o.volume).image o.read buffer)

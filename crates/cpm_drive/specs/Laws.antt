@@ -9,7 +9,7 @@ use Rattle.cpm_volume.specs.declared.extent.Entry.{Entry}
 use Rattle.cpm_volume.specs.Files.{deleted, directory_records, file_record, open_file_record, Volume, DiskWrite}
 use Rattle.cpm_volume.specs.Files.{entry_put, record_put, first_free, IsVolume, IsSound, IsSoundDrive}
 use Rattle.cpm_volume.specs.Encoding.{IsStorable, AreBytes}
-use Rattle.cpm_volume.specs.Operations.{Outcome, with_entry, closed, close_file_on_volume, make_file_on_volume, read_next_on_volume}
+use Rattle.cpm_volume.specs.Operations.{VolumeOutcome, with_entry, closed, close_file_on_volume, make_file_on_volume, read_next_on_volume}
 use Rattle.cpm_volume.specs.Operations.{read_random_on_volume, write_next_on_volume, write_random_on_volume, write_random_cleared_on_volume}
 use Rattle.cpm_volume.specs.Names.{named, erase_files_on_volume, rename_files_on_volume, set_attributes_on_volume}
 use Rattle.cpm_volume.specs.LogLaws.{logged_all}
@@ -79,7 +79,7 @@ abbrev pub Reaches : Drive → Volume → Type 0
 Reaches drive v = IsDiskOf drive.image.format (drive_after drive v).image v
 
 -- own: so does the disk after a call on a record, and the file control block still has room in its bytes
-pub record OutcomeReaches (drive : Drive) (o : Outcome) : Type 0 where
+pub record OutcomeReaches (drive : Drive) (o : VolumeOutcome) : Type 0 where
   pub disk : Reaches drive o.volume
   pub extent : IsOfBytes (dpb_of drive.image.format) o.extent
 

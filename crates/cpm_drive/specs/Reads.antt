@@ -6,12 +6,12 @@ use Rattle.cpm_volume.specs.declared.fcb.Fcb.{Fcb}
 use Rattle.cpm_volume.specs.declared.answer.Answer.{Answer}
 use Rattle.cpm_volume.specs.declared.answer.Answer.TheVariants.{Done as done}
 use Rattle.cpm_volume.specs.Files.{deleted, IsSound, open_file_record}
-use Rattle.cpm_volume.specs.Operations.{Outcome, read_next_on_volume}
+use Rattle.cpm_volume.specs.Operations.{VolumeOutcome, read_next_on_volume}
 use Rattle.cpm_directory.specs.Directory.{entries_of}
 use Rattle.cpm_drive.specs.declared.drive.Drive.{Drive}
 use Rattle.cpm_drive.specs.declared.drive.Marks.{Marks}
 use Rattle.cpm_drive.specs.declared.reading.Reading.{Reading}
-use Rattle.cpm_drive.specs.Drive.{volume_of, drive_after, Called, call_result, buffer_after}
+use Rattle.cpm_drive.specs.Drive.{volume_of, drive_after, CallResult, call_result, buffer_after}
 use Rattle.cpm_drive.specs.Judged.{with_change}
 
 -- a read that is done on a drive and a file control block that agree with each other gives record n of the file
@@ -26,7 +26,7 @@ pub record RecordRead : Type 0 where
   pub fcb : Fcb
   pub read : Option ℕ
 
-unfoldable pub after_record : Fcb → Outcome → RecordRead
+unfoldable pub after_record : Fcb → VolumeOutcome → RecordRead
 after_record fcb o =
     record { answer = o.answer; fcb = record fcb { extent = o.extent; current_record = o.current }; read = o.read }
 
@@ -63,6 +63,6 @@ drive_read drive reading =
     drive_after drive (with_change (volume_of drive.image drive.marks.reserved) reading.closed)
 
 -- what a read leaves then
-unfoldable pub after_reading : Drive → Reading → Fcb → List ℕ → Called
+unfoldable pub after_reading : Drive → Reading → Fcb → List ℕ → CallResult
 after_reading drive reading fcb buffer =
     call_result (read_answer_of reading.found) (drive_read drive reading) fcb (buffer_after (drive_read drive reading).image (read_of reading.found) buffer)

@@ -80,7 +80,7 @@ impl Drive {
         Drive { image, marks }
     }
 
-    /// An equal drive; refused for want of memory.
+    /// An equal drive; refused if out of memory.
     pub fn copy(&self, alloc: Global) -> Result<Drive, AllocError>
         ensures { IfOk result (λ drive. drive ≡ self.now) }
     {

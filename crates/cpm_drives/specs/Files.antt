@@ -14,7 +14,7 @@ use Rattle.cpm_volume.specs.Names.{NameOutcome, none_named, file_read_only, name
 use Rattle.cpm_volume.specs.Names as names
 use Rattle.cpm_directory.specs.Directory.{entries_of}
 use Rattle.cpm_drive.specs.declared.drive.Drive.{Drive}
-use Rattle.cpm_drive.specs.Drive.{volume_of, drive_after, Called, after_call}
+use Rattle.cpm_drive.specs.Drive.{volume_of, drive_after, CallResult, after_call}
 use Rattle.cpm_drive.specs.Calls.{ClosedFile, after_close, after_open, open_index, MadeFile, after_make}
 use Rattle.cpm_drive.specs.Reads.{ahead, lent_drive}
 use Rattle.cpm_drives.specs.declared.disks.Disks.{Disks}
@@ -76,7 +76,7 @@ set_attributes_on user fcb buffer drive =
     (by_named drive fcb buffer (names.set_attributes_on_volume (volume_of drive.image drive.marks.reserved) user fcb.extent.name))
 
 -- a call on a record
-abbrev pub by_record : Called → OnDrive
+abbrev pub by_record : CallResult → OnDrive
 by_record c = on_drive (code_of_answer c.answer) c.drive c.fcb c.buffer
 
 -- READ SEQUENTIAL

@@ -22,7 +22,7 @@ use Rattle.cpm_drives.specs.Search.{search_first, search_next}
 unfoldable pub dpb_named : Disks → Disk → ℕ → Dpb
 dpb_named disks system dr = dpb_of (drive_at disks system (drive_named disks dr)).image.format
 
--- RENAME FILE: the new name is that of a second block, 16 bytes behind the first
+-- RENAME FILE: the new name is that of a second block, 16 bytes after the first
 abbrev pub new_name : List ℕ → List ℕ
 new_name bytes = slice_range bytes 17 28
 

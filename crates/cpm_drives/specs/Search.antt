@@ -28,7 +28,7 @@ unfoldable pub pattern_of : Dpb → Search → ℕ → Pattern
 pattern_of d sought user =
     if sought.is_every then Every else Files user sought.name (group_sought d sought.ex)
 
--- the search goes on behind the entry that was found, whose directory record lies in the buffer and whose place in that is the code;
+-- the search goes on after the entry that was found, whose directory record lies in the buffer and whose place in that is the code;
 -- after the last it stays at the end
 abbrev pub search_left : Search → ℕ → Disks → Fcb → Option ℕ → List ℕ → FileCall
 search_left sought count disks fcb (Some index) buffer =

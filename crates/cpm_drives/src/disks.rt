@@ -46,7 +46,7 @@ impl Disks {
         }
     }
 
-    /// Equal drives; refused for want of memory.
+    /// Equal drives; refused if out of memory.
     pub fn copy(&self, alloc: Global) -> Result<Disks, AllocError>
         ensures { IfOk result (λ disks. disks ≡ self.now) }
     {

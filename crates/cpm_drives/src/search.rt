@@ -45,7 +45,7 @@ impl Disks {
         Ok(self.search_on(system, &sought, buffer))
     }
 
-    /// SEARCH FOR NEXT: goes on behind the entry that was found last, for the user who is current now. FFh where there
+    /// SEARCH FOR NEXT: goes on after the entry that was found last, for the user who is current now. FFh where there
     /// is no search.
     pub fn search_next(&mut self, system: &Image, buffer: &mut [u8; 128]) -> u8
         ensures { (fcb : Fcb) → file_call (Ok result) self.new fcb buffer.new ≡ search_next self.old system.now fcb buffer.old }

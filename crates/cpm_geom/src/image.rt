@@ -64,7 +64,7 @@ impl Image {
         Ok(Image { format, bytes })
     }
 
-    /// An equal image; refused for want of memory.
+    /// An equal image; refused if out of memory.
     pub fn copy(&self, alloc: Global) -> Result<Image, AllocError>
         ensures { IfOk result (λ image. image ≡ self.now) }
     {

@@ -6,7 +6,7 @@ use Rattle.cpm_machine.specs.Opening.{IsRefusal, drives_fault, fault_else, progr
 use Rattle.cpm_machine.specs.declared.opening.OpenError.{OpenError}
 use Rattle.cpm_machine.specs.declared.opening.OpenError.TheVariants as opening
 use Rattle.cpm_machine.specs.declared.opening.Opening.{Opening}
-use Rattle.cpm_host.specs.Com.{Given, IsProgramRefusal, drives_or_blank}
+use Rattle.cpm_host.specs.Com.{ProgramInput, IsProgramRefusal, drives_or_blank}
 use Rattle.cpm_host.specs.Refusals.{host_error_of_opening}
 
 some_drives : (ds : List Disk) → 4 < length (drives_or_blank ds) → 4 < length ds
@@ -24,7 +24,7 @@ fault_of_some (d ∷ ds) =
     ap (λ b. cond (b || ltb 4 (length (d ∷ ds))) (Some opening.BadDrives) None) (ne_eqb (length (d ∷ ds)) 0 (λ e. let bad : ⊥ = omega (arith, e) in bad))
 
 -- how a machine is refused that may write all pages and has these drives
-pub start_refused : (g : Given) (o : Opening) (program : List ℕ) (fault : OpenError) → o.quota ≡ 256 → o.drives.items ≡ drives_or_blank g.drives → program ≡ g.program
+pub start_refused : (g : ProgramInput) (o : Opening) (program : List ℕ) (fault : OpenError) → o.quota ≡ 256 → o.drives.items ≡ drives_or_blank g.drives → program ≡ g.program
     → length g.program ≤ 58112 → IsRefusal (program_fault o program) fault → IsProgramRefusal g (host_error_of_opening fault)
 start_refused g o program fault quota drives same short h =
     go (ltb 4 (length (drives_or_blank g.drives))) refl (subst (λ f. IsRefusal f fault) found h)

@@ -1,4 +1,4 @@
--- The listing of a source: its lines, each behind the address and the bytes of its statements. All of it is own.
+-- The listing of a source: its lines, each after the address and the bytes of its statements. All of it is own.
 use Rattle.std.specs.Prelude.{ℕ, zero, suc, ◌+◌, ◌%◌, ◌==◌, Bool, not, List, [], ◌∷◌, ◌++◌, take, drop}
 use Rattle.std.specs.List.{position_or_len}
 use Rattle.std.specs.Str.Lines.{lines}
@@ -10,7 +10,7 @@ use Rattle.cpm_host.specs.declared.asm_listing.Cell.{Cell}
 
 -- ---- bytes with their addresses
 
--- the first at an address; 0000h is behind FFFFh
+-- the first at an address; 0000h is after FFFFh
 abbrev pub cells_at : ℕ → List ℕ → List Cell
 cells_at a [] = []
 cells_at a (b ∷ bs) = record { address = a; byte = b } ∷ cells_at ((a + 1) % 65536) bs
@@ -50,7 +50,7 @@ abbrev pub left_after : ℕ → ℕ
 left_after zero = 7
 left_after (suc left) = left
 
--- further bytes, eight in a row, behind the address of the first of them
+-- further bytes, eight in a row, after the address of the first of them
 abbrev pub further_rows : ℕ → List Cell → List ℕ
 further_rows left [] = []
 further_rows left (c ∷ cs) = (row_start left c ++ two_digits c.byte) ++ further_rows (left_after left) cs
@@ -68,7 +68,7 @@ line_text image ps line = line_with (cells_of image ps) ps line
 abbrev pub is_behind : ℕ → Placement → Bool
 is_behind line p = not (p.line == line)
 
--- the places of a line, which stand at the front, and those behind them
+-- the places of a line, which stand at the front, and those after them
 abbrev pub own_places : ℕ → List Placement → List Placement
 own_places line ps = take (position_or_len (is_behind line) ps) ps
 
@@ -81,5 +81,5 @@ lines_after image before [] ps = []
 lines_after image before (l ∷ ls) ps = line_text image (own_places (before + 1) ps) l ++ lines_after image (before + 1) ls (later_places (before + 1) ps)
 
 -- of a source and the places in its image
-unfoldable pub listing : List ℕ → List ℕ → List Placement → List ℕ
-listing source image ps = lines_after image 0 (lines (source_text source)) ps
+unfoldable pub source_listing : List ℕ → List ℕ → List Placement → List ℕ
+source_listing source image ps = lines_after image 0 (lines (source_text source)) ps

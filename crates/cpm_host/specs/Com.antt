@@ -51,14 +51,14 @@ IsBadLine (Some s) shown line fault = (shown ≡ shown_of (chars s.name.now)) ×
 
 -- ---- what a program begins with
 
-pub record Given : Type 0 where
+pub record ProgramInput : Type 0 where
   pub cpu : Cpu
   pub program : List ℕ
   -- the tail of its command, where one is left in the memory
   pub tail : Option (List ℕ)
   pub drives : List Disk
 
-abbrev pub program_given : ProgramStart → Given
+abbrev pub program_given : ProgramStart → ProgramInput
 program_given start = record {
   cpu = start.cpu;
   program = start.program.items;
@@ -77,11 +77,11 @@ with_tail_if_any None s = s
 with_tail_if_any (Some tail) s = with_tail tail s
 
 -- the machine that begins the program
-abbrev pub machine_of : Given → MachineState
+abbrev pub machine_of : ProgramInput → MachineState
 machine_of g = with_tail_if_any g.tail (opened_with g.cpu (drives_or_blank g.drives) g.program)
 
 -- a program run alone by its keys for so many steps, with a blank system drive
-abbrev pub ran_alone : Given → List Key → ℕ → MachineState
+abbrev pub ran_alone : ProgramInput → List Key → ℕ → MachineState
 ran_alone g keys steps = alone_by (blank_disk Ibm3740) keys steps (machine_of g)
 
 -- what is told of a script that is refused, in the file of this name
@@ -98,7 +98,7 @@ IsScriptRefusal script OutOfMemory = ⊤
 IsScriptRefusal script _ = ⊥
 
 -- how the machine of a program is refused: the program is too long, then there are too many drives, then memory is refused
-abbrev pub IsProgramRefusal : Given → HostError → Type 0
+abbrev pub IsProgramRefusal : ProgramInput → HostError → Type 0
 IsProgramRefusal g (ProgramTooLong count) = (most_program < length g.program) × (count ≡ length g.program)
 IsProgramRefusal g (OpeningRefused fault) = (length g.program ≤ most_program) × (4 < length g.drives) × (fault ≡ BadDrives)
 IsProgramRefusal g OutOfMemory = (length g.program ≤ most_program) × (length g.drives ≤ 4)
@@ -106,7 +106,7 @@ IsProgramRefusal g _ = ⊥
 
 -- When a program that runs for so many steps is refused: it is too long, it has too many drives, a line of its script is wrong, memory is refused, or the
 -- writer refuses some of its text. The writer is as it was, but where it failed itself.
-abbrev pub IsComRefusal : {W : Type 0} → Given → Option Script → ℕ → HostError → W → W → Type 0
+abbrev pub IsComRefusal : {W : Type 0} → ProgramInput → Option Script → ℕ → HostError → W → W → Type 0
 IsComRefusal {W} g script steps (ProgramTooLong count) old new = IsProgramRefusal g (ProgramTooLong count) × (new ≡ old)
 IsComRefusal {W} g script steps (OpeningRefused fault) old new = IsProgramRefusal g (OpeningRefused fault) × (new ≡ old)
 IsComRefusal {W} g script steps (RunRefused (FileRefused (read.Script shown line fault))) old new =

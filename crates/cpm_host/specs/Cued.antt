@@ -19,7 +19,7 @@ use Rattle.cpm_play.specs.Live.{AreGiven}
 use Rattle.cpm_play.specs.Playing.{alone_by}
 use Rattle.cpm_play.specs.declared.cued.CuedKeys.{CuedKeys}
 use Rattle.cpm_play.specs.declared.live.LiveError.{LiveError}
-use Rattle.cpm_host.specs.Com.{Given, IsProgramRefusal, ending_of, machine_of, console_text}
+use Rattle.cpm_host.specs.Com.{ProgramInput, IsProgramRefusal, ending_of, machine_of, console_text}
 use Rattle.cpm_host.specs.Live.{IsOpeningRefused, opened_live}
 use Rattle.cpm_host.specs.Refusals.{host_error_of_live}
 use Rattle.cpm_host.specs.declared.com.Script.{Script}
@@ -42,7 +42,7 @@ IsCueRefusal s (RunRefused (FileRefused (read.Script shown line fault))) =
 IsCueRefusal s OutOfMemory = ⊤
 IsCueRefusal s _ = ⊥
 
--- What a forked session plays: the keys that its parent's script gives before the fork, so many, and behind them what its own script says.
+-- What a forked session plays: the keys that its parent's script gives before the fork, so many, and after them what its own script says.
 pub record AreForked (parent own : List ℕ) (at : ℕ) (f : ForkedCues) : Type 0 where
   pub keys : List Key
   pub given : script parent ≡ Ok keys
@@ -88,7 +88,7 @@ pub record IsCutCued (system : Disk) (start : MachineState) (steps : ℕ) (c : C
   pub short : IsCutOff system steps (key_count c.cues.now) start now before written unrecorded record_now error
 
 -- how such a program is refused: its machine is, as of a program that doesn't wait, or memory was refused for the system drive; or it was cut short
-abbrev pub IsWaitingRefusal : Given → ℕ → CuedKeys → (before written unrecorded record_now : Option (List ℕ)) → HostError → Type 0
+abbrev pub IsWaitingRefusal : ProgramInput → ℕ → CuedKeys → (before written unrecorded record_now : Option (List ℕ)) → HostError → Type 0
 IsWaitingRefusal g steps c before written unrecorded record_now e =
     IsProgramRefusal g e ⊎ IsCutCued (blank_disk Ibm3740) (machine_of g) steps c before written unrecorded record_now e
 

@@ -14,7 +14,7 @@ use Rattle.cpm_play.specs.Cued.{waits_at}
 use Rattle.cpm_play.specs.Live.{AreGiven, AreTypedKeysRead, IsCutShort}
 use Rattle.cpm_play.specs.Playing.{alone_by}
 use Rattle.cpm_play.specs.declared.live.LiveError.{LiveError}
-use Rattle.cpm_host.specs.Com.{Given, IsProgramRefusal, ending_of, machine_of, console_text}
+use Rattle.cpm_host.specs.Com.{ProgramInput, IsProgramRefusal, ending_of, machine_of, console_text}
 use Rattle.cpm_host.specs.Refusals.{host_error_of_live}
 use Rattle.cpm_host.specs.declared.live.SessionStart.{SessionStart}
 use Rattle.cpm_host.specs.declared.live.LiveResult.{LiveResult}
@@ -63,7 +63,7 @@ pub record IsLiveCut (system : Disk) (start : MachineState) (steps most : ℕ) (
   pub short : IsCutShort system steps most start now io.before io.written io.unrecorded io.record_now io.unread io.left error
 
 -- how a live program is refused: its machine is, as of a program that isn't, or memory was refused for the system drive; or it was cut short
-abbrev pub IsLiveRefusal : Given → (steps most : ℕ) → Streams → HostError → Type 0
+abbrev pub IsLiveRefusal : ProgramInput → (steps most : ℕ) → Streams → HostError → Type 0
 IsLiveRefusal g steps most io e = IsProgramRefusal g e ⊎ IsLiveCut (blank_disk Ibm3740) (machine_of g) steps most io e
 
 -- the machine of a session at its opening

@@ -14,9 +14,9 @@ use Rattle.cpm_config.specs.declared.fault.ConfigError.{ConfigError}
 use Rattle.cpm_config.specs.declared.fault.ConfigError.TheVariants as config
 use Rattle.cpm_debug.specs.declared.error.DebugError.{DebugError}
 use Rattle.cpm_debug.specs.declared.error.DebugError.TheVariants as debug
-use Rattle.cpm_disk_commands.specs.Refusals.{filing_status_of as status_of_filing}
-use Rattle.cpm_disk_commands.specs.declared.error.FilingError.{FilingError}
-use Rattle.cpm_disk_commands.specs.declared.error.FilingError.TheVariants as filing
+use Rattle.cpm_disk_commands.specs.Refusals.{disk_command_status_of as status_of_disk_command}
+use Rattle.cpm_disk_commands.specs.declared.error.DiskCommandError.{DiskCommandError}
+use Rattle.cpm_disk_commands.specs.declared.error.DiskCommandError.TheVariants as disk_error
 use Rattle.cpm_run.specs.Refusals.{run_status_of as status_of_run}
 use Rattle.cpm_run.specs.declared.error.RunError.{RunError}
 use Rattle.cpm_run.specs.declared.error.RunError.TheVariants as run
@@ -27,13 +27,13 @@ use Rattle.cpm_play.specs.declared.live.LiveError.TheVariants as live
 
 -- the number of the code that the text begins with
 abbrev pub status_of : HostError → ℕ
-status_of (Usage fault) = 1
+status_of (Usage refusal) = 1
 status_of NotText = 1
 status_of (NoSession name) = 1
 status_of (NotOpened name) = 1
 status_of (TailRefused word) = 1
 status_of (RunRefused e) = status_of_run e
-status_of (DiskRefused e) = status_of_filing e
+status_of (DiskRefused e) = status_of_disk_command e
 status_of (CheckRefused e) = status_of_check e
 status_of (FileUnreadable name reason) = 4
 status_of (InputUnreadable reason) = 4
@@ -65,7 +65,7 @@ IsWordRefusal _ = ⊥
 
 -- what a refused command line comes to
 abbrev pub host_error_of : UsageError → HostError
-host_error_of (usage.Usage fault) = Usage fault
+host_error_of (usage.Usage refusal) = Usage refusal
 host_error_of usage.OutOfMemory = OutOfMemory
 
 -- what a refused configuration comes to
@@ -77,18 +77,18 @@ host_error_of_config (config.Twice place) = RunRefused (run.ConfigRefused (confi
 host_error_of_config config.OutOfMemory = OutOfMemory
 
 -- what a refused command on disk images comes to
-abbrev pub host_error_of_filing : FilingError → HostError
-host_error_of_filing (filing.NotName text) = DiskRefused (filing.NotName text)
-host_error_of_filing (filing.NotPattern text) = DiskRefused (filing.NotPattern text)
-host_error_of_filing (filing.NotPair text) = DiskRefused (filing.NotPair text)
-host_error_of_filing (filing.PutTwice text file) = DiskRefused (filing.PutTwice text file)
-host_error_of_filing (filing.NotImage image count) = DiskRefused (filing.NotImage image count)
-host_error_of_filing (filing.Damaged image damage) = DiskRefused (filing.Damaged image damage)
-host_error_of_filing (filing.NoFile image pattern user) = DiskRefused (filing.NoFile image pattern user)
-host_error_of_filing (filing.Refused image file reason) = DiskRefused (filing.Refused image file reason)
-host_error_of_filing (filing.NoHostName image file) = DiskRefused (filing.NoHostName image file)
-host_error_of_filing (filing.OutputUnwritable reason) = OutputUnwritable reason
-host_error_of_filing filing.OutOfMemory = OutOfMemory
+abbrev pub host_error_of_disk_command : DiskCommandError → HostError
+host_error_of_disk_command (disk_error.NotName text) = DiskRefused (disk_error.NotName text)
+host_error_of_disk_command (disk_error.NotPattern text) = DiskRefused (disk_error.NotPattern text)
+host_error_of_disk_command (disk_error.NotPair text) = DiskRefused (disk_error.NotPair text)
+host_error_of_disk_command (disk_error.PutTwice text file) = DiskRefused (disk_error.PutTwice text file)
+host_error_of_disk_command (disk_error.NotImage image count) = DiskRefused (disk_error.NotImage image count)
+host_error_of_disk_command (disk_error.Damaged image damage) = DiskRefused (disk_error.Damaged image damage)
+host_error_of_disk_command (disk_error.NoFile image pattern user) = DiskRefused (disk_error.NoFile image pattern user)
+host_error_of_disk_command (disk_error.Refused image file reason) = DiskRefused (disk_error.Refused image file reason)
+host_error_of_disk_command (disk_error.NoHostName image file) = DiskRefused (disk_error.NoHostName image file)
+host_error_of_disk_command (disk_error.OutputUnwritable reason) = OutputUnwritable reason
+host_error_of_disk_command disk_error.OutOfMemory = OutOfMemory
 
 -- what a refused run comes to
 abbrev pub host_error_of_run : RunError → HostError

@@ -1,4 +1,4 @@
--- The tail of a command, of the words behind a program's name.
+-- The tail of a command, of the words after a program's name.
 use Rattle.std.specs.Prelude.{⊤, ◌≡◌, ℕ, ◌+◌, ◌&&◌, nat_le, nat_lt, Bool, if◌then◌else◌, List, [], ◌∷◌, ◌++◌, length, map, chars, Result, Ok, Err}
 use Rattle.std.specs.List.{list_all}
 use Rattle.cpm_ccp.specs.Capitals.{capital}
@@ -10,11 +10,11 @@ use Rattle.cpm_host.specs.declared.error.HostError.TheVariants.{OutOfMemory, Tai
 abbrev pub is_typed : ℕ → Bool
 is_typed c = nat_le 0x20 c && nat_lt c 0x7F
 
--- own: a word may stand behind a tail: there is room for it and its blank, 126 bytes in all
+-- own: a word may stand after a tail: there is room for it and its blank, 126 bytes in all
 unfoldable pub fits_tail : List ℕ → List ℕ → Bool
 fits_tail tail word = list_all is_typed word && nat_lt (length tail + length word) 126
 
--- CP/M 2.2 Operating System Manual, section 1.6, Transient Commands: the tail with one more word, behind a blank and in capitals
+-- CP/M 2.2 Operating System Manual, section 1.6, Transient Commands: the tail with one more word, after a blank and in capitals
 abbrev pub tail_with_word : List ℕ → List ℕ → List ℕ
 tail_with_word tail word = tail ++ 0x20 ∷ map capital word
 

@@ -1,13 +1,13 @@
 //! The command `asm`.
 ghost use Rattle.std.specs.Prelude.{◌≡◌, ◌⊎◌, ◌∷◌, [], ℕ, Err, IfErr, IfOk, List, MatchOption, Ok, slice_index_or};
-ghost use Rattle.cpm_asm.specs.Assembled.{Assembled};
+ghost use Rattle.cpm_asm.specs.Assembled.{AssemblesTo};
 ghost use Rattle.cpm_asm.specs.Passes.{both_passes};
 ghost use Rattle.cpm_asm.specs.Placing.{places};
 ghost use Rattle.cpm_asm.specs.declared.error.AsmErrorKind.TheVariants as kinds;
 ghost use Rattle.cpm_host.specs.Asm.{IsAsmRefusal, listed_source_line, lines_in};
-ghost use Rattle.cpm_host.specs.AsmListing.{listing};
+ghost use Rattle.cpm_host.specs.AsmListing.{source_listing};
 
-use crate::asm_listing::listing;
+use crate::asm_listing::source_listing;
 use crate::error::HostError;
 use cpm_asm::{AsmError, AsmErrorKind, assemble, assemble_placed};
 use cpm_command_line::shown_line;
@@ -69,7 +69,7 @@ fn refusal_of(source: &[u8], error: AsmError) -> HostError
 /// `OutOfMemory` comes only where memory is refused.
 pub fn run_asm(alloc: Global, source: &[u8]) -> Result<Vec<u8>, HostError>
     ensures exact { IfOk result (λ image. both_passes source.now ≡ Ok image.items) }
-    ensures assembled { IfOk result (λ image. Assembled source.now image.items) }
+    ensures assembled { IfOk result (λ image. AssemblesTo source.now image.items) }
     ensures refusal { IfErr result (IsAsmRefusal source.now) }
 {
     match assemble(alloc, source) {
@@ -97,13 +97,13 @@ pub struct ProgramListing {
 /// It is refused as by `run_asm`.
 pub fn run_asm_listed(alloc: Global, source: &[u8]) -> Result<ProgramListing, HostError>
     ensures exact { IfOk result (λ l. both_passes source.now ≡ Ok l.image.items) }
-    ensures assembled { IfOk result (λ l. Assembled source.now l.image.items) }
-    ensures listing { IfOk result (λ l. l.listing.items ≡ listing source.now l.image.items (places source.now)) }
+    ensures assembled { IfOk result (λ l. AssemblesTo source.now l.image.items) }
+    ensures listing { IfOk result (λ l. l.listing.items ≡ source_listing source.now l.image.items (places source.now)) }
     ensures refusal { IfErr result (IsAsmRefusal source.now) }
 {
     match assemble_placed(alloc, source) {
         Ok(program) => {
-            let listing = listing(alloc, source, &program)?;
+            let listing = source_listing(alloc, source, &program)?;
             Ok(ProgramListing {
                 image: program.image,
                 listing,

@@ -4,7 +4,7 @@ ghost use Rattle.std.specs.List.{position};
 ghost use Rattle.cpm_listing.specs.Digits.{hexadecimal, two_digits};
 ghost use Rattle.cpm_asm.specs.Placing.{bytes_at};
 ghost use Rattle.cpm_host.specs.AsmListing.{address_column, cells_at, cells_of, digits_of, front, further_rows, head};
-ghost use Rattle.cpm_host.specs.AsmListing.{is_behind, later_places, left_after, line_text, listing, own_places, row_start};
+ghost use Rattle.cpm_host.specs.AsmListing.{is_behind, later_places, left_after, line_text, own_places, row_start, source_listing};
 
 use cpm_asm::{Assembly, Placement, first_line, source_text};
 use std::alloc::{AllocError, Global};
@@ -31,7 +31,7 @@ fn bytes_at(image: &[u8], place: Placement) -> &[u8]
     behind.split_at(place.length.min(behind.len())).0
 }
 
-/// Adds bytes, of which the first has this address, and the one behind FFFFh 0000h.
+/// Adds bytes, of which the first has this address, and the one after FFFFh 0000h.
 fn add_cells(cells: &mut Vec<Cell>, first: u16, bytes: &[u8]) -> Result<(), AllocError>
     ensures { OnOk result (cells.new.items ≡ cells.old.items ++ cells_at first bytes.now) }
 {
@@ -126,7 +126,7 @@ fn pad(text: &mut Vec<u8>, begun: usize) -> Result<(), AllocError>
     Ok(())
 }
 
-/// The bytes of a first row, and those behind them.
+/// The bytes of a first row, and those after them.
 fn split_row(cells: &[Cell]) -> (&[Cell], &[Cell])
     ensures row { result.0.now ≡ take 8 cells.now }
     ensures further { result.1.now ≡ drop 8 cells.now }
@@ -197,7 +197,7 @@ fn first_behind(places: &[Placement], line: u64) -> Option<usize>
     places.iter().position(|place| place.line != line)
 }
 
-/// The places of a line, which stand at the front, and those behind them.
+/// The places of a line, which stand at the front, and those after them.
 fn split_at_line(places: &[Placement], line: u64) -> (&[Placement], &[Placement])
     ensures own { result.0.now ≡ own_places line places.now }
     ensures later { result.1.now ≡ later_places line places.now }
@@ -206,13 +206,13 @@ fn split_at_line(places: &[Placement], line: u64) -> (&[Placement], &[Placement]
     places.split_at(count)
 }
 
-/// The listing of a source: its lines, each behind the address and the bytes of its statements.
-pub(crate) fn listing(
+/// The listing of a source: its lines, each after the address and the bytes of its statements.
+pub(crate) fn source_listing(
     alloc: Global,
     source: &[u8],
     program: &Assembly,
 ) -> Result<Vec<u8>, AllocError>
-    ensures { IfOk result (λ text. text.items ≡ listing source.now program.now.image.items program.now.places.items) }
+    ensures { IfOk result (λ text. text.items ≡ source_listing source.now program.now.image.items program.now.places.items) }
 {
     let mut text: Vec<u8> = Vec::new(alloc);
     let mut places: &[Placement] = &program.places;

@@ -27,7 +27,7 @@ use std::io::Write;
 /// What a session plays that is forked.
 #[derive(Drop)]
 pub struct ForkedCues {
-    /// The keys that its parent had before, and behind them what its own script says.
+    /// The keys that its parent had before, and after them what its own script says.
     pub cues: Vec<Cue>,
     /// How many the keys of its parent are.
     pub before: usize,
@@ -55,7 +55,7 @@ fn as_cues(alloc: Global, keys: &[Key]) -> Result<Vec<Cue>, AllocError>
     keys.iter().map(|key| Cue::Key(*key)).collect(alloc)
 }
 
-/// Keys as cues, with others behind them.
+/// Keys as cues, with others after them.
 fn behind_keys(alloc: Global, keys: &[Key], mut others: Vec<Cue>) -> Result<Vec<Cue>, AllocError>
     ensures { IfOk result (λ v. v.items ≡ map Timed keys.now ++ others.items) }
 {

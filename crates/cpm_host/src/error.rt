@@ -2,14 +2,14 @@
 ghost use Rattle.std.specs.Prelude.{◌≡◌};
 ghost use Rattle.cpm_host.specs.declared.error.HostError.TheVariants.{OutOfMemory};
 ghost use Rattle.cpm_host.specs.Refusals.{status_of, host_error_of, host_error_of_check, host_error_of_config, host_error_of_debug};
-ghost use Rattle.cpm_host.specs.Refusals.{host_error_of_filing, host_error_of_live, host_error_of_opening, host_error_of_run};
+ghost use Rattle.cpm_host.specs.Refusals.{host_error_of_disk_command, host_error_of_live, host_error_of_opening, host_error_of_run};
 
 use cpm_asm::AsmErrorKind;
 use cpm_check::CheckError;
-use cpm_command_line::{ShownWord, UsageError, UsageFault};
+use cpm_command_line::{ShownWord, UsageError, UsageRefusal};
 use cpm_config::ConfigError;
 use cpm_debug::DebugError;
-use cpm_disk_commands::FilingError;
+use cpm_disk_commands::DiskCommandError;
 use cpm_machine::OpenError;
 use cpm_play::LiveError;
 use cpm_run::RunError;
@@ -22,7 +22,7 @@ use thiserror::Error;
 pub enum HostError {
     /// The words of the command line name no task.
     #[error("HO1 {0}")]
-    Usage(UsageFault),
+    Usage(UsageRefusal),
     /// A word of the command line is no text.
     #[error("HO1 an argument is not UTF-8 text; try 'cpmhost --help'")]
     NotText,
@@ -40,7 +40,7 @@ pub enum HostError {
     RunRefused(RunError),
     /// A command on disk images is refused: HO1 a name, HO6 an image or what was asked of it.
     #[error("{0}")]
-    DiskRefused(FilingError),
+    DiskRefused(DiskCommandError),
     /// A file that is checked is refused: HO6, it is no image or a damaged one.
     #[error("{0}")]
     CheckRefused(CheckError),
@@ -159,7 +159,7 @@ impl From<UsageError> for HostError {
 
     fn from(error: UsageError) -> HostError {
         match error {
-            UsageError::Usage(fault) => HostError::Usage(fault),
+            UsageError::Usage(refusal) => HostError::Usage(refusal),
             UsageError::OutOfMemory => HostError::OutOfMemory,
         }
     }
@@ -176,13 +176,13 @@ impl From<ConfigError> for HostError {
     }
 }
 
-impl From<FilingError> for HostError {
-    ghost from_gives = { λ f e. e ≡ host_error_of_filing f };
+impl From<DiskCommandError> for HostError {
+    ghost from_gives = { λ f e. e ≡ host_error_of_disk_command f };
 
-    fn from(error: FilingError) -> HostError {
+    fn from(error: DiskCommandError) -> HostError {
         match error {
-            FilingError::OutOfMemory => HostError::OutOfMemory,
-            FilingError::OutputUnwritable(reason) => HostError::OutputUnwritable(reason),
+            DiskCommandError::OutOfMemory => HostError::OutOfMemory,
+            DiskCommandError::OutputUnwritable(reason) => HostError::OutputUnwritable(reason),
             fault => HostError::DiskRefused(fault),
         }
     }

@@ -19,13 +19,13 @@ pub use com::{ProgramResult, ProgramStart, Script, run_com};
 pub use cpm_batch::ReadError;
 pub use cpm_check::{CheckError, run_check};
 pub use cpm_command_line::{
-    ComTask, DiskTask, RunTask, ShownWord, Task, UsageError, UsageFault, VERSION, asks_version,
-    command, help, shown,
+    ComTask, DiskTask, Page, RunTask, ShownWord, Task, UsageError, UsageFault, UsageRefusal,
+    VERSION, asks_version, command, page_text, shown,
 };
 pub use cpm_config::{Config, ConfigError, Origin, SessionConfig};
 pub use cpm_debug::{DebugError, run_debug};
 pub use cpm_machine::{End, Opening, Tail};
-pub use cpm_play::{CuedKeys, Progress, Unwatched, Watcher};
+pub use cpm_play::{CuedKeys, NoWatcher, Progress, Watcher};
 pub use cpm_run::{IllegalBytes, Report, RunError, SessionReport, judge_host, run_host};
 pub use cpm_script::{Cue, Key, LineFault, MOST_KEYS, ScriptError, key_line, read_keys};
 pub use cpm_store::{MemoryStore, Store, StoreError};

@@ -1,7 +1,7 @@
 //! The command `list`.
 ghost use Rattle.std.specs.Prelude.{◌≡◌, ◌++◌, ◌∷◌, [], IfErr, OnOk};
 ghost use Rattle.std.specs.Io.KnownBytes.{Appends};
-ghost use Rattle.cpm_host.specs.Listing.{IsListingRefusal, four, listing};
+ghost use Rattle.cpm_host.specs.Listing.{IsListingRefusal, four, program_listing};
 
 use crate::error::HostError;
 use cpm_flags::Cpu;
@@ -12,7 +12,7 @@ use std::io::Write;
 /// Where a program begins.
 const FIRST: usize = 0x100;
 
-/// The four bytes that a text begins with; bytes behind its end are 0.
+/// The four bytes that a text begins with; bytes after its end are 0.
 fn four(bytes: &[u8]) -> [u8; 4]
     ensures { result ≡ four bytes.now }
 {
@@ -36,7 +36,7 @@ fn write_line<W: Write>(out: &mut W, line: &str) -> io::Result<()>
 
 /// Writes a line for each instruction of a processor that begins within the bytes, of which the first lies at 0100h.
 fn write_listing<W: Write>(cpu: Cpu, bytes: &[u8], out: &mut W) -> io::Result<()>
-    ensures { OnOk result (Appends (W.contents out.old) (W.contents out.new) (listing cpu 256 0 bytes.now)) }
+    ensures { OnOk result (Appends (W.contents out.old) (W.contents out.new) (program_listing cpu 256 0 bytes.now)) }
 {
     let mut rest = bytes;
     while !rest.is_empty() {
@@ -51,12 +51,12 @@ fn write_listing<W: Write>(cpu: Cpu, bytes: &[u8], out: &mut W) -> io::Result<()
     Ok(())
 }
 
-/// Lists a program as instructions of a processor, a line for each that begins within it. Bytes behind its end are 0, and
-/// addresses go on at 0000h behind FFFFh.
+/// Lists a program as instructions of a processor, a line for each that begins within it. Bytes after its end are 0, and
+/// addresses go on at 0000h after FFFFh.
 ///
 /// `OutputUnwritable` has the writer's error, who may have got the beginning. It comes only where there is something to write.
 pub fn run_list<W: Write>(cpu: Cpu, program: &[u8], out: &mut W) -> Result<(), HostError>
-    ensures text { OnOk result (Appends (W.contents out.old) (W.contents out.new) (listing cpu 256 0 program.now)) }
+    ensures text { OnOk result (Appends (W.contents out.old) (W.contents out.new) (program_listing cpu 256 0 program.now)) }
     ensures refusal { IfErr result (IsListingRefusal program.now) }
 {
     if program.is_empty() {

@@ -20,7 +20,7 @@ use cpm_script::{Key, MOST_KEYS};
 use std::alloc::Global;
 use std::io::{Read, Write};
 
-/// What was typed, and what came of it: it is the machine run alone by these keys for so many steps.
+/// What was typed, and the result: it is the machine run alone by these keys for so many steps.
 #[derive(Drop)]
 pub struct LiveResult {
     pub ran: ProgramResult,
@@ -130,10 +130,10 @@ pub fn type_session<I: Read, W: Write, S: Write>(
     out: &mut W,
     record: &mut S,
 ) -> Result<LiveResult, HostError>
-    ensures played { IfOk result (λ t. IsPlayedLive system.now (opened_live start.entry) start.entry.steps 4096 t
+    ensures played { IfOk result (λ t. IsPlayedLive system.now (opened_live start.entry) start.entry.steps MOST_KEYS t
         (streams (I.remaining input.old) (I.remaining input.new) (W.contents out.old) (W.contents out.new)
         (S.contents «record».old) (S.contents «record».new))) }
-    ensures refusal { IfErr result (IsTypedRefusal system.now start.entry 4096 (streams (I.remaining input.old) (I.remaining input.new)
+    ensures refusal { IfErr result (IsTypedRefusal system.now start.entry MOST_KEYS (streams (I.remaining input.old) (I.remaining input.new)
         (W.contents out.old) (W.contents out.new) (S.contents «record».old) (S.contents «record».new))) }
 {
     let SessionStart {

@@ -6,13 +6,10 @@ ghost use Rattle.cpm_host.specs.Tails.{fits_tail, is_typed, tail_from, tail_with
 
 use crate::error::HostError;
 use cpm_command_line::shown;
-use cpm_machine::Tail;
+use cpm_machine::{MOST_TAIL, Tail};
 use std::alloc::{AllocError, Global};
 
-/// The most bytes that a tail has.
-const MOST_TAIL: usize = 126;
-
-/// The tail that the words behind a program's name make on a command line: each behind a blank, in capitals. `TailRefused` has the first
+/// The tail that the words after a program's name make on a command line: each after a blank, in capitals. `TailRefused` has the first
 /// word with a character that is none from ` ` to `~`, or for which there is no room.
 pub fn tail_of(alloc: Global, words: &[&str]) -> Result<Tail, HostError>
     ensures { MatchResult result
@@ -29,10 +26,10 @@ pub fn tail_of(alloc: Global, words: &[&str]) -> Result<Tail, HostError>
     Ok(Tail::new(&text).unwrap())
 }
 
-/// Whether a word may stand behind this tail.
+/// Whether a word may stand after this tail.
 #[tactic(auto, unfolding(crate::specs::Tails::fits_tail))]
 fn fits_tail(text: &[u8], word: &str) -> bool
-    requires { length text.now ≤ 126 }
+    requires { length text.now ≤ MOST_TAIL }
     ensures { result ≡ fits_tail text.now word.now }
 {
     is_typed(word.as_bytes()) && word.len() < MOST_TAIL - text.len()
@@ -45,7 +42,7 @@ fn is_typed(word: &[u8]) -> bool
     word.iter().all(|c| b' ' <= *c && *c < 0x7F)
 }
 
-/// Adds a word behind a blank, in capitals.
+/// Adds a word after a blank, in capitals.
 fn add_word(text: &mut Vec<u8>, word: &str) -> Result<(), AllocError>
     ensures { OnOk result (text.new.items ≡ tail_with_word text.old.items word.now) }
 {

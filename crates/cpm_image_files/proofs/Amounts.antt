@@ -12,7 +12,7 @@ use Rattle.cpm_volume.specs.Names.{protects, reserved_after}
 use Rattle.cpm_directory.specs.Login.{reserved_at_login}
 use Rattle.cpm_image_files.specs.declared.refusal.FileRefusal.{FileRefusal}
 use Rattle.cpm_image_files.specs.declared.refusal.FileRefusal.TheVariants.{ReadOnly, DirectoryFull, DiskFull}
-use Rattle.cpm_image_files.specs.Shelf.{entries_for, blocks_for, free_entries, free_blocks, file_refusal_of}
+use Rattle.cpm_image_files.specs.ImageFiles.{entries_for, blocks_for, free_entries, free_blocks, file_refusal_of}
 use Rattle.cpm_image_files.specs.Appending.{entries_begun, blocks_begun}
 use Rattle.cpm_image_files.specs.Writing.{HasRoomForFile}
 use Rattle.cpm_image_files.proofs.FreeLemmas.{login_length, after_length}

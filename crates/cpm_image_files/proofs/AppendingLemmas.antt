@@ -4,7 +4,7 @@ use Rattle.std.proofs.lemmas.Bool.{cases_eq, cases_lt, lt-ltb, cond-true, eq-eqb
 use Rattle.cpm_geom.specs.declared.dpb.Dpb.{Dpb}
 use Rattle.cpm_volume.specs.declared.extent.Extent.{Extent}
 use Rattle.cpm_volume.specs.Files.{deleted, extent_number, group_of, IsFormat, IsSound, Volume}
-use Rattle.cpm_volume.specs.Operations.{Outcome, next_place, put_record, write_in, write_next_on_volume}
+use Rattle.cpm_volume.specs.Operations.{VolumeOutcome, next_place, put_record, write_in, write_next_on_volume}
 use Rattle.cpm_volume.specs.Laws.{position}
 use Rattle.cpm_image_files.specs.Appending.{unused, entries_begun, IsAtEnd, IsAppending, IsAppended, LacksEntry, LacksBlock}
 use Rattle.cpm_image_files.specs.Laws.{AppendingLaw}
@@ -13,7 +13,7 @@ use Rattle.cpm_image_files.proofs.EndLemmas.{no_more_records, keeps-refl}
 use Rattle.cpm_image_files.proofs.PutLemmas.{PutsAtEnd, LacksThere, IsReady, puts_at_end}
 use Rattle.cpm_image_files.proofs.Crossing.{MovesToEnd, moves_on, moves_or_stops}
 
-abbrev Appends : Dpb → ℕ → List ℕ → Volume → ℕ → Outcome → Type 0
+abbrev Appends : Dpb → ℕ → List ℕ → Volume → ℕ → VolumeOutcome → Type 0
 Appends d user name v n o = IsAppended d user name v n o ⊎ (LacksEntry d v n o ⊎ LacksBlock d v n o)
 
 -- ---- within the extent
@@ -30,7 +30,7 @@ module _ (d : Dpb) (user : ℕ) (name : List ℕ) (v : Volume) (x : Extent) (cur
   unfolding write_next_on_volume write_in next_place
   answer = rw (lt-ltb _ _ small) refl
 
-  put_within : (o : Outcome) → PutsAtEnd d user name v current o → IsAppended d user name v (position x current) o
+  put_within : (o : VolumeOutcome) → PutsAtEnd d user name v current o → IsAppended d user name v (position x current) o
   put_within o puts = record {
     answer = puts.answer;
     appending = record { at_end = puts.at_end; begun = λ z. absurd (let next = puts.next in omega arith) };
@@ -39,7 +39,7 @@ module _ (d : Dpb) (user : ℕ) (name : List ℕ) (v : Volume) (x : Extent) (cur
     blocks = rw (blocks_begun_at d x current format) puts.blocks;
   }
 
-  lacks_within : (o : Outcome) → LacksThere d v current o → LacksBlock d v (position x current) o
+  lacks_within : (o : VolumeOutcome) → LacksThere d v current o → LacksBlock d v (position x current) o
   lacks_within o lacks = record {
     answer = lacks.answer;
     due = blocks_begun_at d x current format ∙ cond-true (eqb (current % (d.block_mask + 1)) 0) 1 0 (eq-eqb _ _ lacks.begins);
@@ -55,7 +55,7 @@ module _ (d : Dpb) (user : ℕ) (name : List ℕ) (v : Volume) (x : Extent) (cur
 
 -- ---- behind it
 module _ (d : Dpb) (user : ℕ) (name : List ℕ) (v : Volume) (x : Extent) (bytes : List ℕ) (user_ok : user ≢ deleted) (format : IsFormat d) (sound : IsSound d v user x) (end : IsAtEnd d user name v x 128) (more : extent_number x < 511) where
-  put_behind : (v' : Volume) (x' : Extent) → MovesToEnd d user name v x bytes v' x' → unused v'.entries + entries_begun d (position x 128) ≡ unused v.entries → (o : Outcome) → PutsAtEnd d user name v' 0 o → IsAppended d user name v (position x 128) o
+  put_behind : (v' : Volume) (x' : Extent) → MovesToEnd d user name v x bytes v' x' → unused v'.entries + entries_begun d (position x 128) ≡ unused v.entries → (o : VolumeOutcome) → PutsAtEnd d user name v' 0 o → IsAppended d user name v (position x 128) o
   put_behind v' x' moves entries o puts = record {
     answer = puts.answer;
     appending = record { at_end = puts.at_end; begun = λ z. absurd (let next = puts.next in omega arith) };
@@ -66,7 +66,7 @@ module _ (d : Dpb) (user : ℕ) (name : List ℕ) (v : Volume) (x : Extent) (byt
         rw (extent_begins_block d x format, sym begun, ← moves.reserved) puts.blocks;
   }
 
-  lacks_behind : (v' : Volume) (x' : Extent) → MovesToEnd d user name v x bytes v' x' → (o : Outcome) → LacksThere d v' 0 o → LacksBlock d v (position x 128) o
+  lacks_behind : (v' : Volume) (x' : Extent) → MovesToEnd d user name v x bytes v' x' → (o : VolumeOutcome) → LacksThere d v' 0 o → LacksBlock d v (position x 128) o
   lacks_behind v' x' moves o lacks = record {
     answer = lacks.answer;
     due = extent_begins_block d x format;

@@ -14,7 +14,7 @@ use Rattle.cpm_drive.specs.Drive.{volume_of}
 use Rattle.cpm_drive.specs.Calls.{made_file, after_make}
 use Rattle.cpm_drive.specs.Named.{after_named}
 use Rattle.cpm_drive.specs.Laws.{IsWritable}
-use Rattle.cpm_image_files.specs.Shelf.{IsSoundDisk}
+use Rattle.cpm_image_files.specs.ImageFiles.{IsSoundDisk}
 use Rattle.cpm_image_files.specs.Writing.{HasRoomForFile, IsCleared, IsWriting, new_fcb}
 use Rattle.cpm_image_files.proofs.Amounts.{entries_none}
 use Rattle.cpm_image_files.proofs.ErasedLemmas.{erased}

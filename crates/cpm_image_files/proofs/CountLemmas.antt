@@ -18,7 +18,7 @@ use Rattle.cpm_volume.proofs.Making.{none_block}
 use Rattle.cpm_directory.specs.Directory.{entries_of}
 use Rattle.cpm_directory.specs.Login.{reserved_at_login}
 use Rattle.cpm_directory.proofs.CheckedLemmas.{checked}
-use Rattle.cpm_image_files.specs.Shelf.{IsSoundDisk}
+use Rattle.cpm_image_files.specs.ImageFiles.{IsSoundDisk}
 use Rattle.cpm_image_files.specs.Taken.{HasRecords, IsThere, IsAbsent}
 use Rattle.cpm_image_files.specs.Reach.{is_of_file, IsInGroup, IsEnd, IsEndBefore}
 use Rattle.cpm_image_files.proofs.RemovingLemmas.{user_of, no_entry_named}

@@ -9,7 +9,7 @@ use Rattle.cpm_volume.specs.declared.answer.Answer.TheVariants.{NoRecord as no_r
 use Rattle.cpm_volume.specs.Reserved.{is_reserved}
 use Rattle.cpm_volume.specs.Files.{deleted, extent_number, group_of, has_wildcard, entry_at, is_of, first_of, first_free, block_number, IsFormat, IsWellFormed, IsSound, Volume}
 use Rattle.cpm_volume.specs.Names.{is_named}
-use Rattle.cpm_volume.specs.Operations.{Outcome, ends, with_entry, closed, closed_entry, close_extent, opened_extent, open_extent, made_extent, make_extent, made_in, opened_or_made, have_extent, closed_in, cross, next_target, next_place, put_record, write_in, write_next_on_volume}
+use Rattle.cpm_volume.specs.Operations.{VolumeOutcome, ends, with_entry, closed, closed_entry, close_extent, opened_extent, open_extent, made_extent, make_extent, made_in, opened_or_made, have_extent, closed_in, cross, next_target, next_place, put_record, write_in, write_next_on_volume}
 use Rattle.cpm_volume.proofs.Entries.{entry_at-set_same, in_use_within, is_of_parts, is_of_from, first_of_passes}
 use Rattle.cpm_volume.proofs.NameLemmas.{first_match_plain, same_name-refl}
 use Rattle.cpm_volume.proofs.Closing as closing
@@ -303,5 +303,5 @@ module _ (d : Dpb) (user : ℕ) (name : List ℕ) (v : Volume) (x : Extent) (cur
       moves_or_stops =
           elim (cases_lt (first_free entries_now) (length entries_now)) [
             | inl free ↦ inl (moves_new free)
-            | inr full ↦ inr (ap (λ (o : Outcome). o.answer) (stops_answer full), sym unused_now ∙ unused-none entries_now full)
+            | inr full ↦ inr (ap (λ (o : VolumeOutcome). o.answer) (stops_answer full), sym unused_now ∙ unused-none entries_now full)
           ]

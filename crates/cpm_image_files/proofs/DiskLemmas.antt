@@ -10,7 +10,7 @@ use Rattle.cpm_drive.specs.declared.drive.Drive.{Drive}
 use Rattle.cpm_drive.specs.Drive.{volume_of, drive_after}
 use Rattle.cpm_drive.specs.Laws.{IsWritable, Reaches, ReadsTheSame}
 use Rattle.cpm_drive.proofs.DiskFiles.{reads_the_same}
-use Rattle.cpm_image_files.specs.Shelf.{record_on}
+use Rattle.cpm_image_files.specs.ImageFiles.{record_on}
 use Rattle.cpm_image_files.specs.Appending.{KeepsEntries}
 use Rattle.cpm_image_files.specs.Writing.{KeepsDisk}
 use Rattle.cpm_image_files.proofs.EndLemmas.{keeps-trans}

@@ -24,7 +24,7 @@ use Rattle.cpm_drive.specs.Drive.{volume_of, drive_after, directory_code}
 use Rattle.cpm_drive.specs.Calls.{ClosedFile, closed_file, close_answer, drive_closed, after_close}
 use Rattle.cpm_drive.specs.Laws.{IsOfBytes, CallsReach, Reaches}
 use Rattle.cpm_drive.proofs.DiskReach.{calls_reach}
-use Rattle.cpm_image_files.specs.Shelf.{record_of_bytes, records_for, record_on, file_refusal_of, IsSoundDisk, IsPut}
+use Rattle.cpm_image_files.specs.ImageFiles.{record_of_bytes, records_for, record_on, file_refusal_of, IsSoundDisk, IsPut}
 use Rattle.cpm_image_files.specs.Appending.{KeepsEntries}
 use Rattle.cpm_image_files.specs.Writing.{KeepsDisk, IsWriting}
 use Rattle.cpm_image_files.proofs.RecordLemmas.{no_record_of}

@@ -28,7 +28,7 @@ use Rattle.cpm_drive.specs.Named.{after_named}
 use Rattle.cpm_drive.specs.Laws.{IsWritable}
 use Rattle.cpm_drive.proofs.DiskLemmas.{disk_is_volume}
 use Rattle.cpm_drive.proofs.DiskReach.{calls_reach}
-use Rattle.cpm_image_files.specs.Shelf.{IsSoundDisk, is_free_for, free_entries, free_blocks}
+use Rattle.cpm_image_files.specs.ImageFiles.{IsSoundDisk, is_free_for, free_entries, free_blocks}
 use Rattle.cpm_image_files.specs.Appending.{unused, unreserved, KeepsEntries}
 use Rattle.cpm_image_files.specs.Writing.{IsCleared}
 use Rattle.cpm_image_files.proofs.FreeLemmas.{login_length, after_length}

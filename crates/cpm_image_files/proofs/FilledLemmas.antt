@@ -3,7 +3,7 @@ use Rattle.std.proofs.Common.{◌≡◌, ℕ, ◌+◌, ◌-◌, ◌*◌, ◌/◌
 use Rattle.std.proofs.lemmas.List.{length-append, length-drop, length-replicate, replicate-append-replicate, append_assoc, drop-append-le, take-append-le, get_or-take, get_or-drop, same_lists}
 use Rattle.std.proofs.lemmas.Bool.{cases_lt, lt-ltb, le-ltb}
 use Rattle.cpm_geom.specs.Disk.{Disk}
-use Rattle.cpm_image_files.specs.Shelf.{filler, record_of_bytes, records_for, DiskHasFile}
+use Rattle.cpm_image_files.specs.ImageFiles.{filler, record_of_bytes, records_for, DiskHasFile}
 use Rattle.cpm_image_files.specs.Taken.{taken_record, HasRecords, AreBytesOf}
 use Rattle.cpm_image_files.specs.Filled.{filled, FilledLaw}
 

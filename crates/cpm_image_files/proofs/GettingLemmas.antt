@@ -14,7 +14,7 @@ use Rattle.cpm_volume.specs.Files.{deleted, extent_number, group_of, no_entry, e
 use Rattle.cpm_volume.proofs.Entries.{is_of_parts, first_of_passes}
 use Rattle.cpm_directory.specs.Directory.{entries_of}
 use Rattle.cpm_directory.proofs.CheckedLemmas.{checked}
-use Rattle.cpm_image_files.specs.Shelf.{record_on, IsSoundDisk}
+use Rattle.cpm_image_files.specs.ImageFiles.{record_on, IsSoundDisk}
 use Rattle.cpm_image_files.specs.Taken.{taken_record}
 use Rattle.cpm_image_files.specs.Reach.{first_for, IsEntryOf, block_by, IsOnDrive}
 

@@ -12,7 +12,7 @@ use Rattle.cpm_volume.proofs.Entries.{any_index, in_use_within}
 use Rattle.cpm_volume.proofs.NameLemmas.{same_name-refl, same_name-trans}
 use Rattle.cpm_directory.specs.Directory.{entries_of}
 use Rattle.cpm_image_files.specs.declared.listing.DiskFile.{DiskFile}
-use Rattle.cpm_image_files.specs.Shelf.{entry_on}
+use Rattle.cpm_image_files.specs.ImageFiles.{entry_on}
 use Rattle.cpm_image_files.specs.Taken.{HasRecords}
 use Rattle.cpm_image_files.specs.Reach.{is_of_file}
 use Rattle.cpm_image_files.specs.Listing.{lists, listed_file_at, first_listed, IsListedFile, AreListed}

@@ -22,7 +22,7 @@ use Rattle.cpm_drive.specs.Drive.{volume_of, drive_after, directory_code}
 use Rattle.cpm_drive.specs.Calls.{MadeFile, made_file, after_make}
 use Rattle.cpm_drive.specs.Laws.{IsOfBytes, CallsReach, Reaches}
 use Rattle.cpm_drive.proofs.DiskReach.{calls_reach}
-use Rattle.cpm_image_files.specs.Shelf.{entries_for, blocks_for, free_entries, free_blocks}
+use Rattle.cpm_image_files.specs.ImageFiles.{entries_for, blocks_for, free_entries, free_blocks}
 use Rattle.cpm_image_files.specs.Appending.{unused, unreserved, IsAppending, KeepsEntries}
 use Rattle.cpm_image_files.specs.Writing.{new_fcb, KeepsDisk, IsCleared, IsWriting}
 use Rattle.cpm_image_files.proofs.Counting.{unused-none, unused-taken, free_user}

@@ -8,14 +8,14 @@ use Rattle.cpm_volume.specs.declared.extent.Extent.{Extent}
 use Rattle.cpm_volume.specs.declared.answer.Answer.TheVariants.{Done as done, NoBlock as no_block}
 use Rattle.cpm_volume.specs.Reserved.{is_reserved, least_free}
 use Rattle.cpm_volume.specs.Files.{extent_number, entry_place_of, map_place, block_number, IsFormat, Volume, record_put}
-use Rattle.cpm_volume.specs.Operations.{Outcome, ends, with_block, block_to_write, counting, record_in_block, put_found, put_record, taken_records, taken_writes}
+use Rattle.cpm_volume.specs.Operations.{VolumeOutcome, ends, with_block, block_to_write, counting, record_in_block, put_found, put_record, taken_records, taken_writes}
 use Rattle.cpm_volume.proofs.Records.{place_back, place_below}
 use Rattle.cpm_image_files.specs.Appending.{unreserved, records_in_entry, IsAtEnd}
 use Rattle.cpm_image_files.proofs.Counting.{unreserved-none, unreserved-taken, least_is_free}
 use Rattle.cpm_image_files.proofs.Numbers.{place_starts, apart_from, same_factor}
 
 -- the record is put, and the entries are as they were
-pub record PutsAtEnd (d : Dpb) (user : ℕ) (name : List ℕ) (v : Volume) (current : ℕ) (o : Outcome) : Type 0 where
+pub record PutsAtEnd (d : Dpb) (user : ℕ) (name : List ℕ) (v : Volume) (current : ℕ) (o : VolumeOutcome) : Type 0 where
   pub answer : o.answer ≡ done
   pub at_end : IsAtEnd d user name o.volume o.extent o.current
   pub next : o.current ≡ current + 1
@@ -23,7 +23,7 @@ pub record PutsAtEnd (d : Dpb) (user : ℕ) (name : List ℕ) (v : Volume) (curr
   pub blocks : unreserved o.volume.reserved + cond {A = ℕ} (eqb (current % (d.block_mask + 1)) 0) 1 0 ≡ unreserved v.reserved
 
 -- no block is free for it
-pub record LacksThere (d : Dpb) (v : Volume) (current : ℕ) (o : Outcome) : Type 0 where
+pub record LacksThere (d : Dpb) (v : Volume) (current : ℕ) (o : VolumeOutcome) : Type 0 where
   pub answer : o.answer ≡ no_block
   pub begins : current % (d.block_mask + 1) ≡ 0
   pub none : unreserved v.reserved ≡ 0

@@ -4,7 +4,7 @@ use Rattle.std.proofs.Math.Seq.{take-append-add, take-length}
 use Rattle.std.proofs.lemmas.List.{take-append-le, take-replicate, drop-replicate, length-drop, length-replicate, get_or-take, get_or-drop, get_or_past, get_or_append_left, get_or-append-add, get_or-replicate}
 use Rattle.std.proofs.lemmas.Bool.{cases_lt, lt-ltb, le-ltb}
 use Rattle.cpm_volume.specs.Encoding.{AreBytes}
-use Rattle.cpm_image_files.specs.Shelf.{record_of_bytes, records_for}
+use Rattle.cpm_image_files.specs.ImageFiles.{record_of_bytes, records_for}
 
 -- what a record is filled up with
 filling : List ℕ

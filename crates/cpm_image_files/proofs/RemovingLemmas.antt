@@ -23,7 +23,7 @@ use Rattle.cpm_drive.specs.Calls.{logged_in}
 use Rattle.cpm_drive.specs.Reads.{lent_drive}
 use Rattle.cpm_drive.specs.Named.{after_named}
 use Rattle.cpm_drive.specs.Laws.{IsWritable, HasBytes}
-use Rattle.cpm_image_files.specs.Shelf.{IsSoundDisk, KeepsOtherFiles}
+use Rattle.cpm_image_files.specs.ImageFiles.{IsSoundDisk, KeepsOtherFiles}
 use Rattle.cpm_image_files.specs.Writing.{IsCleared}
 use Rattle.cpm_image_files.specs.Taken.{fresh_volume, IsLeftBy, IsRemovable, IsRemoved}
 use Rattle.cpm_image_files.proofs.ErasedLemmas.{erased}
@@ -81,8 +81,8 @@ first_below es user name i live h =
 
 -- ---- the answer of a call on all entries of a name
 
-abbrev pub Answered : Type 0
-Answered = Result (Option ℕ) Fault × Drive
+abbrev pub EraseResult : Type 0
+EraseResult = Result (Option ℕ) Fault × Drive
 
 -- ---- the disk then
 
@@ -115,15 +115,15 @@ fresh image made drive a b = b ∙ ap logged_in a
 pub writable : (image : Disk) → IsDisk image → HasBytes image → IsWritable (fresh_drive image)
 writable image whole bytes = record { disk = whole; bytes = bytes; free = refl }
 
-pub answered : (image : Disk) (drive : Drive) (u user : ℕ) (n name : List ℕ) (answer : Answered) → drive ≡ fresh_drive image → u ≡ user → n ≡ name → answer ≡ after_named drive (erase_files_on_volume (dpb_of drive.image.format) (volume_of drive.image drive.marks.reserved) u n) → answer ≡ after_named (fresh_drive image) (erase_files_on_volume (dpb_of image.format) (volume_of image (reserved_at_login (dpb_of image.format) (entries_of image))) user name)
+pub answered : (image : Disk) (drive : Drive) (u user : ℕ) (n name : List ℕ) (answer : EraseResult) → drive ≡ fresh_drive image → u ≡ user → n ≡ name → answer ≡ after_named drive (erase_files_on_volume (dpb_of drive.image.format) (volume_of drive.image drive.marks.reserved) u n) → answer ≡ after_named (fresh_drive image) (erase_files_on_volume (dpb_of image.format) (volume_of image (reserved_at_login (dpb_of image.format) (entries_of image))) user name)
 answered image drive u user n name answer a b c e = e ∙ rw (a, b, c) refl
 
 -- ---- the disk that a call leaves
-pub left_by : (image : Disk) (called : NameOutcome) (answer : Answered) → (called ≡ none_named → ⊥) → (called ≡ file_read_only → ⊥) → answer ≡ after_named (fresh_drive image) called → IsLeftBy called image answer.1.image
+pub left_by : (image : Disk) (called : NameOutcome) (answer : EraseResult) → (called ≡ none_named → ⊥) → (called ≡ file_read_only → ⊥) → answer ≡ after_named (fresh_drive image) called → IsLeftBy called image answer.1.image
 unfolding after_named drive_after
 left_by image none_named answer some free e = absurd (some refl)
 left_by image file_read_only answer some free e = absurd (free refl)
-left_by image (named first v) answer some free e = ap (λ (p : Answered). p.1.image) e
+left_by image (named first v) answer some free e = ap (λ (p : EraseResult). p.1.image) e
 
 done_not_none : (first : ℕ) (v : Volume) → named first v ≡ none_named → ⊥
 done_not_none first v e = cc
@@ -140,7 +140,7 @@ module _ (image : Disk) (user : ℕ) (name : List ℕ) (there : first_named (ent
   unfolding erase_files_on_volume volume_of
   erase_free e = done_not_read_only _ _ (rw (lt-ltb _ _ there, unprotected) at e)
 
-  left_erased : (answer : Answered) → answer ≡ after_named (fresh_drive image) (erase_files_on_volume (dpb_of image.format) (fresh_volume image) user name) → IsLeftBy (erase_files_on_volume (dpb_of image.format) (fresh_volume image) user name) image answer.1.image
+  left_erased : (answer : EraseResult) → answer ≡ after_named (fresh_drive image) (erase_files_on_volume (dpb_of image.format) (fresh_volume image) user name) → IsLeftBy (erase_files_on_volume (dpb_of image.format) (fresh_volume image) user name) image answer.1.image
   left_erased answer e = left_by image (erase_files_on_volume (dpb_of image.format) (fresh_volume image) user name) answer erase_some erase_free e
 
 pub removed : (image : Disk) (user : ℕ) (name : List ℕ) (result : Result (Option ℕ) Fault) (drive' : Drive) → user < 16 → has_wildcard name ≡ false → IsDisk image → HasBytes image → IsSoundDisk image → IsRemovable image user name → (result, drive') ≡ after_named (fresh_drive image) (erase_files_on_volume (dpb_of image.format) (volume_of image (reserved_at_login (dpb_of image.format) (entries_of image))) user name) → ((code : Option ℕ) × (result ≡ Ok code)) × IsRemoved image user name drive'.image

@@ -22,12 +22,12 @@ use Rattle.cpm_drive.specs.Named.{after_named}
 use Rattle.cpm_drive.specs.Laws.{HasBytes}
 use Rattle.cpm_drive.proofs.DiskLemmas.{disk_is_volume}
 use Rattle.cpm_drive.proofs.DiskReach.{calls_reach}
-use Rattle.cpm_image_files.specs.Shelf.{record_on, system_sectors, IsSoundDisk}
+use Rattle.cpm_image_files.specs.ImageFiles.{record_on, system_sectors, IsSoundDisk}
 use Rattle.cpm_image_files.specs.Taken.{fresh_volume, IsLeftBy, kept_name, IsFreeName, IsThere, IsRenamable, IsRenamed}
 use Rattle.cpm_image_files.proofs.FreeLemmas.{login_length}
 use Rattle.cpm_image_files.proofs.SystemLemmas.{system_after}
 use Rattle.cpm_image_files.proofs.DiskLemmas.{HasVolume, has_volume}
-use Rattle.cpm_image_files.proofs.RemovingLemmas.{fresh_drive, writable, sound_again, user_of, first_there, first_below, Answered}
+use Rattle.cpm_image_files.proofs.RemovingLemmas.{fresh_drive, writable, sound_again, user_of, first_there, first_below, EraseResult}
 use Rattle.cpm_image_files.proofs.RenamingLemmas as entries
 
 pub first_named_is : (es : List Entry) (user : ℕ) (name : List ℕ) (i : ℕ) → i ≤ length es → ((k : ℕ) → k < i → is_named user name (entry_at es k) ≡ false) → (i < length es → is_named user name (entry_at es i) ≡ true) → first_named es user name ≡ i
@@ -50,12 +50,12 @@ module _ (drive : Drive) (user : ℕ) (name kept : List ℕ) where
   unfolding rename_files_on_volume volume_of volume_now
   answer_is there free = rw (lt-ltb _ _ there, free) refl
 
-  pub drive_is : (answer : Answered) → first_named (entries_of drive.image) user name < length (entries_of drive.image) → list_any (protects user name) (entries_of drive.image) ≡ false → answer ≡ after_named drive (rename_files_on_volume (volume_of drive.image drive.marks.reserved) user name kept) → answer ≡ (Ok (Some (directory_code (first_named (entries_of drive.image) user name))), drive_after drive volume_now)
+  pub drive_is : (answer : EraseResult) → first_named (entries_of drive.image) user name < length (entries_of drive.image) → list_any (protects user name) (entries_of drive.image) ≡ false → answer ≡ after_named drive (rename_files_on_volume (volume_of drive.image drive.marks.reserved) user name kept) → answer ≡ (Ok (Some (directory_code (first_named (entries_of drive.image) user name))), drive_after drive volume_now)
   unfolding after_named
   drive_is answer there free e = rw (answer_is there free) at e
 
 -- ---- the disk then
-pub fresh_answer : (image : Disk) (drive : Drive) (u user : ℕ) (n name kept : List ℕ) (answer : Answered) → drive ≡ fresh_drive image → u ≡ user → n ≡ name → answer ≡ after_named drive (rename_files_on_volume (volume_of drive.image drive.marks.reserved) u n kept) → answer ≡ after_named (fresh_drive image) (rename_files_on_volume (volume_of image (reserved_at_login (dpb_of image.format) (entries_of image))) user name kept)
+pub fresh_answer : (image : Disk) (drive : Drive) (u user : ℕ) (n name kept : List ℕ) (answer : EraseResult) → drive ≡ fresh_drive image → u ≡ user → n ≡ name → answer ≡ after_named drive (rename_files_on_volume (volume_of drive.image drive.marks.reserved) u n kept) → answer ≡ after_named (fresh_drive image) (rename_files_on_volume (volume_of image (reserved_at_login (dpb_of image.format) (entries_of image))) user name kept)
 fresh_answer image drive u user n name kept answer a b c e = e ∙ rw (a, b, c) refl
 
 not_both : (b : Bool) → b ≡ true → b ≡ false → ⊥
@@ -199,4 +199,4 @@ renamed_by image user name new_name kept result drive' small plain new_plain byt
     let live : user ≢ deleted = λ z. absurd (omega arith) in
     let there = first_below (entries_of image) user name renamable.0.0 live renamable.0.2 in
     let is = drive_is (fresh_drive image) user name kept (result, drive') there renamable.2 e in
-    ((Some (directory_code (first_named (entries_of image) user name)), ap (λ (p : Answered). p.0) is), subst (λ (p : Answered). IsRenamed image user name new_name p.1.image) (sym is) (is_renamed image user name new_name kept small plain new_plain bytes whole has_bytes sound renamable.1 kept_is there renamable.2))
+    ((Some (directory_code (first_named (entries_of image) user name)), ap (λ (p : EraseResult). p.0) is), subst (λ (p : EraseResult). IsRenamed image user name new_name p.1.image) (sym is) (is_renamed image user name new_name kept small plain new_plain bytes whole has_bytes sound renamable.1 kept_is there renamable.2))

@@ -9,7 +9,7 @@ use Rattle.cpm_drive.specs.Drive.{new_marks}
 use Rattle.cpm_drive.specs.Calls.{logged_in}
 use Rattle.cpm_drive.specs.Reads.{lent_drive}
 use Rattle.cpm_drive.specs.Laws.{HasBytes, IsWritable}
-use Rattle.cpm_image_files.specs.Shelf.{records_for, file_refusal_of}
+use Rattle.cpm_image_files.specs.ImageFiles.{records_for, file_refusal_of}
 use Rattle.cpm_image_files.specs.Writing.{HasRoomForFile, IsWriting}
 use Rattle.cpm_image_files.proofs.Amounts.{room_of, room_less}
 

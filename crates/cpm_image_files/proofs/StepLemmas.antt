@@ -11,16 +11,16 @@ use Rattle.cpm_volume.specs.declared.answer.Answer.{Answer}
 use Rattle.cpm_volume.specs.declared.answer.Answer.TheVariants.{Done as done, NoRecord as no_record, NoBlock as no_block}
 use Rattle.cpm_volume.specs.Files.{deleted, same_name, file_record, open_file_record, Volume}
 use Rattle.cpm_volume.specs.Encoding.{AreBytes}
-use Rattle.cpm_volume.specs.Operations.{Outcome, write_next_on_volume}
+use Rattle.cpm_volume.specs.Operations.{VolumeOutcome, write_next_on_volume}
 use Rattle.cpm_volume.specs.Laws.{position, HasDone, StaysSound}
 use Rattle.cpm_volume.proofs.Formats.{each_format}
 use Rattle.cpm_volume.proofs.Sequential.{writes_next}
 use Rattle.cpm_directory.specs.Directory.{entries_of}
 use Rattle.cpm_drive.specs.declared.drive.Drive.{Drive}
-use Rattle.cpm_drive.specs.Drive.{volume_of, drive_after, Called, call_result, after_call}
+use Rattle.cpm_drive.specs.Drive.{volume_of, drive_after, CallResult, call_result, after_call}
 use Rattle.cpm_drive.specs.Laws.{IsOfBytes, CallsReach, OutcomeReaches}
 use Rattle.cpm_drive.proofs.DiskReach.{calls_reach}
-use Rattle.cpm_image_files.specs.Shelf.{record_of_bytes, records_for, entries_for, blocks_for, free_entries, free_blocks}
+use Rattle.cpm_image_files.specs.ImageFiles.{record_of_bytes, records_for, entries_for, blocks_for, free_entries, free_blocks}
 use Rattle.cpm_image_files.specs.Appending.{unused, unreserved, entries_begun, blocks_begun, IsAppending, IsAppended}
 use Rattle.cpm_image_files.specs.Writing.{HasRoomForFile, IsWriting}
 use Rattle.cpm_image_files.proofs.Amounts.{entries_grow, blocks_grow, entries_less, blocks_less, room_small}
@@ -56,7 +56,7 @@ module _ (old : Disk) (user : ℕ) (name bytes : List ℕ) (count : ℕ) (drive 
   v : Volume
   v = volume_of drive.image drive.marks.reserved
 
-  o : Outcome
+  o : VolumeOutcome
   o = write_next_on_volume (dpb_of old.format) v user fcb.extent fcb.current_record record_bytes
 
   -- ---- it is done
@@ -166,4 +166,4 @@ module _ (old : Disk) (user : ℕ) (name bytes : List ℕ) (count : ℕ) (drive 
   unfolding after_call after_fcb v o
   wrote answer drive' fcb' e =
       let same : call_result answer drive' fcb' record_bytes ≡ after_call drive fcb record_bytes (write_next_on_volume (dpb_of old.format) (volume_of drive.image drive.marks.reserved) user fcb.extent fcb.current_record record_bytes) = subst (λ (g : Format). call_result answer drive' fcb' record_bytes ≡ after_call drive fcb record_bytes (write_next_on_volume (dpb_of g) (volume_of drive.image drive.marks.reserved) user fcb.extent fcb.current_record record_bytes)) writing.keeps.format e in
-      (ap (λ (c : Called). c.answer) same ∙ appended.answer, subst (λ (c : Called). IsWriting old user name bytes (count + 1) c.drive c.fcb) (sym same) next)
+      (ap (λ (c : CallResult). c.answer) same ∙ appended.answer, subst (λ (c : CallResult). IsWriting old user name bytes (count + 1) c.drive c.fcb) (sym same) next)

@@ -8,7 +8,7 @@ use Rattle.cpm_geom.specs.Disk.{Disk, sector_at}
 use Rattle.cpm_volume.specs.Files.{Volume, DiskWrite, entry_put, record_put}
 use Rattle.cpm_drive.specs.declared.drive.Drive.{Drive}
 use Rattle.cpm_drive.specs.Drive.{after_write, after_writes, drive_after}
-use Rattle.cpm_image_files.specs.Shelf.{system_sectors}
+use Rattle.cpm_image_files.specs.ImageFiles.{system_sectors}
 
 record_behind : (f : Format) (n : ℕ) → system_sectors f ≤ record_index f n
 unfolding dpb_of sectors_per_track sector_index track_of record_index

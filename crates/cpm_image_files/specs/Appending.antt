@@ -6,7 +6,7 @@ use Rattle.cpm_volume.specs.declared.extent.Entry.{Entry}
 use Rattle.cpm_volume.specs.Files.{deleted, extent_number, entry_at, InUse, block_number, Volume}
 use Rattle.cpm_volume.specs.Names.{is_named}
 use Rattle.cpm_volume.specs.declared.answer.Answer.TheVariants.{Done as done, NoRecord as no_record, NoBlock as no_block}
-use Rattle.cpm_volume.specs.Operations.{Outcome}
+use Rattle.cpm_volume.specs.Operations.{VolumeOutcome}
 
 -- how many entries are not in use (own)
 unfoldable pub unused : List Entry → ℕ
@@ -49,21 +49,21 @@ unfoldable pub blocks_begun : Dpb → ℕ → ℕ
 blocks_begun d n = if n % (d.block_mask + 1) == 0 then 1 else 0
 
 -- The record was written at the end: the file control block stands at the new end, and the call took what the record begins. (own)
-pub record IsAppended (d : Dpb) (user : ℕ) (name : List ℕ) (v : Volume) (n : ℕ) (o : Outcome) : Type 0 where
+pub record IsAppended (d : Dpb) (user : ℕ) (name : List ℕ) (v : Volume) (n : ℕ) (o : VolumeOutcome) : Type 0 where
   pub answer : o.answer ≡ done
   pub appending : IsAppending d user name o.volume o.extent o.current
   pub others : KeepsEntries user name v.entries o.volume.entries
   pub entries : unused o.volume.entries + entries_begun d n ≡ unused v.entries
   pub blocks : unreserved o.volume.reserved + blocks_begun d n ≡ unreserved v.reserved
 
--- It was not, for want of an entry. (own)
-pub record LacksEntry (d : Dpb) (v : Volume) (n : ℕ) (o : Outcome) : Type 0 where
+-- It was not, because no entry is free. (own)
+pub record LacksEntry (d : Dpb) (v : Volume) (n : ℕ) (o : VolumeOutcome) : Type 0 where
   pub answer : o.answer ≡ no_record
   pub due : entries_begun d n ≡ 1
   pub none : unused v.entries ≡ 0
 
--- It was not, for want of a block. (own)
-pub record LacksBlock (d : Dpb) (v : Volume) (n : ℕ) (o : Outcome) : Type 0 where
+-- It was not, because no block is free. (own)
+pub record LacksBlock (d : Dpb) (v : Volume) (n : ℕ) (o : VolumeOutcome) : Type 0 where
   pub answer : o.answer ≡ no_block
   pub due : blocks_begun d n ≡ 1
   pub none : unreserved v.reserved ≡ 0

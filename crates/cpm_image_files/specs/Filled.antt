@@ -1,7 +1,7 @@
 -- What is put on a disk is what is taken off it.
 use Rattle.std.specs.Prelude.{◌≡◌, ℕ, ◌-◌, ◌*◌, List, ◌++◌, length, replicate}
 use Rattle.cpm_geom.specs.Disk.{Disk}
-use Rattle.cpm_image_files.specs.Shelf.{filler, records_for, DiskHasFile}
+use Rattle.cpm_image_files.specs.ImageFiles.{filler, records_for, DiskHasFile}
 use Rattle.cpm_image_files.specs.Taken.{AreBytesOf}
 
 -- the bytes of a file as its records have them: filled up to whole records (own)

@@ -3,7 +3,7 @@ pub mod Listing
 pub mod Texts
 pub mod Taken
 pub mod Reach
-pub mod Shelf
+pub mod ImageFiles
 pub mod Appending
 pub mod Laws
 pub mod Writing

@@ -8,11 +8,11 @@ use Rattle.cpm_volume.specs.Files.{deleted, InUse}
 use Rattle.cpm_directory.specs.Directory.{entries_of}
 use Rattle.cpm_directory.specs.Login.{reserved_at_login}
 use Rattle.cpm_directory.specs.WellFormed.{IsChecked}
-use Rattle.cpm_image_files.specs.declared.refusal.ShelfError.{ShelfError}
-use Rattle.cpm_image_files.specs.declared.refusal.ShelfError.TheVariants.{Damaged, Refused, OutOfMemory}
+use Rattle.cpm_image_files.specs.declared.refusal.ImageFilesError.{ImageFilesError}
+use Rattle.cpm_image_files.specs.declared.refusal.ImageFilesError.TheVariants.{Damaged, Refused, OutOfMemory}
 use Rattle.cpm_image_files.specs.declared.listing.DiskFile.{DiskFile}
-use Rattle.cpm_image_files.specs.declared.listing.Shelf.{Shelf}
-use Rattle.cpm_image_files.specs.Shelf.{entry_on, IsSoundDisk}
+use Rattle.cpm_image_files.specs.declared.listing.DiskListing.{DiskListing}
+use Rattle.cpm_image_files.specs.ImageFiles.{entry_on, IsSoundDisk}
 use Rattle.cpm_image_files.specs.Appending.{unreserved}
 use Rattle.cpm_image_files.specs.Taken.{HasRecords}
 use Rattle.cpm_image_files.specs.Reach.{is_of_file}
@@ -47,13 +47,13 @@ pub record AreListed (disk : Disk) (index : ℕ) (files : List DiskFile) : Type 
       → lists e (listed_file_at files j) ≡ true → lists e (listed_file_at files k) ≡ true → j ≡ k
 
 -- The list of a sound disk: all its files, each once, in the order of their first entries; and how many blocks are free. (own)
-pub record IsListed (disk : Disk) (shelf : Shelf) : Type 0 where
+pub record IsListed (disk : Disk) (listing : DiskListing) : Type 0 where
   pub sound : IsSoundDisk disk
-  pub files : AreListed disk (length (entries_of disk)) shelf.files.items
-  pub free : shelf.free_blocks ≡ unreserved (reserved_at_login (dpb_of disk.format) (entries_of disk))
+  pub files : AreListed disk (length (entries_of disk)) listing.files.items
+  pub free : listing.free_blocks ≡ unreserved (reserved_at_login (dpb_of disk.format) (entries_of disk))
 
 -- Why there is none: the fault of the first entry that has one; or the disk is sound, but there was no memory. (own)
-abbrev pub IsListRefusal : Disk → ShelfError → Type 0
+abbrev pub IsListRefusal : Disk → ImageFilesError → Type 0
 IsListRefusal disk (Damaged fault) = IsChecked (dpb_of disk.format) (entries_of disk) (Err fault)
 IsListRefusal disk (Refused refusal) = ⊥
 IsListRefusal disk OutOfMemory = IsSoundDisk disk

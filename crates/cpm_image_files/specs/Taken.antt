@@ -11,11 +11,11 @@ use Rattle.cpm_directory.specs.Directory.{entries_of}
 use Rattle.cpm_directory.specs.Login.{reserved_at_login}
 use Rattle.cpm_directory.specs.WellFormed.{IsChecked}
 use Rattle.cpm_drive.specs.Drive.{volume_of, after_writes}
-use Rattle.cpm_image_files.specs.Shelf.{record_on, entry_on, system_sectors, IsSoundDisk, KeepsOtherFiles}
+use Rattle.cpm_image_files.specs.ImageFiles.{record_on, entry_on, system_sectors, IsSoundDisk, KeepsOtherFiles}
 use Rattle.cpm_image_files.specs.declared.refusal.FileRefusal.{FileRefusal}
 use Rattle.cpm_image_files.specs.declared.refusal.FileRefusal.TheVariants.{ReadOnly, DirectoryFull, DiskFull, NoFile, Exists}
-use Rattle.cpm_image_files.specs.declared.refusal.ShelfError.{ShelfError}
-use Rattle.cpm_image_files.specs.declared.refusal.ShelfError.TheVariants.{Damaged, Refused, OutOfMemory}
+use Rattle.cpm_image_files.specs.declared.refusal.ImageFilesError.{ImageFilesError}
+use Rattle.cpm_image_files.specs.declared.refusal.ImageFilesError.TheVariants.{Damaged, Refused, OutOfMemory}
 
 -- A disk's file has so many records, up to its last: those between may be holes. (own)
 pub record HasRecords (disk : Disk) (user : ℕ) (name : List ℕ) (count : ℕ) : Type 0 where
@@ -57,7 +57,7 @@ IsGetReason disk user name DirectoryFull = ⊥
 IsGetReason disk user name DiskFull = ⊥
 
 -- The fault of the first entry that has one; or the disk is sound, and this is the reason; or there is none, but no memory. (own)
-abbrev pub IsGetRefusal : Disk → ℕ → List ℕ → ShelfError → Type 0
+abbrev pub IsGetRefusal : Disk → ℕ → List ℕ → ImageFilesError → Type 0
 IsGetRefusal disk user name (Damaged fault) = IsChecked (dpb_of disk.format) (entries_of disk) (Err fault)
 IsGetRefusal disk user name (Refused refusal) = IsSoundDisk disk × IsGetReason disk user name refusal
 IsGetRefusal disk user name OutOfMemory = IsSoundDisk disk × IsThere disk user name
@@ -100,7 +100,7 @@ IsRemovalReason old user name DirectoryFull = ⊥
 IsRemovalReason old user name DiskFull = ⊥
 
 -- The fault of the first entry that has one; or the disk is sound, and this is the reason; or there is none, but no memory. (own)
-abbrev pub IsRemovalRefusal : Disk → ℕ → List ℕ → ShelfError → Type 0
+abbrev pub IsRemovalRefusal : Disk → ℕ → List ℕ → ImageFilesError → Type 0
 IsRemovalRefusal old user name (Damaged fault) = IsChecked (dpb_of old.format) (entries_of old) (Err fault)
 IsRemovalRefusal old user name (Refused refusal) = IsSoundDisk old × IsRemovalReason old user name refusal
 IsRemovalRefusal old user name OutOfMemory = IsSoundDisk old × IsRemovable old user name
@@ -154,7 +154,7 @@ IsRenameReason old user name new_name DirectoryFull = ⊥
 IsRenameReason old user name new_name DiskFull = ⊥
 
 -- The fault of the first entry that has one; or the disk is sound, and this is the reason; or there is none, but no memory. (own)
-abbrev pub IsRenameRefusal : Disk → ℕ → List ℕ → List ℕ → ShelfError → Type 0
+abbrev pub IsRenameRefusal : Disk → ℕ → List ℕ → List ℕ → ImageFilesError → Type 0
 IsRenameRefusal old user name new_name (Damaged fault) = IsChecked (dpb_of old.format) (entries_of old) (Err fault)
 IsRenameRefusal old user name new_name (Refused refusal) = IsSoundDisk old × IsRenameReason old user name new_name refusal
 IsRenameRefusal old user name new_name OutOfMemory = IsSoundDisk old × IsRenamable old user name new_name

@@ -1,7 +1,7 @@
 -- The lines of a text, as CP/M's programs end them and as a host does.
 use Rattle.std.specs.Prelude.{◌≡◌, ℕ, Bool, false, ◌&&◌, ◌||◌, ◌==◌, not, if◌then◌else◌, List, [], ◌∷◌, ◌++◌, replicate}
 use Rattle.std.specs.List.{list_any}
-use Rattle.cpm_image_files.specs.Shelf.{filler}
+use Rattle.cpm_image_files.specs.ImageFiles.{filler}
 
 abbrev pub carriage_return : ℕ
 carriage_return = 0x0D
@@ -9,7 +9,7 @@ carriage_return = 0x0D
 abbrev pub line_feed : ℕ
 line_feed = 0x0A
 
--- the rest of a text behind a byte: a line feed that follows no carriage return gets one (own)
+-- the rest of a text after a byte: a line feed that follows no carriage return gets one (own)
 unfoldable pub text_behind : ℕ → List ℕ → List ℕ
 text_behind previous [] = []
 text_behind previous (b ∷ bs) =
@@ -38,6 +38,6 @@ from_text (b ∷ bs) =
 abbrev pub is_control : ℕ → Bool
 is_control b = (b == carriage_return) || (b == filler)
 
--- own: a text with line feeds alone comes back as it was, whatever number of fillers stands behind it
+-- own: a text with line feeds alone comes back as it was, whatever number of fillers stands after it
 abbrev pub TextLaw : Type 0
 TextLaw = (bytes : List ℕ) (fillers : ℕ) → list_any is_control bytes ≡ false → from_text (to_text bytes ++ replicate fillers filler) ≡ bytes

@@ -13,7 +13,7 @@ use Rattle.cpm_directory.specs.Directory.{entries_of}
 use Rattle.cpm_drive.specs.declared.drive.Drive.{Drive}
 use Rattle.cpm_drive.specs.Drive.{volume_of}
 use Rattle.cpm_drive.specs.Laws.{IsWritable, IsOfBytes}
-use Rattle.cpm_image_files.specs.Shelf.{record_of_bytes, record_on, system_sectors, entries_for, blocks_for, free_entries, free_blocks}
+use Rattle.cpm_image_files.specs.ImageFiles.{record_of_bytes, record_on, system_sectors, entries_for, blocks_for, free_entries, free_blocks}
 use Rattle.cpm_image_files.specs.Appending.{unused, unreserved, IsAppending, KeepsEntries}
 
 -- the file control block of a name that stands before its first record (own)
@@ -49,7 +49,7 @@ pub record IsCleared (old : Disk) (user : ℕ) (name : List ℕ) (drive : Drive)
   pub entries_left : unused (entries_of drive.image) ≡ free_entries user name (entries_of old)
   pub blocks_left : unreserved drive.marks.reserved ≡ free_blocks (dpb_of old.format) user name (entries_of old)
 
--- So many records of the file are there, the file control block stands behind them, and all is free that they didn't need. (own)
+-- So many records of the file are there, the file control block stands after them, and all is free that they didn't need. (own)
 pub record IsWriting (old : Disk) (user : ℕ) (name bytes : List ℕ) (count : ℕ) (drive : Drive) (fcb : Fcb) : Type 0 where
   pub keeps : KeepsDisk old user name drive
   pub fits : IsOfBytes (dpb_of old.format) fcb.extent

@@ -9,7 +9,7 @@ ghost use Rattle.cpm_drive.specs.Laws.{HasBytes};
 use cpm_geom::Image;
 use std::alloc::{AllocError, Global};
 
-/// An equal image; refused for want of memory.
+/// An equal image; refused if out of memory.
 pub(crate) fn copy_of(alloc: Global, image: &Image) -> Result<Image, AllocError>
     ensures { IfOk result (λ copy. (copy ≡ image.now) × IsDisk copy × HasBytes copy) }
 {

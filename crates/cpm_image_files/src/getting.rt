@@ -1,39 +1,39 @@
 //! Takes the bytes of a file off a disk.
 
 ghost use Rattle.std.specs.Prelude.{MatchResult, IfOk};
-ghost use Rattle.cpm_image_files.specs.Shelf.{IsSoundDisk};
+ghost use Rattle.cpm_image_files.specs.ImageFiles.{IsSoundDisk};
 ghost use Rattle.cpm_image_files.specs.Filled.{FilledLaw};
 ghost use Rattle.cpm_image_files.specs.Taken.{AreBytesOf, IsGot, IsGetRefusal};
 
 use crate::name::FileName;
 use crate::needs::RECORD_SIZE;
 use crate::records::{is_there, next_entry, record_by, record_count};
-use crate::refusal::{FileRefusal, ShelfError};
+use crate::refusal::{FileRefusal, ImageFilesError};
 use cpm_directory::{LentImage, well_formed};
 use cpm_geom::Image;
 use std::alloc::{AllocError, Global};
 
 /// The bytes of a file: its records in their order up to the last, with zeros for those that it has not. Refused where the
-/// disk is damaged and where it has no such file, and for want of memory.
-pub fn get(alloc: Global, image: &Image, file: &FileName) -> Result<Vec<u8>, ShelfError>
+/// disk is damaged and where it has no such file, and if out of memory.
+pub fn get(alloc: Global, image: &Image, file: &FileName) -> Result<Vec<u8>, ImageFilesError>
     ensures { MatchResult result
         (λ bytes. IsGot image.now file.now.user file.now.name bytes.items)
         (λ e. IsGetRefusal image.now file.now.user file.now.name e) }
 {
     if let Err(fault) = well_formed(image) {
-        return Err(ShelfError::Damaged(fault));
+        return Err(ImageFilesError::Damaged(fault));
     }
     let image = LentImage::new(image);
     if !is_there(&image, file) {
-        return Err(ShelfError::Refused(FileRefusal::NoFile));
+        return Err(ImageFilesError::Refused(FileRefusal::NoFile));
     }
     match bytes_of(alloc, &image, file) {
         Ok(bytes) => Ok(bytes),
-        Err(_) => Err(ShelfError::OutOfMemory),
+        Err(_) => Err(ImageFilesError::OutOfMemory),
     }
 }
 
-/// The bytes of a file of a sound disk; refused for want of memory.
+/// The bytes of a file of a sound disk; refused if out of memory.
 fn bytes_of(alloc: Global, image: &LentImage<'_>, file: &FileName) -> Result<Vec<u8>, AllocError>
     requires { IsSoundDisk image.now }
     ensures { IfOk result (λ bytes. AreBytesOf image.now file.now.user file.now.name bytes.items) }

@@ -16,10 +16,10 @@ pub mod renaming;
 pub mod text;
 
 pub use getting::get;
-pub use listing::{DiskFile, Shelf, list};
+pub use listing::{DiskFile, DiskListing, list};
 pub use name::FileName;
 pub use putting::put;
-pub use refusal::{FileRefusal, ShelfError};
+pub use refusal::{FileRefusal, ImageFilesError};
 pub use removing::remove;
 pub use renaming::rename;
 pub use text::{from_text, to_text};

@@ -5,7 +5,7 @@ ghost use Rattle.std.specs.List.{list_any};
 ghost use Rattle.cpm_geom.specs.Geometry.{dpb_of};
 ghost use Rattle.cpm_directory.specs.Directory.{entries_of};
 ghost use Rattle.cpm_directory.specs.Login.{reserved_at_login};
-ghost use Rattle.cpm_image_files.specs.Shelf.{IsSoundDisk};
+ghost use Rattle.cpm_image_files.specs.ImageFiles.{IsSoundDisk};
 ghost use Rattle.cpm_image_files.specs.Appending.{unreserved};
 ghost use Rattle.cpm_volume.specs.Files.{deleted};
 ghost use Rattle.cpm_image_files.specs.Taken.{HasRecords};
@@ -13,7 +13,7 @@ ghost use Rattle.cpm_image_files.specs.Listing.{lists, AreListed, IsListed, IsLi
 
 use crate::needs::count_free;
 use crate::records::{is_of_file, record_count};
-use crate::refusal::ShelfError;
+use crate::refusal::ImageFilesError;
 use cpm_directory::directory::DELETED;
 use cpm_directory::{LentImage, login, well_formed};
 use cpm_geom::Image;
@@ -32,32 +32,32 @@ pub struct DiskFile {
 
 /// The files of a disk, and how many of its blocks are free.
 #[derive(Drop)]
-pub struct Shelf {
+pub struct DiskListing {
     pub files: Vec<DiskFile>,
     pub free_blocks: u16,
 }
 
-/// The files of a disk, each once, in the order of their first entries. Refused where the disk is damaged, and for want of
+/// The files of a disk, each once, in the order of their first entries. Refused where the disk is damaged, and if out of
 /// memory.
-pub fn list(alloc: Global, image: &Image) -> Result<Shelf, ShelfError>
+pub fn list(alloc: Global, image: &Image) -> Result<DiskListing, ImageFilesError>
     ensures { MatchResult result
-        (λ shelf. IsListed image.now shelf)
+        (λ listing. IsListed image.now listing)
         (λ e. IsListRefusal image.now e) }
 {
     if let Err(fault) = well_formed(image) {
-        return Err(ShelfError::Damaged(fault));
+        return Err(ImageFilesError::Damaged(fault));
     }
     let image = LentImage::new(image);
     match files_of(alloc, &image) {
-        Ok(files) => Ok(Shelf {
+        Ok(files) => Ok(DiskListing {
             files,
             free_blocks: free_blocks(&image),
         }),
-        Err(_) => Err(ShelfError::OutOfMemory),
+        Err(_) => Err(ImageFilesError::OutOfMemory),
     }
 }
 
-/// The files of a sound disk; refused for want of memory.
+/// The files of a sound disk; refused if out of memory.
 fn files_of(alloc: Global, image: &LentImage<'_>) -> Result<Vec<DiskFile>, AllocError>
     requires { IsSoundDisk image.now }
     ensures { IfOk result (λ files. AreListed image.now (length (entries_of image.now)) files.items) }

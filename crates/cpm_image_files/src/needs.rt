@@ -6,7 +6,7 @@ ghost use Rattle.cpm_geom.specs.Geometry.{dpb_of};
 ghost use Rattle.cpm_geom.specs.Disk.{IsDisk};
 ghost use Rattle.cpm_volume.specs.Names.{protects};
 ghost use Rattle.cpm_directory.specs.Directory.{entries_of};
-ghost use Rattle.cpm_image_files.specs.Shelf.{records_for, blocks_for, entries_for, free_entries, free_blocks, file_refusal_of, is_free_for};
+ghost use Rattle.cpm_image_files.specs.ImageFiles.{records_for, blocks_for, entries_for, free_entries, free_blocks, file_refusal_of, is_free_for};
 
 use crate::name::FileName;
 use crate::refusal::FileRefusal;
@@ -32,7 +32,7 @@ pub(crate) fn records_for(bytes: &[u8]) -> usize
 }
 
 /// Why a file of so many records is not put on a disk: the first reason that there is.
-#[tactic(auto, unfolding(crate::specs::Shelf::file_refusal_of))]
+#[tactic(auto, unfolding(crate::specs::ImageFiles::file_refusal_of))]
 pub(crate) fn file_refusal_of(
     image: &LentImage<'_>,
     file: &FileName,
@@ -114,7 +114,7 @@ fn is_free_for(file: &FileName, entry: &Entry) -> bool
 }
 
 /// How many blocks are free for a file: those not in use, and its own.
-#[tactic(auto, unfolding(crate::specs::Shelf::free_blocks))]
+#[tactic(auto, unfolding(crate::specs::ImageFiles::free_blocks))]
 fn free_blocks(image: &LentImage<'_>, file: &FileName) -> usize
     ensures { result ≡ free_blocks (dpb_of image.now.format) file.now.user file.now.name (entries_of image.now) }
 {

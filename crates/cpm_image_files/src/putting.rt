@@ -7,13 +7,13 @@ ghost use Rattle.cpm_volume.specs.Encoding.{AreBytes};
 ghost use Rattle.cpm_directory.specs.Directory.{entries_of};
 ghost use Rattle.cpm_directory.specs.Login.{reserved_at_login};
 ghost use Rattle.cpm_drive.specs.Laws.{IsWritable};
-ghost use Rattle.cpm_image_files.specs.Shelf.{record_of_bytes, records_for, file_refusal_of, IsSoundDisk, IsPut, IsPutRefusal};
+ghost use Rattle.cpm_image_files.specs.ImageFiles.{record_of_bytes, records_for, file_refusal_of, IsSoundDisk, IsPut, IsPutRefusal};
 ghost use Rattle.cpm_image_files.specs.Writing.{HasRoomForFile, IsWriting, new_fcb};
 
 use crate::copies::of_bytes;
 use crate::name::FileName;
 use crate::needs::{RECORD_SIZE, file_refusal_of, records_for};
-use crate::refusal::ShelfError;
+use crate::refusal::ImageFilesError;
 use cpm_directory::{LentImage, well_formed};
 use cpm_drive::Drive;
 use cpm_geom::Image;
@@ -25,20 +25,25 @@ const FILLER: u8 = 0x1A;
 
 /// The disk with a file of these bytes on it, in place of the one of its name if there is one. The image is only looked
 /// at. A disk that is damaged is refused, and one that has no room for the file, before any work is done.
-pub fn put(alloc: Global, image: &Image, file: &FileName, bytes: &[u8]) -> Result<Image, ShelfError>
+pub fn put(
+    alloc: Global,
+    image: &Image,
+    file: &FileName,
+    bytes: &[u8],
+) -> Result<Image, ImageFilesError>
     ensures { MatchResult result
         (λ new. IsPut image.now file.now.user file.now.name bytes.now new)
         (λ e. IsPutRefusal image.now file.now.user file.now.name (records_for (length bytes.now)) e) }
 {
     if let Err(fault) = well_formed(image) {
-        return Err(ShelfError::Damaged(fault));
+        return Err(ImageFilesError::Damaged(fault));
     }
     if let Some(refusal) = file_refusal_of(&LentImage::new(image), file, records_for(bytes)) {
-        return Err(ShelfError::Refused(refusal));
+        return Err(ImageFilesError::Refused(refusal));
     }
     match image.copy(alloc) {
         Ok(copy) => Ok(written(copy, file, bytes)),
-        Err(_) => Err(ShelfError::OutOfMemory),
+        Err(_) => Err(ImageFilesError::OutOfMemory),
     }
 }
 

@@ -7,7 +7,7 @@ ghost use Rattle.cpm_geom.specs.Disk.{records_of};
 ghost use Rattle.cpm_volume.specs.Files.{deleted, same_name, extent_number, group_of, is_of, record_count_of, map_place, entry_block, drive_record, record_in};
 ghost use Rattle.cpm_volume.specs.Names.{is_named};
 ghost use Rattle.cpm_directory.specs.Directory.{entries_of};
-ghost use Rattle.cpm_image_files.specs.Shelf.{IsSoundDisk};
+ghost use Rattle.cpm_image_files.specs.ImageFiles.{IsSoundDisk};
 ghost use Rattle.cpm_image_files.specs.Reach.{is_of_file, IsEnd, IsEntryOf, block_by, IsOnDrive};
 ghost use Rattle.cpm_image_files.specs.Taken.{HasRecords, taken_record};
 
@@ -173,7 +173,7 @@ fn record_in(image: &LentImage<'_>, block: u16, number: u32) -> [u8; 128]
     record
 }
 
-/// The number behind the last record that an entry has a block for; 0 where it has none.
+/// The number after the last record that an entry has a block for; 0 where it has none.
 fn end_of(format: Format, entry: &Entry) -> u32
     ensures end { IsEnd (dpb_of format) entry.now result }
     ensures small { result ≤ 65536 }

@@ -25,7 +25,7 @@ pub enum FileRefusal {
 
 /// Why nothing is done.
 #[derive(Clone, Copy, Debug, PartialEq, Eq, Drop, Error)]
-pub enum ShelfError {
+pub enum ImageFilesError {
     /// The disk's directory doesn't agree with itself.
     #[error("{0}")]
     Damaged(DriveFault),

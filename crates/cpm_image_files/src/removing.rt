@@ -3,35 +3,35 @@
 ghost use Rattle.std.specs.Prelude.{MatchOption, MatchResult};
 ghost use Rattle.cpm_geom.specs.Disk.{IsDisk};
 ghost use Rattle.cpm_drive.specs.Laws.{HasBytes};
-ghost use Rattle.cpm_image_files.specs.Shelf.{IsSoundDisk};
+ghost use Rattle.cpm_image_files.specs.ImageFiles.{IsSoundDisk};
 ghost use Rattle.cpm_image_files.specs.Taken.{IsRemovable, IsRemoved, IsRemovalReason, IsRemovalRefusal};
 
 use crate::copies::copy_of;
 use crate::name::FileName;
 use crate::needs::is_protected;
 use crate::records::is_there;
-use crate::refusal::{FileRefusal, ShelfError};
+use crate::refusal::{FileRefusal, ImageFilesError};
 use cpm_directory::{LentImage, well_formed};
 use cpm_drive::Drive;
 use cpm_geom::Image;
 use std::alloc::Global;
 
 /// The disk without a file, exactly as DELETE FILE leaves it. The image is only looked at. Refused where the disk is damaged,
-/// where it has no such file and where an entry of the file is read-only, and where nothing is against it for want of memory.
-pub fn remove(alloc: Global, image: &Image, file: &FileName) -> Result<Image, ShelfError>
+/// where it has no such file, where an entry of the file is read-only, and else if out of memory.
+pub fn remove(alloc: Global, image: &Image, file: &FileName) -> Result<Image, ImageFilesError>
     ensures { MatchResult result
         (λ new. IsRemoved image.now file.now.user file.now.name new)
         (λ e. IsRemovalRefusal image.now file.now.user file.now.name e) }
 {
     if let Err(fault) = well_formed(image) {
-        return Err(ShelfError::Damaged(fault));
+        return Err(ImageFilesError::Damaged(fault));
     }
     if let Some(refusal) = refusal_of(&LentImage::new(image), file) {
-        return Err(ShelfError::Refused(refusal));
+        return Err(ImageFilesError::Refused(refusal));
     }
     match copy_of(alloc, image) {
         Ok(copy) => Ok(without(copy, file)),
-        Err(_) => Err(ShelfError::OutOfMemory),
+        Err(_) => Err(ImageFilesError::OutOfMemory),
     }
 }
 

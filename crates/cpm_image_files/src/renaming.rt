@@ -8,14 +8,14 @@ ghost use Rattle.cpm_volume.specs.Files.{same_name};
 ghost use Rattle.cpm_volume.specs.Names.{is_named, first_named, with_attributes};
 ghost use Rattle.cpm_directory.specs.Directory.{entries_of};
 ghost use Rattle.cpm_drive.specs.Laws.{HasBytes};
-ghost use Rattle.cpm_image_files.specs.Shelf.{IsSoundDisk};
+ghost use Rattle.cpm_image_files.specs.ImageFiles.{IsSoundDisk};
 ghost use Rattle.cpm_image_files.specs.Taken.{kept_name, IsRenamable, IsRenamed, IsRenameReason, IsRenameRefusal};
 
 use crate::copies::copy_of;
 use crate::name::FileName;
 use crate::needs::is_protected;
 use crate::records::{is_same_name, is_there};
-use crate::refusal::{FileRefusal, ShelfError};
+use crate::refusal::{FileRefusal, ImageFilesError};
 use cpm_directory::{LentImage, is_named, well_formed};
 use cpm_drive::Drive;
 use cpm_geom::Image;
@@ -23,28 +23,28 @@ use std::alloc::Global;
 
 /// The disk with a file under another name of its user, exactly as RENAME FILE leaves it. The file keeps its attributes, those
 /// of its first entry; the new name's count for nothing. The image is only looked at. Refused, in this order, where the disk is
-/// damaged, where it has no such file, where another has the new name and where an entry of the file is read-only, and where
-/// nothing is against it for want of memory.
+/// damaged, where it has no such file, where another has the new name, where an entry of the file is read-only, and
+/// else if out of memory.
 pub fn rename(
     alloc: Global,
     image: &Image,
     file: &FileName,
     name: &FileName,
-) -> Result<Image, ShelfError>
+) -> Result<Image, ImageFilesError>
     requires { name.now.user ≡ file.now.user }
     ensures { MatchResult result
         (λ new. IsRenamed image.now file.now.user file.now.name name.now.name new)
         (λ e. IsRenameRefusal image.now file.now.user file.now.name name.now.name e) }
 {
     if let Err(fault) = well_formed(image) {
-        return Err(ShelfError::Damaged(fault));
+        return Err(ImageFilesError::Damaged(fault));
     }
     if let Some(refusal) = refusal_of(&LentImage::new(image), file, name) {
-        return Err(ShelfError::Refused(refusal));
+        return Err(ImageFilesError::Refused(refusal));
     }
     match copy_of(alloc, image) {
         Ok(copy) => Ok(renamed(copy, file, name)),
-        Err(_) => Err(ShelfError::OutOfMemory),
+        Err(_) => Err(ImageFilesError::OutOfMemory),
     }
 }
 

@@ -14,7 +14,7 @@ const END_OF_FILE: u8 = 0x1A;
 
 /// A text as CP/M's programs want it: each line feed that follows no carriage return gets one, and nothing else changes.
 /// No end of file is added. `put` fills the last record up with it; where the length is a multiple of a record's there is
-/// none, and CP/M's programs take the end of the records for the end of the text. Refused for want of memory.
+/// none, and CP/M's programs take the end of the records for the end of the text. Refused if out of memory.
 pub fn to_text(alloc: Global, bytes: &[u8]) -> Result<Vec<u8>, AllocError>
     ensures { IfOk result (λ text. text.items ≡ to_text bytes.now) }
 {
@@ -31,7 +31,7 @@ pub fn to_text(alloc: Global, bytes: &[u8]) -> Result<Vec<u8>, AllocError>
 }
 
 /// A text as a host wants it: up to the first end of file if there is one, without the carriage return of each line's
-/// end. Refused for want of memory.
+/// end. Refused if out of memory.
 pub fn from_text(alloc: Global, bytes: &[u8]) -> Result<Vec<u8>, AllocError>
     ensures { IfOk result (λ text. text.items ≡ from_text bytes.now) }
 {

@@ -4,9 +4,9 @@ use Rattle.std.proofs.Math.Facts.{leb_yes, and_yes}
 use Rattle.std.proofs.Math.Dec.{T}
 use Rattle.cpm_decode.specs.declared.operation.Decoded.{Decoded}
 use Rattle.cpm_decode.specs.Pattern.{fits_pattern}
-use Rattle.cpm_decode.specs.Rows8080.{Row, rows8080, first_row, decoded_by, decoded8080}
+use Rattle.cpm_decode.specs.Rows8080.{Row8080, rows8080, first_row, decoded_by, decoded8080}
 
-abbrev are_short : List Row → Bool
+abbrev are_short : List Row8080 → Bool
 are_short [] = true
 are_short (r ∷ rows) = leb r.length 3 && are_short rows
 
@@ -14,7 +14,7 @@ abbrev IsShort : Option Decoded → Type 0
 IsShort (Some d) = d.length ≤ 3
 IsShort None = Unit {0}
 
-first_is_short : (rows : List Row) (opcode low high : ℕ) → T (are_short rows) → IsShort (first_row rows opcode low high)
+first_is_short : (rows : List Row8080) (opcode low high : ℕ) → T (are_short rows) → IsShort (first_row rows opcode low high)
 first_is_short [] opcode low high h = tt
 first_is_short (r ∷ rows) opcode low high h =
     let both = and_yes (leb r.length 3) (are_short rows) h in

@@ -4,14 +4,14 @@ use Rattle.std.proofs.Math.Facts.{leb_yes, and_yes}
 use Rattle.std.proofs.Math.Dec.{T}
 use Rattle.cpm_decode.specs.declared.operation.Decoded.{Decoded}
 use Rattle.cpm_decode.specs.Pattern.{fits_pattern}
-use Rattle.cpm_decode.specs.Rows8080.{Row, rows8080, first_row, decoded_by, decoded8080}
+use Rattle.cpm_decode.specs.Rows8080.{Row8080, rows8080, first_row, decoded_by, decoded8080}
 use Rattle.cpm_listing.specs.Instruction.{length_of}
 
-abbrev have_bytes : List Row → Bool
+abbrev have_bytes : List Row8080 → Bool
 have_bytes [] = true
 have_bytes (r ∷ rows) = leb 1 r.length && have_bytes rows
 
-first_has : (rows : List Row) (opcode low high : ℕ) → T (have_bytes rows) → 1 ≤ length_of (first_row rows opcode low high)
+first_has : (rows : List Row8080) (opcode low high : ℕ) → T (have_bytes rows) → 1 ≤ length_of (first_row rows opcode low high)
 first_has [] opcode low high h = leb_yes tt
 first_has (r ∷ rows) opcode low high h =
     let both = and_yes (leb 1 r.length) (have_bytes rows) h in

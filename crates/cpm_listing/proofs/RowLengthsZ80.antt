@@ -8,7 +8,7 @@ use Rattle.cpm_decode.specs.declared.operation_z80.IndexRegister.{IndexRegister}
 use Rattle.cpm_decode.specs.declared.operation_z80.IndexRegister.TheVariants.{Ix, Iy}
 use Rattle.cpm_decode.specs.declared.operation_z80.DecodedZ80.{DecodedZ80}
 use Rattle.cpm_decode.specs.Pattern.{fits_pattern, field}
-use Rattle.cpm_decode.specs.Rows8080.{Row, rows8080, first_row, decoded_by, decoded8080}
+use Rattle.cpm_decode.specs.Rows8080.{Row8080, rows8080, first_row, decoded_by, decoded8080}
 use Rattle.cpm_decode.specs.PageZ80.{RowZ80, first_row_z80, decoded_with}
 use Rattle.cpm_decode.specs.RowsZ80Bits.{bit_rows, indexed_bit_rows, decoded_bits, decoded_indexed_bits}
 use Rattle.cpm_decode.specs.RowsZ80Extended.{extended_rows, decoded_extended}
@@ -29,11 +29,11 @@ abbrev Has : (ℕ → Bool) → Option Decoded → Type 0
 Has test (Some d) = T (test d.length)
 Has test None = Unit {0}
 
-abbrev all_have : (ℕ → Bool) → List Row → Bool
+abbrev all_have : (ℕ → Bool) → List Row8080 → Bool
 all_have test [] = true
 all_have test (r ∷ rows) = test r.length && all_have test rows
 
-first_has : (test : ℕ → Bool) (rows : List Row) (opcode low high : ℕ) → T (all_have test rows) → Has test (first_row rows opcode low high)
+first_has : (test : ℕ → Bool) (rows : List Row8080) (opcode low high : ℕ) → T (all_have test rows) → Has test (first_row rows opcode low high)
 first_has test [] opcode low high h = tt
 first_has test (r ∷ rows) opcode low high h =
     let both = and_yes (test r.length) (all_have test rows) h in

@@ -13,7 +13,7 @@ two_digits n = hexadecimal (n / 16) ∷ hexadecimal (n % 16) ∷ []
 unfoldable pub four_digits : ℕ → List ℕ
 four_digits n = two_digits (n / 256) ++ two_digits (n % 256)
 
--- each byte in two digits behind a space
+-- each byte in two digits after a space
 abbrev pub behind_spaces : List ℕ → List ℕ
 behind_spaces [] = []
 behind_spaces (b ∷ bs) = 0x20 ∷ two_digits b ++ behind_spaces bs
@@ -23,6 +23,6 @@ unfoldable pub spaced : List ℕ → List ℕ
 spaced [] = []
 spaced (b ∷ bs) = two_digits b ++ behind_spaces bs
 
--- a text at the left of so many places, spaces behind it
+-- a text at the left of so many places, spaces after it
 unfoldable pub padded : ℕ → List ℕ → List ℕ
 padded places text = text ++ replicate (places - length text) 0x20

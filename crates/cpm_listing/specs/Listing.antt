@@ -50,7 +50,7 @@ operands_of (op.Input port) = byte_number port
 operands_of (op.Output port) = byte_number port
 operands_of _ = []
 
--- a name alone, or in four places with its operands behind a space
+-- a name alone, or in four places with its operands after a space
 unfoldable pub statement : List ℕ → List ℕ → List ℕ
 statement name [] = name
 statement name (c ∷ cs) = padded 4 name ++ codes " " ++ c ∷ cs

@@ -44,7 +44,7 @@ stack_pair_name stack_pair.De = codes "D"
 stack_pair_name stack_pair.Hl = codes "H"
 stack_pair_name stack_pair.Psw = codes "PSW"
 
--- a condition, which stands behind the J, C or R of its instruction
+-- a condition, which stands after the J, C or R of its instruction
 -- Intel 8080 Assembly Language Programming Manual, "Jump Instructions"
 abbrev pub condition_name : Condition → List ℕ
 condition_name condition.NotZero = codes "NZ"

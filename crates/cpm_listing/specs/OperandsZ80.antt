@@ -34,7 +34,7 @@ displacement_number d = (if nat_lt d 0x80 then codes "+" ++ two_digits d else co
 unfoldable pub at_index : IndexRegister → ℕ → List ℕ
 at_index i d = in_parentheses (index_name i ++ displacement_number d)
 
--- where a relative jump goes: the address behind its instruction and the displacement, a two's complement integer
+-- where a relative jump goes: the address after its instruction and the displacement, a two's complement integer
 -- Zilog Z80 CPU User Manual, "JR e"
 unfoldable pub relative_target : ℕ → ℕ → ℕ
 relative_target behind d = (if nat_lt d 0x80 then behind + d else behind + 0xFF00 + d) % 0x10000

@@ -5,7 +5,7 @@ use Rattle.cpm_flags.specs.declared.regs.Regs.{Regs}
 use Rattle.cpm_flags.specs.FlagByte.{packed}
 use Rattle.cpm_listing.specs.Digits.{two_digits, four_digits}
 
--- a pair of registers behind its name
+-- a pair of registers after its name
 unfoldable pub named_pair : List ℕ → ℕ → ℕ → List ℕ
 named_pair name high low = name ++ two_digits high ++ two_digits low
 

@@ -90,7 +90,7 @@ pub(crate) fn add_padded(line: &mut ListingLine, text: &str, places: usize)
     }
 }
 
-/// Adds each byte in two digits behind a space.
+/// Adds each byte in two digits after a space.
 fn add_behind_spaces(line: &mut ListingLine, bytes: &[u8])
     requires { length line.old.bytes + 3 * length bytes.now ≤ 96 }
     ensures text { line.new.bytes ≡ line.old.bytes ++ behind_spaces bytes.now }

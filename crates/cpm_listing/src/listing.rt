@@ -8,7 +8,7 @@ use crate::operands::{add_byte_number, add_operands};
 use arrayvec::ArrayString;
 use cpm_decode::{Decoded, row8080};
 
-/// Adds a name alone, or in four places with its operands behind a space.
+/// Adds a name alone, or in four places with its operands after a space.
 #[tactic(auto, unfolding(crate::specs::Listing::statement))]
 fn add_statement(line: &mut ListingLine, name: &str, operands: &str)
     requires short { length name.now ≤ 4 }

@@ -90,7 +90,7 @@ fn add_at_index(line: &mut ListingLine, index: IndexRegister, displacement: u8)
     add_text(line, ")");
 }
 
-/// Where a relative jump goes, by the address behind its instruction.
+/// Where a relative jump goes, by the address after its instruction.
 #[tactic(auto, unfolding(crate::specs::OperandsZ80::relative_target))]
 fn relative_target(behind: u16, displacement: u8) -> u16
     ensures { result ≡ relative_target behind displacement }

@@ -7,7 +7,7 @@ use arrayvec::ArrayString;
 use cpm_flags::{Cpu, Regs, pack};
 use itoa::Buffer;
 
-/// Adds a pair of registers behind its name.
+/// Adds a pair of registers after its name.
 #[tactic(auto, unfolding(crate::specs::Registers::named_pair))]
 fn add_pair(line: &mut ListingLine, name: &str, high: u8, low: u8)
     requires { length line.old.bytes + length name.now + 4 ≤ 96 }

@@ -14,7 +14,7 @@ use Rattle.cpm_machine.specs.declared.trap.Trap.{Trap}
 use Rattle.cpm_machine.specs.declared.trap.Trap.TheVariants.{CommandProcessor, Bdos, Bios}
 use Rattle.cpm_machine.specs.Trap.{trap_at}
 use Rattle.cpm_machine.specs.MachineState.{MachineState}
-use Rattle.cpm_machine.specs.Step.{Part, part, part_in, at_trap, by_call, after_part, step_if, is_running, step, after}
+use Rattle.cpm_machine.specs.Step.{PartResult, part, part_in, at_trap, by_call, after_part, step_if, is_running, step, after}
 use Rattle.cpm_machine.specs.Serve.{executed, taken, taken_list, takes_key, keyed}
 use Rattle.cpm_machine.specs.Alone.{alone}
 use Rattle.cpm_machine.specs.Calls.{Call, Key, Grant, GrantUntil, Take, TakeList, LookAt, Peek, Account, no_account, served_key, serve, entered, state_after, account_after, state_behind}
@@ -22,7 +22,7 @@ use Rattle.cpm_machine.specs.Until.{executed_until}
 use Rattle.cpm_machine.proofs.PressLaws.{AllCame, with_keys-nil, alone-add, alone-pressed, AllCame-pressed, AllCame-later}
 
 module _ (system : Disk) (p q : List ℕ) where
-  part_behind : Part → Part
+  part_behind : PartResult → PartResult
   part_behind x = record x { session = session_behind p q x.session }
 
   at_trap-behind : (cpu : Cpu) (with_program : Bool) (t : Option Trap) (s : Session) (m : Contents) → at_trap system cpu with_program t (session_behind p q s) m ≡ part_behind (at_trap system cpu with_program t s m)

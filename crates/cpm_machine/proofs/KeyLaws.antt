@@ -13,10 +13,10 @@ use Rattle.cpm_machine.specs.declared.trap.Trap.{Trap}
 use Rattle.cpm_machine.specs.declared.trap.Trap.TheVariants.{CommandProcessor, Bdos, Bios}
 use Rattle.cpm_machine.specs.Trap.{trap_at}
 use Rattle.cpm_machine.specs.MachineState.{MachineState}
-use Rattle.cpm_machine.specs.Step.{Part, part, part_in, at_trap, step_if, is_running, step}
+use Rattle.cpm_machine.specs.Step.{PartResult, part, part_in, at_trap, step_if, is_running, step}
 use Rattle.cpm_machine.specs.Laws.{KeysLeave, KeysFromFront}
 
-abbrev Takes : Session → Part → Type 0
+abbrev Takes : Session → PartResult → Type 0
 Takes s x = IsFromFront s.console.keys x.session.console.keys
 
 takes_trap : (system : Disk) (cpu : Cpu) (with_program : Bool) (t : Option Trap) (s : Session) (m : Contents) → Takes s (at_trap system cpu with_program t s m)

@@ -23,14 +23,14 @@ use Rattle.cpm_machine.specs.declared.trap.Trap.{Trap}
 use Rattle.cpm_machine.specs.declared.trap.Trap.TheVariants.{CommandProcessor, Bdos, Bios}
 use Rattle.cpm_machine.specs.Trap.{trap_at}
 use Rattle.cpm_machine.specs.MachineState.{MachineState}
-use Rattle.cpm_machine.specs.Step.{Part, part, part_in, at_trap, by_call, step_if, is_running, step}
+use Rattle.cpm_machine.specs.Step.{PartResult, part, part_in, at_trap, by_call, step_if, is_running, step}
 use Rattle.cpm_machine.specs.Laws.{IsStepBounded}
 
 few_stores : (cpu : Cpu) (m : Contents) (regs : Regs) → length (effect_at cpu m regs).stores ≤ 2
 few_stores I8080 m regs = few_stores_8080 m regs
 few_stores Z80 m regs = few_stores_z80 m regs
 
-record IsBoundedPart (s : Session) (m : Contents) (x : Part) : Type 0 where
+record IsBoundedPart (s : Session) (m : Contents) (x : PartResult) : Type 0 where
   pages : touched_of x.memory ≤ touched_of m + 8
   output : IsWithin 4096 s.console x.session.console
 

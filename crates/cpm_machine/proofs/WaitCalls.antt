@@ -5,7 +5,7 @@ use Rattle.std.proofs.lemmas.Bool.Decides.{nat_tests}
 use Rattle.cpm_flags.specs.declared.regs.Cpu.{Cpu}
 use Rattle.cpm_geom.specs.Disk.{Disk}
 use Rattle.cpm_memory.specs.Contents.{Contents}
-use Rattle.cpm_bdos.specs.Did.{Did, did}
+use Rattle.cpm_bdos.specs.StepResult.{StepResult, did}
 use Rattle.cpm_bdos.specs.Step.{bdos, bios}
 use Rattle.cpm_bdos.specs.Function.{function_of}
 use Rattle.cpm_bdos.specs.Keys.{first_key}
@@ -24,7 +24,7 @@ use Rattle.cpm_machine.specs.declared.trap.Trap.TheVariants.{CommandProcessor, B
 use Rattle.cpm_machine.specs.Trap.{trap_at}
 use Rattle.cpm_machine.specs.MachineState.{MachineState}
 use Rattle.cpm_machine.specs.Serve.{look_of}
-use Rattle.cpm_machine.specs.Step.{Part, part, part_in, at_trap, instruction, by_call, part_made, after_part, step_if, is_running, step}
+use Rattle.cpm_machine.specs.Step.{PartResult, part, part_in, at_trap, instruction, by_call, part_made, after_part, step_if, is_running, step}
 use Rattle.cpm_machine.specs.Waits.{call_at, call_of, is_wait, is_waiting_call, WaitsWhereItSays}
 
 went-waits : (w : Went) → (w ≡ Waits → ⊥) → false ≡ is_wait w
@@ -34,12 +34,12 @@ went-waits GoesOn never = refl
 went-waits Reboot never = refl
 
 -- a call waits where it does nothing but wait, and else not
-wait-same : (waits : Bool) (s : Session) (m : Contents) (d : Did) → (waits ≡ true → d ≡ did s m Waits) → (waits ≡ false → d.went ≡ Waits → ⊥) → waits ≡ is_wait d.went
-wait-same true s m d still never = sym (ap (λ (x : Did). is_wait x.went) (still refl))
+wait-same : (waits : Bool) (s : Session) (m : Contents) (d : StepResult) → (waits ≡ true → d ≡ did s m Waits) → (waits ≡ false → d.went ≡ Waits → ⊥) → waits ≡ is_wait d.went
+wait-same true s m d still never = sym (ap (λ (x : StepResult). is_wait x.went) (still refl))
 wait-same false s m d still never = went-waits d.went (never refl)
 
 -- a step of a call of the BDOS or the BIOS
-call-waits : (system : Disk) (s : Session) (m : Contents) (d : Did) → is_command s.mode ≡ false → call_now system s m ≡ Some d → is_waiting s m ≡ is_wait d.went
+call-waits : (system : Disk) (s : Session) (m : Contents) (d : StepResult) → is_command s.mode ≡ false → call_now system s m ≡ Some d → is_waiting s m ≡ is_wait d.went
 call-waits system s m d plain h =
     wait-same (is_waiting s m) s m d
     (λ waits. let e : Some d ≡ Some (did s m Waits) = sym h ∙ (IsWaiting-now s m).changes_nothing waits plain system in cc)
@@ -100,14 +100,14 @@ call-waits_in system with_program Fault s m e = call-waits system s m (bdos syst
 
 -- ---- the step is that call
 
-trap-part : (system : Disk) (cpu : Cpu) (with_program : Bool) (t : Option Trap) (s : Session) (m : Contents) (d : Did) → call_at system with_program t s m ≡ Some d → at_trap system cpu with_program t s m ≡ by_call d
+trap-part : (system : Disk) (cpu : Cpu) (with_program : Bool) (t : Option Trap) (s : Session) (m : Contents) (d : StepResult) → call_at system with_program t s m ≡ Some d → at_trap system cpu with_program t s m ≡ by_call d
 trap-part system cpu with_program None s m d h = absurd cc
 trap-part system cpu true (Some CommandProcessor) s m d h = absurd cc
 trap-part system cpu false (Some CommandProcessor) s m d h = let same : ccp system s m ≡ d = cc in ap by_call same
 trap-part system cpu with_program (Some Bdos) s m d h = let same : bdos system s m ≡ d = cc in ap by_call same
 trap-part system cpu with_program (Some (Bios number)) s m d h = let same : bios number system s m ≡ d = cc in ap by_call same
 
-call-part : (system : Disk) (cpu : Cpu) (with_program : Bool) (mode : Mode) (s : Session) (m : Contents) (d : Did) → call_of system with_program mode s m ≡ Some d → part_in system cpu with_program mode s m ≡ by_call d
+call-part : (system : Disk) (cpu : Cpu) (with_program : Bool) (mode : Mode) (s : Session) (m : Contents) (d : StepResult) → call_of system with_program mode s m ≡ Some d → part_in system cpu with_program mode s m ≡ by_call d
 call-part system cpu with_program Program s m d h = trap-part system cpu with_program (trap_at s.regs.pc) s m d h
 call-part system cpu with_program (Command part) s m d h = let same : ccp system s m ≡ d = cc in ap by_call same
 call-part system cpu with_program (Text next) s m d h = let same : bdos system s m ≡ d = cc in ap by_call same
@@ -132,7 +132,7 @@ call-other system cpu with_program Fault s m h = absurd cc
 
 -- ---- the machine
 
-step-is : (system : Disk) (s : MachineState) (p : Part) → is_running s.ended ≡ true → part_in system s.cpu s.with_program s.session.mode s.session s.memory ≡ p → step system s ≡ after_part s p
+step-is : (system : Disk) (s : MachineState) (p : PartResult) → is_running s.ended ≡ true → part_in system s.cpu s.with_program s.session.mode s.session s.memory ≡ p → step system s ≡ after_part s p
 unfolding step part
 step-is system s p runs e = ap (λ b. step_if system b s) runs ∙ ap (after_part s) e
 
@@ -144,7 +144,7 @@ look-waits : (s : MachineState) (runs : Bool) → is_running s.ended ≡ runs �
 unfolding look_of
 look-waits s runs e = ap (λ b. b && is_waiting s.session s.memory) e
 
-either-step : (system : Disk) (s : MachineState) (p q : Part) (x : Part) → (step system s ≡ after_part s x) → (x ≡ p) ⊎ (x ≡ q) → (step system s ≡ after_part s p) ⊎ (step system s ≡ after_part s q)
+either-step : (system : Disk) (s : MachineState) (p q : PartResult) (x : PartResult) → (step system s ≡ after_part s x) → (x ≡ p) ⊎ (x ≡ q) → (step system s ≡ after_part s p) ⊎ (step system s ≡ after_part s q)
 either-step system s p q x e (inl h) = inl (e ∙ ap (after_part s) h)
 either-step system s p q x e (inr h) = inr (e ∙ ap (after_part s) h)
 

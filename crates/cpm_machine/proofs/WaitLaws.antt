@@ -9,7 +9,7 @@ use Rattle.cpm_geom.specs.Disk.{Disk}
 use Rattle.cpm_memory.specs.Contents.{Contents, touched_of}
 use Rattle.cpm_memory.specs.Room.{HasRoom}
 use Rattle.cpm_console.specs.Terminal.{has_room}
-use Rattle.cpm_bdos.specs.Did.{Did, did}
+use Rattle.cpm_bdos.specs.StepResult.{StepResult, did}
 use Rattle.cpm_bdos.specs.Step.{bdos, bios}
 use Rattle.cpm_bdos.specs.Waiting.{is_waiting, call_in, is_command}
 use Rattle.cpm_bdos.proofs.WaitLaws.{IsWaiting-now}
@@ -29,7 +29,7 @@ use Rattle.cpm_machine.specs.Runner.{IsRunnerSound, IsRun}
 use Rattle.cpm_machine.specs.Step.{part, part_in, at_trap, by_call, part_made, end_of, after_part, step_if, is_running, step, after, can_step}
 
 -- the call that PC names is that of the trap there
-call-at_trap : (system : Disk) (cpu : Cpu) (with_program : Bool) (s : Session) (m : Contents) (d : Did) → call_in Program system s m ≡ Some d → at_trap system cpu with_program (trap_at s.regs.pc) s m ≡ by_call d
+call-at_trap : (system : Disk) (cpu : Cpu) (with_program : Bool) (s : Session) (m : Contents) (d : StepResult) → call_in Program system s m ≡ Some d → at_trap system cpu with_program (trap_at s.regs.pc) s m ≡ by_call d
 unfolding trap_at
 call-at_trap system cpu with_program s m d = by_tests s.regs.pc (s.regs.pc == 58374) (s.regs.pc == 60422) (nat_le 64256 s.regs.pc && nat_le s.regs.pc 64272) refl refl refl
   where
@@ -44,7 +44,7 @@ call-at_trap system cpu with_program s m d = by_tests s.regs.pc (s.regs.pc == 58
     by_tests pc false false false ea eb ec h = absurd cc
 
 -- and in the other modes it is the BDOS's
-call-part_in : (system : Disk) (cpu : Cpu) (with_program : Bool) (mode : Mode) (s : Session) (m : Contents) (d : Did) → call_in mode system s m ≡ Some d → part_in system cpu with_program mode s m ≡ by_call d
+call-part_in : (system : Disk) (cpu : Cpu) (with_program : Bool) (mode : Mode) (s : Session) (m : Contents) (d : StepResult) → call_in mode system s m ≡ Some d → part_in system cpu with_program mode s m ≡ by_call d
 call-part_in system cpu with_program Program s m d h = call-at_trap system cpu with_program s m d h
 call-part_in system cpu with_program (Text next) s m d h = let same : bdos system s m ≡ d = cc in ap by_call same
 call-part_in system cpu with_program Line s m d h = let same : bdos system s m ≡ d = cc in ap by_call same

@@ -21,28 +21,28 @@ pub data Call : Type 0 where
   LookAt : Call
   Peek : (address : ℕ) → Call
 
-pub data Answer : Type 0 where
-  Accepted : Answer
-  KeysFull : Answer
-  Grants : (granted : Granted) → Answer
-  Bytes : (bytes : List ℕ) → Answer
-  Looked : (look : Look) → Answer
-  Peeked : (byte : ℕ) → Answer
+pub data CallAnswer : Type 0 where
+  Accepted : CallAnswer
+  KeysFull : CallAnswer
+  Grants : (granted : Granted) → CallAnswer
+  Bytes : (bytes : List ℕ) → CallAnswer
+  Looked : (look : Look) → CallAnswer
+  Peeked : (byte : ℕ) → CallAnswer
 
-pub record Served : Type 0 where
-  pub answer : Answer
+pub record ServedCall : Type 0 where
+  pub answer : CallAnswer
   pub state : MachineState
 
 abbrev pub granted : Disk → ℕ → MachineState → Granted
 granted system n s = let k = executed system n s in record { executed = k; why = why n k (after system k s) }
 
 -- a key is accepted, or refused with nothing changed
-abbrev pub served_key : Bool → ℕ → MachineState → Served
+abbrev pub served_key : Bool → ℕ → MachineState → ServedCall
 served_key true key s = record { answer = Accepted; state = keyed key s }
 served_key false key s = record { answer = KeysFull; state = s }
 
 -- what a call is answered, and the state after it
-unfoldable pub serve : Disk → Call → MachineState → Served
+unfoldable pub serve : Disk → Call → MachineState → ServedCall
 serve system (Key key) s = served_key (takes_key s) key s
 serve system (Grant steps) s = record { answer = Grants (granted system steps s); state = after system (executed system steps s) s }
 serve system (GrantUntil steps pc) s = record { answer = Grants (granted_until system pc steps s); state = after system (executed_until system pc steps s) s }
@@ -63,7 +63,7 @@ abbrev pub no_account : Account
 no_account = record { presses = []; executed = 0; screen = []; printer = [] }
 
 -- an account goes on by the answers alone
-abbrev pub entered : Account → Call → Answer → Account
+abbrev pub entered : Account → Call → CallAnswer → Account
 entered a (Key key) Accepted = record a { presses = a.presses ++ record { after = a.executed; key = key } ∷ [] }
 entered a (Grant steps) (Grants granted) = record a { executed = a.executed + granted.executed }
 entered a (GrantUntil steps pc) (Grants granted) = record a { executed = a.executed + granted.executed }

@@ -40,8 +40,8 @@ pub record IsStepBounded (old new : MachineState) : Type 0 where
   pub pages : touched_of new.memory ≤ touched_of old.memory + 8
   pub output : IsWithin step_output old.session.console new.session.console
 
-abbrev pub Bounded : Type 0
-Bounded = (system : Disk) (s : MachineState) → IsFit s.session → IsStepBounded s (step system s)
+abbrev pub BoundedSteps : Type 0
+BoundedSteps = (system : Disk) (s : MachineState) → IsFit s.session → IsStepBounded s (step system s)
 
 -- a step takes pending keys from the front alone, and adds none
 abbrev pub KeysLeave : Type 0
@@ -59,8 +59,8 @@ Alone = (system : Disk) (calls : List Call) (start : MachineState) →
     state_behind a.screen a.printer (state_after system calls start) ≡ alone system a.presses a.executed start
 
 -- a step of a machine that waits for a key changes its count alone, and its end by that
-abbrev pub Waiting : Type 0
-Waiting = (system : Disk) (s : MachineState) → (look_of s).waiting ≡ true → step system s ≡ after_part s (part_made s.session s.memory outcome.GoesOn)
+abbrev pub WaitingSteps : Type 0
+WaitingSteps = (system : Disk) (s : MachineState) → (look_of s).waiting ≡ true → step system s ≡ after_part s (part_made s.session s.memory outcome.GoesOn)
 
 -- And it is said to wait nowhere else: exactly where its next step is that of a call which needs a key and finds none.
 abbrev pub WaitsExactly : Type 0

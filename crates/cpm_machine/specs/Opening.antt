@@ -27,7 +27,7 @@ program_fault o program =
     if not (o.quota == 256) then Some BadQuota
     else fault_else (drives_fault (length o.drives.items)) (if nat_lt most_program (length program) then Some ProgramTooLong else None)
 
--- a refusal names the fault, and where there is none the want of memory
+-- a refusal names the fault, and where there is none it is out of memory
 abbrev pub IsRefusal : Option OpenError → OpenError → Type 0
 IsRefusal None error = error ≡ OutOfMemory
 IsRefusal (Some fault) error = error ≡ fault

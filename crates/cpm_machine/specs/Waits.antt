@@ -2,7 +2,7 @@
 use Rattle.std.specs.Prelude.{◌≡◌, Bool, true, false, Option, Some, None, ◌⊎◌}
 use Rattle.cpm_geom.specs.Disk.{Disk}
 use Rattle.cpm_memory.specs.Contents.{Contents}
-use Rattle.cpm_bdos.specs.Did.{Did}
+use Rattle.cpm_bdos.specs.StepResult.{StepResult}
 use Rattle.cpm_bdos.specs.Step.{bdos, bios}
 use Rattle.cpm_ccp.specs.Step.{ccp}
 use Rattle.cpm_bdos.specs.declared.session.Session.{Session}
@@ -19,25 +19,25 @@ use Rattle.cpm_machine.specs.Serve.{look_of}
 use Rattle.cpm_machine.specs.Step.{part_made, instruction, part, by_call, after_part, is_running, step}
 
 -- a machine made with a program ends at the command processor, which is no call (own)
-abbrev pub call_at_prompt : Disk → Bool → Session → Contents → Option Did
+abbrev pub call_at_prompt : Disk → Bool → Session → Contents → Option StepResult
 call_at_prompt system true s m = None
 call_at_prompt system false s m = Some (ccp system s m)
 
 -- the call that is done at a trap, with what it leaves; an instruction is none (own)
-abbrev pub call_at : Disk → Bool → Option Trap → Session → Contents → Option Did
+abbrev pub call_at : Disk → Bool → Option Trap → Session → Contents → Option StepResult
 call_at system with_program None s m = None
 call_at system with_program (Some CommandProcessor) s m = call_at_prompt system with_program s m
 call_at system with_program (Some Bdos) s m = Some (bdos system s m)
 call_at system with_program (Some (Bios number)) s m = Some (bios number system s m)
 
 -- the call, or the part of the command processor, of which the mode asks a step (own)
-abbrev pub call_of : Disk → Bool → Mode → Session → Contents → Option Did
+abbrev pub call_of : Disk → Bool → Mode → Session → Contents → Option StepResult
 call_of system with_program Program s m = call_at system with_program (trap_at s.regs.pc) s m
 call_of system with_program (Command part) s m = Some (ccp system s m)
 call_of system with_program _ s m = Some (bdos system s m)
 
 -- that of the next step of a session that runs (own)
-abbrev pub next_call : Disk → MachineState → Option Did
+abbrev pub next_call : Disk → MachineState → Option StepResult
 next_call system s = call_of system s.with_program s.session.mode s.session s.memory
 
 -- it needs a key, and none is pending (own)
@@ -48,7 +48,7 @@ is_wait GoesOn = false
 is_wait Reboot = false
 
 -- so does a step of this call, and no instruction (own)
-abbrev pub is_waiting_call : Option Did → Bool
+abbrev pub is_waiting_call : Option StepResult → Bool
 is_waiting_call None = false
 is_waiting_call (Some d) = is_wait d.went
 
@@ -58,7 +58,7 @@ pub record WaitsWhereItSays (system : Disk) (s : MachineState) : Type 0 where
   -- one that has ended doesn't wait, and no step changes it
   pub ended : is_running s.ended ≡ false → ((look_of s).waiting ≡ false) × (step system s ≡ s)
   -- the step is that call
-  pub call : (d : Did) → is_running s.ended ≡ true → next_call system s ≡ Some d → step system s ≡ after_part s (by_call d)
+  pub call : (d : StepResult) → is_running s.ended ≡ true → next_call system s ≡ Some d → step system s ≡ after_part s (by_call d)
   -- where there is none it is an instruction, or the end of a machine made with a program
   pub other : is_running s.ended ≡ true → next_call system s ≡ None
       → (step system s ≡ after_part s (instruction s.cpu s.session s.memory)) ⊎ (step system s ≡ after_part s (part_made s.session s.memory outcome.Exits))

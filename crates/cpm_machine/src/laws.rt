@@ -1,6 +1,7 @@
 //! Laws of machines, as contracts.
 
-ghost use Rattle.cpm_machine.specs.Laws.{Greatest, GreatestToWait, Cutting, Bounded, KeysLeave, KeysFromFront, Alone, LateKeys, Waiting, WaitsExactly};
+ghost use Rattle.cpm_machine.specs.Laws.{Alone, BoundedSteps, Cutting, Greatest, GreatestToWait, KeysFromFront, KeysLeave};
+ghost use Rattle.cpm_machine.specs.Laws.{LateKeys, WaitingSteps, WaitsExactly};
 
 /// A grant executes the greatest number of steps that can be made.
 pub fn greatest()
@@ -20,7 +21,7 @@ pub fn cutting()
 /// A step newly writes at most 8 pages, and puts at most 4,096 bytes on each device, where the session's columns and
 /// its line's length are bytes.
 pub fn bounded()
-    ensures { Bounded }
+    ensures { BoundedSteps }
 {}
 
 /// A step leaves at most as many keys as were pending.
@@ -41,7 +42,7 @@ pub fn alone()
 
 /// A step of a machine that waits for a key changes its count alone, and its end by that.
 pub fn waiting()
-    ensures { Waiting }
+    ensures { WaitingSteps }
 {}
 
 /// A machine is said to wait exactly where its next step is that of a call which needs a key and finds none.

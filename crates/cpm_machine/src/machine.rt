@@ -57,7 +57,7 @@ impl Model for Machine {
 
 impl Machine {
     /// A machine at its opening, which begins at the command processor. What is refused comes back with the reason: a quota that is not 16 to
-    /// 256 pages, then no drive or more than four, then want of memory.
+    /// 256 pages, then no drive or more than four, then out of memory.
     pub fn new(alloc: Global, opening: Opening) -> Result<Machine, (Opening, OpenError)>
         ensures made { IfOk result (λ m. m ≡ opened_machine opening.cpu opening.quota opening.drives.items) }
         ensures fits { IfOk result (λ m. opening_fault opening ≡ None) }
@@ -74,7 +74,7 @@ impl Machine {
     }
 
     /// A machine with a program at 0100h, which begins there. All pages may be written. What is refused comes back with the reason: a quota
-    /// that is not 256 pages, then no drive or more than four, then a program of more than 58,112 bytes, then want of memory.
+    /// that is not 256 pages, then no drive or more than four, then a program of more than 58,112 bytes, then out of memory.
     pub fn with_program(
         alloc: Global,
         opening: Opening,

@@ -7,7 +7,7 @@ use Rattle.cpm_memory.specs.Frames.{Frames, IsStoreSound, IsAlone, HasReservatio
 use Rattle.cpm_memory.specs.Kept.{with_byte, with_stamp}
 use Rattle.cpm_memory.specs.Stamps.{after_stamp}
 use Rattle.cpm_memory.specs.Memories.{IsContents-memory_of}
-use Rattle.cpm_memory.proofs.Bytes.{Written, Written-from, place_of-cases, byte_at-table}
+use Rattle.cpm_memory.proofs.Bytes.{IsByteWritten, IsByteWritten-from, place_of-cases, byte_at-table}
 use Rattle.cpm_memory.proofs.Copies.{place_of-lt}
 
 -- a table of which the reservation stayed is taken as it was, and has its limit
@@ -29,8 +29,8 @@ pub frame-within : (s : Frames) (t page frame : ℕ) → IsStoreSound s → fram
 frame-within s t page frame ok e = omega (arith, e, place_of-lt s ok t page)
 
 -- what a byte that is stored in a private frame leaves
-pub record Stored (s s' : Frames) (t address value : ℕ) : Type 0 where
-  pub written : Written s s' t address value
+pub record IsByteStored (s s' : Frames) (t address value : ℕ) : Type 0 where
+  pub written : IsByteWritten s s' t address value
   pub places : (t' page : ℕ) → frame_of_page s' t' page ≡ frame_of_page s t' page
   pub alone : (page : ℕ) → IsAlone s t page → IsAlone s' t page
   pub touched : touched_of (memory_of s' t) ≡ touched_of (memory_of s t)
@@ -39,9 +39,9 @@ stays : (s : Frames) (t f offset value : ℕ) → touched_of (memory_of (with_by
 unfolding touched_of
 stays s t f offset value = refl
 
-pub Stored-from : (s s' : Frames) (t address frame value : ℕ) → IsStoreSound s → address < 65536 → frame ≡ frame_of_page s t (address / 256) → IsAlone s t (address / 256) → s' ≡ with_byte s frame (address % 256) value → Stored s s' t address value
-Stored-from s s' t address frame value ok la e alone q = record {
-  written = Written-from s s' t address frame value ok alone la (place_of-cases s t (address / 256) frame (omega (arith, e, alone.private)) (sym e)) q;
+pub IsByteStored-from : (s s' : Frames) (t address frame value : ℕ) → IsStoreSound s → address < 65536 → frame ≡ frame_of_page s t (address / 256) → IsAlone s t (address / 256) → s' ≡ with_byte s frame (address % 256) value → IsByteStored s s' t address value
+IsByteStored-from s s' t address frame value ok la e alone q = record {
+  written = IsByteWritten-from s s' t address frame value ok alone la (place_of-cases s t (address / 256) frame (omega (arith, e, alone.private)) (sym e)) q;
   places = λ t' page. ap (λ x. frame_of_page x t' page) q;
   alone = λ page h. subst (λ x. IsAlone x t page) (sym q) (record { private = h.private; alone = h.alone });
   touched = ap (λ x. touched_of (memory_of x t)) q ∙ stays s t frame (address % 256) value;
@@ -94,12 +94,12 @@ touched-within s t touched limit ok lt counted limited =
     (omega (arith, counted, limited, (IsContents-memory_of s t ok lt).within), omega (arith, limited, (IsContents-memory_of s t ok lt).limit))
 
 -- what a raised stamp leaves: of the stamps, that one table's page has the next, and of all else what was there
-pub record Raised (s s' : Frames) (t page : ℕ) : Type 0 where
+pub record IsRaised (s s' : Frames) (t page : ℕ) : Type 0 where
   pub stamps : stamps_at s' t ≡ after_stamp (stamps_at s t) page
   pub others : KeepsStamps s s' t
 
-pub Raised-from : (s s' s'' : Frames) (t page : ℕ) → IsStoreSound s → t < 64 → s'.stamps ≡ s.stamps → s'' ≡ with_stamp s' t page → Raised s s'' t page
-Raised-from s s' s'' t page ok lt e q = record {
+pub IsRaised-from : (s s' s'' : Frames) (t page : ℕ) → IsStoreSound s → t < 64 → s'.stamps ≡ s.stamps → s'' ≡ with_stamp s' t page → IsRaised s s'' t page
+IsRaised-from s s' s'' t page ok lt e q = record {
   stamps =
       ap (λ (x : Frames). get_or x.stamps t []) q
       ∙ get_or-set_same s'.stamps t (after_stamp (stamps_at s' t) page) [] (omega (arith, ap length e, ok.stamped.tables, lt))
@@ -121,9 +121,9 @@ touched-raised : (s s' : Frames) (t t' page : ℕ) → touched_of (memory_of s' 
 unfolding touched_of
 touched-raised s s' t t' page e = e
 
-pub Stored-raised : (s s' s'' : Frames) (t address value t' page : ℕ) → Stored s s' t address value → s'' ≡ with_stamp s' t' page → Stored s s'' t address value
-Stored-raised s s' s'' t address value t' page h q =
-    subst (λ x. Stored s x t address value) (sym q) (record {
+pub IsByteStored-raised : (s s' s'' : Frames) (t address value t' page : ℕ) → IsByteStored s s' t address value → s'' ≡ with_stamp s' t' page → IsByteStored s s'' t address value
+IsByteStored-raised s s' s'' t address value t' page h q =
+    subst (λ x. IsByteStored s x t address value) (sym q) (record {
       written = record { memory = h.written.memory; others = ChangesTable-raised s s' (with_stamp s' t' page) t t' page h.written.others refl };
       places = h.places;
       alone = λ p k. let a = h.alone p k in record { private = a.private; alone = a.alone };

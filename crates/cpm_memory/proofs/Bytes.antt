@@ -185,16 +185,16 @@ pub ChangesTable-both : (a b c : Frames) (t : ℕ) → ChangesTable a b t → Ch
 ChangesTable-both a b c t h k = record { others = λ t' ne. k.others t' ne ∙ h.others t' ne; private = k.private ∙ h.private; reservation = k.reservation ∙ h.reservation }
 
 -- what a write is, in one record
-pub record Written (s s' : Frames) (t address value : ℕ) : Type 0 where
+pub record IsByteWritten (s s' : Frames) (t address value : ℕ) : Type 0 where
   pub memory : memory_of s' t ≡ after_set (memory_of s t) address value
   pub others : ChangesTable s s' t
 
-pub Written-from : (s s' : Frames) (t address f value : ℕ) → IsStoreSound s → IsAlone s t (address / 256) → address < 65536 → private_at s t (address / 256) ≡ Some f → s' ≡ with_byte s f (address % 256) value → Written s s' t address value
-Written-from s s' t address f value ok alone la at e =
+pub IsByteWritten-from : (s s' : Frames) (t address f value : ℕ) → IsStoreSound s → IsAlone s t (address / 256) → address < 65536 → private_at s t (address / 256) ≡ Some f → s' ≡ with_byte s f (address % 256) value → IsByteWritten s s' t address value
+IsByteWritten-from s s' t address f value ok alone la at e =
     let private : f < s.private = ok.numbers t (address / 256) f at in
     let here : f ≡ frame_of_page s t (address / 256) = sym (ap (λ o. unwrap_or o (s.private + boot_of (address / 256))) at) in
     let single : (t' page' : ℕ) → frame_of_page s t' page' ≡ f → (t' ≡ t) × (page' ≡ address / 256) = (λ t' page' q. alone.alone t' page' (q ∙ here)) in
-    subst (λ x. Written s x t address value) (sym e) (record {
+    subst (λ x. IsByteWritten s x t address value) (sym e) (record {
       memory = memory_of-written s t address f value la private at single ok.frames (ok.sizes f (omega (arith, private)));
       others = ChangesTable-written s t address f value private at single ok.frames (ok.sizes f (omega (arith, private)));
     })

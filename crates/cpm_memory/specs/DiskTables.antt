@@ -19,7 +19,7 @@ parameter_block d =
     ∷ d.checksum_size % 256 ∷ d.checksum_size / 256
     ∷ d.track_offset % 256 ∷ d.track_offset / 256 ∷ []
 
--- own: each table of the large disk stands 16 bytes behind that of the standard disk
+-- own: each table of the large disk stands 16 bytes after that of the standard disk
 abbrev pub format_offset : Format → ℕ
 format_offset Ibm3740 = 0
 format_offset Large = 16

@@ -5,6 +5,7 @@ use Rattle.cpm_memory.specs.Contents.{Contents}
 use Rattle.cpm_memory.specs.Opening.{opening_byte}
 use Rattle.cpm_memory.specs.Stamps.{AreStamps}
 use Rattle.cpm_memory.specs.Tabulated.{tabulated}
+use Rattle.cpm_memory.specs.declared.store.TheConstants.{MOST_FRAMES}
 
 -- The pages of one memory: the private frame of each, if it has one. While the table is taken it has a reservation. (own)
 pub record Table : Type 0 where
@@ -111,7 +112,7 @@ pub record AreTablesStamps (stamps : List (List ℕ)) : Type 0 where
 
 -- What holds of a store at all times. (own)
 pub record IsStoreSound (s : Frames) : Type 0 where
-  pub bound : s.private ≤ 16384
+  pub bound : s.private ≤ MOST_FRAMES
   pub tables : length s.tables ≡ 64
   pub frames : length s.frames ≡ s.private + 4
   pub sizes : (f : ℕ) → f < s.private + 4 → length (frame_of s f) ≡ 256

@@ -26,7 +26,7 @@ pub fn disk_table_byte_at(offset: u8) -> u8
     0
 }
 
-/// How far the tables of a format stand behind those of the standard disk.
+/// How far the tables of a format stand after those of the standard disk.
 pub fn format_offset(format: Format) -> u16
     ensures value { result ≡ format_offset format }
     ensures small { result ≤ 16 }
@@ -80,7 +80,7 @@ fn skew_byte_at(place: u8) -> u8
     Format::Ibm3740.sector_of(u16::from(place))
 }
 
-/// A byte of a disk parameter block, 0 behind it.
+/// A byte of a disk parameter block, 0 after it.
 fn parameter_byte_at(dpb: &Dpb, place: u8) -> u8
     ensures { result ≡ slice_index (parameter_block dpb.now) place }
 {

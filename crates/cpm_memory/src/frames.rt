@@ -6,6 +6,7 @@ ghost use Rattle.cpm_memory.specs.Opening.{opening_byte};
 ghost use Rattle.cpm_memory.specs.Tabulated.{tabulated};
 
 use crate::opening::opening_byte_at;
+use crate::store::MOST_FRAMES;
 use std::alloc::{AllocError, Global};
 
 /// Which boot frame a page begins with: zeros, or page 00h, FAh or FCh.
@@ -33,7 +34,7 @@ pub fn opening_page(page: u8) -> [u8; 256]
 
 /// Private frames of zeros, and the four boot frames after them.
 pub fn new_frames(alloc: Global, private: u16) -> Result<Vec<[u8; 256]>, AllocError>
-    requires { private ≤ 16384 }
+    requires { private ≤ MOST_FRAMES }
     ensures { IfOk result (λ frames. AreNewFrames frames.items private) }
 {
     let zeros = opening_page(1);

@@ -24,7 +24,7 @@ pub const STACK: u16 = 0xEBFE;
 /// Where the BDOS is entered.
 pub const BDOS: u16 = 0xEC06;
 
-/// Where the first call of the BIOS is entered, and each other by its number behind it.
+/// Where the first call of the BIOS is entered, and each other by its number after it.
 pub const FIRST_BIOS: u16 = 0xFB00;
 
 /// Where CONIN is entered.

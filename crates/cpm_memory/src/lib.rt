@@ -22,5 +22,5 @@ pub use access::{
 pub use flat::FlatMemory;
 pub use memory::Memory;
 pub use pages::TableId;
-pub use store::{FrameStore, MemError};
+pub use store::{FrameStore, MOST_FRAMES, MemError};
 pub use view::View;

@@ -18,7 +18,7 @@ use Rattle.cpm_play.specs.declared.player.Player.TheVariants.{Playing, Waiting}
 use Rattle.cpm_play.specs.declared.scripted_slot.ScriptedSlot.{ScriptedSlot}
 use Rattle.cpm_play.specs.Pacing.{forked_pace, IsOn}
 use Rattle.cpm_play.specs.ScriptedSlots.{IsNone, IsPlaying, IsResting, script_keys}
-use Rattle.cpm_play.specs.Players.{AllReady, ChangesPlayerAt, HasCome, IsForkedFrom, IsGoing, IsPlayRefusal, IsForkWaiting, StandsAs, fork_pages, forks_of, ids_of, is_fork, pages_of, play_error, quota_of, player_slot, start_at}
+use Rattle.cpm_play.specs.Players.{AllReady, ChangesPlayerAt, HaveBecome, IsForkedFrom, IsPlayerGoing, IsPlayRefusal, IsForkWaiting, StandsAs, fork_pages, forks_of, ids_of, is_fork, pages_of, play_error, quota_of, player_slot, start_at}
 use Rattle.cpm_play.proofs.ForkLemmas.{on-fork, on-quota}
 use Rattle.cpm_play.proofs.PlaceLemmas.{at-set, at-other, same-at, sum-at, sum-set}
 use Rattle.cpm_play.proofs.PlayerLemmas.{HasParent, differ-forked, given-at, going-in, id-below, none-forked, none-from, parent-of, playing-waiting, same-playing, waiting-given}
@@ -26,7 +26,7 @@ use Rattle.cpm_play.proofs.PlayerLemmas.{HasParent, differ-forked, given-at, goi
 -- What is known where a session is forked.
 pub record IsForking (old h new : Host) (given players : List Player) (place : ℕ) (parent child : ScriptedSlot) (fork : Fork) : Type 0 where
   pub ready : AllReady old.slots given
-  pub come : HasCome old h given players
+  pub come : HaveBecome old h given players
   pub waits : slice_get players place ≡ Some (Waiting fork)
   pub plays : slice_get players fork.parent ≡ Some (Playing parent)
   pub forked : IsForkedFrom parent fork child h new
@@ -92,7 +92,7 @@ module _ (old h new : Host) (given players : List Player) (place : ℕ) (parent 
   started : start_at old.slots given (Waiting fork) ≡ Some source.going.start
   started = ap (player_slot old.slots) source.given_so ∙ source.going.started
 
-  child-goes : IsGoing old.slots given new (Waiting fork) child
+  child-goes : IsPlayerGoing old.slots given new (Waiting fork) child
   child-goes = record { start = source.going.start; started = started; keys = k.forked.keys; resting = resting }
 
   -- one that waits at another place
@@ -144,7 +144,7 @@ module _ (old h new : Host) (given players : List Player) (place : ℕ) (parent 
   pages : pages_of old.slots given (Waiting fork) ≡ state.quota
   pages = ap quota_of started ∙ sym quota
 
-  pub come-fork : HasCome old new given (set players place (Playing child))
+  pub come-fork : HaveBecome old new given (set players place (Playing child))
   come-fork =
       let slots = k.come.slots in
       let numbers = k.come.numbers in
@@ -180,7 +180,7 @@ module _ (old h new : Host) (given players : List Player) (place : ℕ) (parent 
 -- ---- a fork that is refused
 
 -- a fork lacks a slot or frames, and so do all forks together
-pub lack : (old h : Host) (given players : List Player) (place : ℕ) (parent : ScriptedSlot) (fork : Fork) (fault : ForkError) → AllReady old.slots given → HasCome old h given players →
+pub lack : (old h : Host) (given players : List Player) (place : ℕ) (parent : ScriptedSlot) (fork : Fork) (fault : ForkError) → AllReady old.slots given → HaveBecome old h given players →
     slice_get players place ≡ Some (Waiting fork) → slice_get players fork.parent ≡ Some (Playing parent) → fork_fault h (slot_at parent.id.0 h.slots) ≡ Some fault → IsPlayRefusal old given (play_error place fault)
 lack old h given players place parent fork fault ready come waits plays refused =
     by_tests (nat_le 64 (length h.slots)) (h.openings == 18446744073709551615) (nat_lt h.frames (quotas_of h.slots + state.quota)) refl refl refl (sym (ap (fork_fault h) going.resting.playing.stands) ∙ refused)
@@ -188,7 +188,7 @@ lack old h given players place parent fork fault ready come waits plays refused 
     source : HasParent old h given fork parent
     source = parent-of old h given players place fork parent ready come waits plays
 
-    going : IsGoing old.slots given h (Playing source.first) parent
+    going : IsPlayerGoing old.slots given h (Playing source.first) parent
     going = source.going
 
     state : MachineState
@@ -240,7 +240,7 @@ lack old h given players place parent fork fault ready come waits plays refused 
         subst (λ (v : ForkError). IsPlayRefusal old given (play_error place v)) is (there, omega (arith, less, x, y, z, w))
     by_tests false false false e f g r = absurd (none-some fault r)
 
-pub refused-fork : (old h : Host) (given players : List Player) (place : ℕ) (parent : ScriptedSlot) (fork : Fork) (fault : ForkError) → AllReady old.slots given → HasCome old h given players →
+pub refused-fork : (old h : Host) (given players : List Player) (place : ℕ) (parent : ScriptedSlot) (fork : Fork) (fault : ForkError) → AllReady old.slots given → HaveBecome old h given players →
     slice_get players place ≡ Some (Waiting fork) → slice_get players fork.parent ≡ Some (Playing parent) → (fault ≡ refusal.OutOfMemory) ⊎ (fork_fault h (slot_at parent.id.0 h.slots) ≡ Some fault) → IsPlayRefusal old given (play_error place fault)
 refused-fork old h given players place parent fork fault ready come waits plays (inl memory) = subst (λ (z : ForkError). IsPlayRefusal old given (play_error place z)) (sym memory) tt
 refused-fork old h given players place parent fork fault ready come waits plays (inr refused) = lack old h given players place parent fork fault ready come waits plays refused

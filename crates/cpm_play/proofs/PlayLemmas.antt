@@ -15,7 +15,7 @@ use Rattle.cpm_play.specs.declared.scripted_slot.ScriptedSlot.{ScriptedSlot}
 use Rattle.cpm_play.specs.Pacing.{first_pace, IsOn}
 use Rattle.cpm_play.specs.Playing.{IsPlayed}
 use Rattle.cpm_play.specs.ScriptedSlots.{IsPlaying, IsReady, IsResting, script_keys, steps_of}
-use Rattle.cpm_play.specs.Players.{AllBefore, AllDiffer, AllPlayed, AllReady, HasCome, HasPlayed, HasRoomForForks, IsForkReady, IsPlayerReady, IsForkWaiting, StandsAs, forks_of, fork_pages, still_plays, is_fork, left_in_player, players_left, pages_of, player_steps}
+use Rattle.cpm_play.specs.Players.{AllBefore, AllDiffer, AllPlayed, AllReady, HaveBecome, HasPlayed, HasRoomForForks, IsForkReady, IsPlayerReady, IsForkWaiting, StandsAs, forks_of, fork_pages, still_plays, is_fork, left_in_player, players_left, pages_of, player_steps}
 use Rattle.cpm_play.proofs.PaceLemmas.{on-start, on-end}
 use Rattle.cpm_play.proofs.PlaceLemmas.{same-at, sum-none}
 
@@ -57,7 +57,7 @@ module _ (h : Host) (players : List Player) (ready : AllReady h.slots players) w
   stands-ready (Playing slot) k = record { start = k.start; started = k.opened; keys = refl; resting = resting-ready h slot k }
   stands-ready (Waiting fork) k = (refl, waiting-at fork k)
 
-  pub come-start : AllDiffer players → IsHost h → HasCome h h players players
+  pub come-start : AllDiffer players → IsHost h → HaveBecome h h players players
   come-start differ host = record {
     long = refl;
     each = λ place p q at bt. subst (λ (x : Player). StandsAs h.slots players players h p x) (same-at (slice_get players place) p q at bt) (stands-ready p (ready-at place p at));
@@ -101,7 +101,7 @@ none-left [] place p none at = absurd (none-some p at)
 none-left (x ∷ xs) zero p none at = ap left_in_player (sym (same_Some x p at)) ∙ (first-none x (still_plays xs) none).0
 none-left (x ∷ xs) (suc place) p none at = none-left xs place p (first-none x (still_plays xs) none).1 at
 
-module _ (old h : Host) (players now : List Player) (come : HasCome old h players now) (none : still_plays now ≡ false) where
+module _ (old h : Host) (players now : List Player) (come : HaveBecome old h players now) (none : still_plays now ≡ false) where
   played : (p q : Player) → left_in_player q ≡ 0 → StandsAs old.slots players now h p q → HasPlayed old.system old.slots h.slots players p q
   played p (Playing slot) spent going =
       let playing = going.resting.playing in

@@ -16,7 +16,7 @@ use Rattle.cpm_play.specs.declared.scripted_slot.ScriptedSlot.{ScriptedSlot}
 use Rattle.cpm_play.specs.Pacing.{IsOn}
 use Rattle.cpm_play.specs.Playing.{IsInOrder}
 use Rattle.cpm_play.specs.ScriptedSlots.{IsNone, IsPlaying, IsResting, script_keys}
-use Rattle.cpm_play.specs.Players.{AllDiffer, AllReady, HasCome, IsForkReady, IsGoing, IsPlayerReady, IsForkWaiting, StandsAs, ids_of, player_steps}
+use Rattle.cpm_play.specs.Players.{AllDiffer, AllReady, HaveBecome, IsForkReady, IsPlayerGoing, IsPlayerReady, IsForkWaiting, StandsAs, ids_of, player_steps}
 use Rattle.cpm_play.proofs.PlaceLemmas.{within-at, some-at, same-at}
 
 -- ---- kinds of players
@@ -105,7 +105,7 @@ id-below h steps start slot host resting = ⊎_elim (λ less. less) (λ past. ab
     less-or (suc a) zero = inr (omega arith)
     less-or (suc a) (suc b) = ⊎_elim (λ l. inl (omega (arith, l))) (λ g. inr (omega (arith, g))) (less-or a b)
 
-pub going-in : (slots : List SlotState) (given : List Player) (p : Player) (slot : ScriptedSlot) (old new : Host) → new.system ≡ old.system → slot_at slot.id.0 new.slots ≡ slot_at slot.id.0 old.slots → IsGoing slots given old p slot → IsGoing slots given new p slot
+pub going-in : (slots : List SlotState) (given : List Player) (p : Player) (slot : ScriptedSlot) (old new : Host) → new.system ≡ old.system → slot_at slot.id.0 new.slots ≡ slot_at slot.id.0 old.slots → IsPlayerGoing slots given old p slot → IsPlayerGoing slots given new p slot
 going-in slots given p slot old new system same going = record {
   start = going.start;
   started = going.started;
@@ -116,14 +116,14 @@ going-in slots given p slot old new system same going = record {
 -- ---- a fork
 
 -- the player at a place, as it was given
-pub given-at : (old h : Host) (given players : List Player) (place : ℕ) (q : Player) → HasCome old h given players → slice_get players place ≡ Some q → (p : Player) × (slice_get given place ≡ Some p) × StandsAs old.slots given players h p q
+pub given-at : (old h : Host) (given players : List Player) (place : ℕ) (q : Player) → HaveBecome old h given players → slice_get players place ≡ Some q → (p : Player) × (slice_get given place ≡ Some p) × StandsAs old.slots given players h p q
 given-at old h given players place q come at =
     let within = within-at players place q at in
     let there = some-at given place (subst (λ n. place < n) come.long within) in
     (there.0, there.1, come.each place there.0 q there.1 at)
 
 -- a player that waits is as it was given, and ready
-pub waiting-given : (old h : Host) (given players : List Player) (place : ℕ) (fork : Fork) → AllReady old.slots given → HasCome old h given players → slice_get players place ≡ Some (Waiting fork) →
+pub waiting-given : (old h : Host) (given players : List Player) (place : ℕ) (fork : Fork) → AllReady old.slots given → HaveBecome old h given players → slice_get players place ≡ Some (Waiting fork) →
     (slice_get given place ≡ Some (Waiting fork)) × IsForkReady given fork × IsForkWaiting players fork
 waiting-given old h given players place fork ready come at =
     let there = given-at old h given players place (Waiting fork) come at in
@@ -135,18 +135,18 @@ waiting-given old h given players place fork ready come at =
 pub record HasParent (old h : Host) (given : List Player) (fork : Fork) (parent : ScriptedSlot) : Type 0 where
   pub first : ScriptedSlot
   pub given_so : slice_get given fork.parent ≡ Some (Playing first)
-  pub going : IsGoing old.slots given h (Playing first) parent
+  pub going : IsPlayerGoing old.slots given h (Playing first) parent
   pub own : List Key
   pub keys : fork.keys.items ≡ keys_before fork.at (script_keys parent) ++ own
   pub order : IsInOrder fork.at own
 
-pub parent-of : (old h : Host) (given players : List Player) (place : ℕ) (fork : Fork) (parent : ScriptedSlot) → AllReady old.slots given → HasCome old h given players →
+pub parent-of : (old h : Host) (given players : List Player) (place : ℕ) (fork : Fork) (parent : ScriptedSlot) → AllReady old.slots given → HaveBecome old h given players →
     slice_get players place ≡ Some (Waiting fork) → slice_get players fork.parent ≡ Some (Playing parent) → HasParent old h given fork parent
 parent-of old h given players place fork parent ready come at plays =
     let fork_ready = (waiting-given old h given players place fork ready come at).1 in
     let there = given-at old h given players fork.parent (Playing parent) come plays in
     let same : there.0 ≡ Playing fork_ready.parent = same-at (slice_get given fork.parent) there.0 (Playing fork_ready.parent) there.1 fork_ready.plays in
-    let going : IsGoing old.slots given h (Playing fork_ready.parent) parent = subst (λ (p : Player). IsGoing old.slots given h p parent) same there.2 in
+    let going : IsPlayerGoing old.slots given h (Playing fork_ready.parent) parent = subst (λ (p : Player). IsPlayerGoing old.slots given h p parent) same there.2 in
     record {
       first = fork_ready.parent;
       given_so = fork_ready.plays;

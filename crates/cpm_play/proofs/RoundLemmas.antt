@@ -11,7 +11,7 @@ use Rattle.cpm_play.specs.declared.player.Player.{Player}
 use Rattle.cpm_play.specs.declared.player.Player.TheVariants.{Playing, Waiting}
 use Rattle.cpm_play.specs.declared.scripted_slot.ScriptedSlot.{ScriptedSlot}
 use Rattle.cpm_play.specs.ScriptedSlots.{AreDifferent, IsNone, IsResting, Moves, script_keys, steps_of}
-use Rattle.cpm_play.specs.Players.{AllBefore, AllReady, ChangesPlayerAt, HasCome, IsFar, IsGoing, IsForkWaiting, KeepsPlaying, LeavesFewer, NoneIsDue, StandsAs, has_fork, ids_of, is_due, is_over, is_fork, left_in_player, players_left, pages_of, waits}
+use Rattle.cpm_play.specs.Players.{AllBefore, AllReady, ChangesPlayerAt, HaveBecome, IsFar, IsPlayerGoing, IsForkWaiting, KeepsPlaying, LeavesFewer, NoneIsDue, StandsAs, has_fork, ids_of, is_due, is_over, is_fork, left_in_player, players_left, pages_of, waits}
 use Rattle.cpm_play.proofs.PlaceLemmas.{at-other, at-set, same-at, sum-none, sum-set, within-at}
 use Rattle.cpm_play.proofs.PlayerLemmas.{apart-at, going-in, given-at, ids-kept, none-at, playing-waiting, same-playing}
 
@@ -74,7 +74,7 @@ none-set (x ∷ xs) (suc place) slot none =
 -- What is known where a player has a turn.
 pub record IsTurn (old h new : Host) (given players : List Player) (place steps : ℕ) (slot next : ScriptedSlot) : Type 0 where
   pub ready : AllReady old.slots given
-  pub come : HasCome old h given players
+  pub come : HaveBecome old h given players
   pub plays : slice_get players place ≡ Some (Playing slot)
   pub moves : Moves slot next h new
   pub goes : (n : ℕ) (start : MachineState) → IsResting n start slot h → IsResting n start next new
@@ -90,7 +90,7 @@ module _ (old h new : Host) (given players : List Player) (place steps : ℕ) (s
   ids-after = ids-kept place players slot next k.plays k.moves.id
 
   -- the one that had the turn
-  turned : (p : Player) → IsGoing old.slots given h p slot → IsGoing old.slots given new p next
+  turned : (p : Player) → IsPlayerGoing old.slots given h p slot → IsPlayerGoing old.slots given new p next
   turned p going = record {
     start = going.start;
     started = going.started;
@@ -156,7 +156,7 @@ module _ (old h new : Host) (given players : List Player) (place steps : ℕ) (s
           let was = sym (at-other players place i (Playing next) ne) ∙ qt in
           stands-after i p q ne was (k.come.each i p q at was)
 
-  pub come-turn : HasCome old new given (set players place (Playing next))
+  pub come-turn : HaveBecome old new given (set players place (Playing next))
   come-turn =
       let orderly = k.moves.orderly k.come.orderly in
       let slots = k.come.slots in
@@ -295,7 +295,7 @@ left-over old players place (Playing slot) left none at over =
 left-over old players place (Waiting fork) left none at over = absurd (true≢false (sym over))
 
 -- a round leaves fewer, where some were left
-pub left-round : (old h : Host) (given start now : List Player) (place : ℕ) → HasCome old h given now → length now ≤ place → 0 < players_left start → IsLeft start now place → players_left now < players_left start
+pub left-round : (old h : Host) (given start now : List Player) (place : ℕ) → HaveBecome old h given now → length now ≤ place → 0 < players_left start → IsLeft start now place → players_left now < players_left start
 left-round old h given start now place come all some (inl less) = less
 left-round old h given start now place come all some (inr even) =
     let none : players_left now ≡ 0 = sum-none left_in_player now spent in

@@ -8,7 +8,7 @@ use Rattle.cpm_script.specs.declared.script.Key.{Key}
 use Rattle.cpm_script.specs.declared.fault.LineFault.{LineFault}
 use Rattle.cpm_script.specs.declared.fault.LineFault.TheVariants.{NoCount, CountFalls, NotAKey, TooManyKeys}
 use Rattle.cpm_script.specs.KeyText.{count_of, keys_of}
-use Rattle.cpm_script.specs.Script.{is_after, is_skipped, is_script_space, keys_at, or_fault, keys_added, with_text, with_counted, with_line, at_line, script_from}
+use Rattle.cpm_script.specs.Script.{is_after, is_skipped, is_script_space, keys_at, or_fault, keys_added, keys_with_text, keys_with_counted, keys_with_line, at_line, script_from}
 use Rattle.cpm_play.specs.Playing.{IsInOrder}
 use Rattle.cpm_play.specs.Laws.{ScriptsInOrder}
 
@@ -57,18 +57,18 @@ good-text : (keys : List Key) (count : ℕ) (o : Option (List ℕ)) → is_after
 good-text keys count None late good = tt
 good-text keys count (Some bytes) late good = good-keys keys count bytes late good
 
-good-counted : (keys : List Key) (o : Option ℕ) (text : List ℕ) → IsGood keys → IfOk (or_fault NoCount o (λ count. if is_after keys count then with_text keys count text else Err CountFalls)) IsGood
+good-counted : (keys : List Key) (o : Option ℕ) (text : List ℕ) → IsGood keys → IfOk (or_fault NoCount o (λ count. if is_after keys count then keys_with_text keys count text else Err CountFalls)) IsGood
 good-counted keys None text good = tt
 good-counted keys (Some count) text good = by_test (is_after keys count) refl
   where
-    by_test : (t : Bool) → is_after keys count ≡ t → IfOk (if t then with_text keys count text else Err CountFalls) IsGood
+    by_test : (t : Bool) → is_after keys count ≡ t → IfOk (if t then keys_with_text keys count text else Err CountFalls) IsGood
     by_test true e = good-text keys count (keys_of text) e good
     by_test false e = tt
 
-good-line : (keys : List Key) (line : List ℕ) → IsGood keys → IfOk (with_line keys line) IsGood
+good-line : (keys : List Key) (line : List ℕ) → IsGood keys → IfOk (keys_with_line keys line) IsGood
 good-line keys line good = by_test (is_skipped line)
   where
-    by_test : (t : Bool) → IfOk (if t then Ok keys else with_counted keys (before_first is_script_space line) (after_first is_script_space line)) IsGood
+    by_test : (t : Bool) → IfOk (if t then Ok keys else keys_with_counted keys (before_first is_script_space line) (after_first is_script_space line)) IsGood
     by_test true = good
     by_test false = good-counted keys (count_of (before_first is_script_space line)) (after_first is_script_space line) good
 
@@ -79,7 +79,7 @@ good-numbered number (Err fault) next goes g = tt
 good-from : (number : ℕ) (keys : List Key) (rest : List (List ℕ)) → IsGood keys → IfOk (script_from number keys rest) IsGood
 good-from number keys [] good = good
 good-from number keys (line ∷ rest) good =
-    good-numbered number (with_line keys line) (λ more. script_from (number + 1) more rest) (λ more g. good-from (number + 1) more rest g) (good-line keys line good)
+    good-numbered number (keys_with_line keys line) (λ more. script_from (number + 1) more rest) (λ more g. good-from (number + 1) more rest g) (good-line keys line good)
 
 pub script-order : ScriptsInOrder
 script-order text = good-from 1 [] (lines text) (tt, omega arith)

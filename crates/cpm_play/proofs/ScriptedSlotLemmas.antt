@@ -15,7 +15,7 @@ use Rattle.cpm_slots.specs.declared.event.SlotId.{SlotId}
 use Rattle.cpm_slots.specs.Host.{Host, slot_at, after_ask, reply_at, grant_reply, take_reply}
 use Rattle.cpm_slots.specs.Serving.{Calls, reply_of, serve_slot, take_call}
 use Rattle.cpm_machine.specs.declared.reply.Granted.{Granted}
-use Rattle.cpm_machine.specs.Calls.{Call, Key as Pressed, Grant, Served, serve, served_key}
+use Rattle.cpm_machine.specs.Calls.{Call, Key as Pressed, Grant, ServedCall, serve, served_key}
 use Rattle.cpm_machine.specs.MachineState.{MachineState}
 use Rattle.cpm_machine.specs.Serve.{executed, keyed, takes_key}
 use Rattle.cpm_machine.specs.Step.{after, can_step}
@@ -137,7 +137,7 @@ took-count n room out waiting fits bytes = record {
 take-served : (h : Host) (id room : ℕ) (on : Device) (s : MachineState) → slot_at id h.slots ≡ Some s →
     let waits = waiting_on on s.session.console in
     reply_at h id (Calls (take_call on room)) ≡ reply.Bytes (record { items = take (min room (length waits)) waits })
-take-served h id room on s at = reply-served h id (take_call on room) s at ∙ ap (λ (x : Served). reply_of x.answer) (serve-take h.system on room s)
+take-served h id room on s at = reply-served h id (take_call on room) s at ∙ ap (λ (x : ServedCall). reply_of x.answer) (serve-take h.system on room s)
 
 -- and one that is not gives none
 bytes-none : (h : Host) (id : ℕ) (call : Call) → slot_at id h.slots ≡ None → is_bytes (reply_at h id (Calls call)) ≡ false
@@ -162,7 +162,7 @@ bytes-refused h id room on out fault replied = go (slot_at id h.slots) refl
 serve-taken : (system : Disk) (on : Device) (room : ℕ) (o : Option MachineState) → (serve_slot system (Calls (take_call on room)) o).slot ≡ option_map (taken_from on room) o
 unfolding serve_slot
 serve-taken system on room None = refl
-serve-taken system on room (Some s) = ap (λ (x : Served). Some x.state) (serve-take system on room s)
+serve-taken system on room (Some s) = ap (λ (x : ServedCall). Some x.state) (serve-take system on room s)
 
 slot-taken : (h new : Host) (id room : ℕ) (on : Device) → new ≡ after_ask h id (Calls (take_call on room)) → slot_at id new.slots ≡ option_map (taken_from on room) (slot_at id h.slots)
 slot-taken h new id room on is =
@@ -229,7 +229,7 @@ playing-take steps n room start on out p q old new took is added playing =
     let list : q.list.items ≡ list_with on bytes p.list.items = added.list ∙ ap (λ xs. list_with on xs p.list.items) t.bytes in
     let r : ScriptedSlot = record p { console = q.console; list = q.list } in
     subst (λ (x : ScriptedSlot). IsPlaying steps start x new) (sym added.same)
-    (playing-at steps start s next p r old new (take_call on room) is (ap (λ (x : Served). x.state) (serve-take old.system on room s)) playing.stands refl refl playing.few
+    (playing-at steps start s next p r old new (take_call on room) is (ap (λ (x : ServedCall). x.state) (serve-take old.system on room s)) playing.stands refl refl playing.few
     (subst (λ (xs : List ℕ). IsOn old.system (script_keys p) steps start p.pace xs q.list.items next) (sym console)
     (subst (λ (xs : List ℕ). IsOn old.system (script_keys p) steps start p.pace shown xs next) (sym list)
     (on-take old.system (script_keys p) steps room start p.pace p.console.items p.list.items s on playing.on))))

@@ -51,13 +51,13 @@ HasShown text shown = (place : ℕ) × OccursAt shown text place
 abbrev pub Comes : Disk → MachineState → ℕ → List Key → ℕ → Type 0
 Comes system start steps keys at = (at < steps) × (runs_at system start keys at ≡ true)
 
--- from one count on, and from where waits count, it next waits at another within the steps, and then has shown this text behind so many bytes
+-- from one count on, and from where waits count, it next waits at another within the steps, and then has shown this text after so many bytes
 pub record IsCueMet (system : Disk) (start : MachineState) (steps waits_from : ℕ) (keys : List Key) (from mark : ℕ) (text : List ℕ) (at : ℕ) : Type 0 where
   pub next : IsNextWait system start keys (max waits_from from) at
   pub within : at < steps
   pub shown : HasShown text (drop mark (screen_at system start keys at))
 
--- The keys of the rest of a script behind those that were given, where its next cue counts from this count on,
+-- The keys of the rest of a script after those that were given, where its next cue counts from this count on,
 -- and so many bytes had been shown when the last key came. A key that does not come is the end of the script,
 -- and so is a text that has not been shown where the machine next waits: while it waits it shows nothing more. A wait before `waits_from` steps does not count.
 abbrev pub IsCuedFrom : Disk → MachineState → (steps waits_from : ℕ) → (given : List Key) → (from mark : ℕ) → List Cue → List Key → Type 0
@@ -86,7 +86,7 @@ abbrev pub last_count : ℕ → List Key → ℕ
 last_count n [] = n
 last_count n (k ∷ ks) = last_count k.count ks
 
--- It ends where the machine has, and else behind its steps. One that stops where it is idle ends sooner,
+-- It ends where the machine has, and else after its steps. One that stops where it is idle ends sooner,
 -- where the machine next waits after the last key, if waits count there.
 abbrev pub HasEndedCued : Disk → MachineState → (steps waits_from : ℕ) → (stops_idle : Bool) → List Key → ℕ → MachineState → Type 0
 HasEndedCued system start steps waits_from false keys done now = (done ≡ steps) ⊎ (is_running now.ended ≡ false)

@@ -13,7 +13,7 @@ use Rattle.cpm_play.specs.Playing.{IsInOrder}
 abbrev pub ScriptsInOrder : Type 0
 ScriptsInOrder = (text : List ℕ) → IfOk (script text) (λ keys. IsInOrder 0 keys × (length keys ≤ most_keys))
 
--- a script that never waits gives its keys, where all of them come within the steps and the machine still runs behind these
+-- a script that never waits gives its keys, where all of them come within the steps and the machine still runs after these
 abbrev pub PlainCuesGiveTheirKeys : Type 0
 PlainCuesGiveTheirKeys = (system : Disk) (start : MachineState) (steps waits_from last : ℕ) (keys given : List Key) →
     IsInOrder 0 keys → AreBy last keys → last < steps → runs_at system start keys steps ≡ true →

@@ -135,7 +135,7 @@ abbrev pub play_error : ℕ → ForkError → PlayError
 play_error place Wanting = OutOfMemory
 play_error place fault = ForkRefused place fault
 
--- how playing is refused: for a session that is to be forked, where there is no room for all of them, or for want of memory
+-- how playing is refused: for a session that is to be forked, where there is no room for all of them, or if out of memory
 abbrev pub IsPlayRefusal : Host → List Player → PlayError → Type 0
 IsPlayRefusal h players (ForkRefused place fault) =
     ((fork : Fork) × (slice_get players place ≡ Some (Waiting fork))) × IsLackFor h (forks_of players) (fork_pages h.slots players) fault
@@ -172,7 +172,7 @@ pub record IsForkWaiting (players : List Player) (fork : Fork) : Type 0 where
   pub early : AllBefore fork.at (take parent.pace.pressed (script_keys parent))
 
 -- a session goes on from its start, and rests between two turns
-pub record IsGoing (slots : List SlotState) (players : List Player) (h : Host) (player : Player) (slot : ScriptedSlot) : Type 0 where
+pub record IsPlayerGoing (slots : List SlotState) (players : List Player) (h : Host) (player : Player) (slot : ScriptedSlot) : Type 0 where
   pub start : MachineState
   pub started : start_at slots players player ≡ Some start
   pub keys : script_keys slot ≡ player_keys player
@@ -180,11 +180,11 @@ pub record IsGoing (slots : List SlotState) (players : List Player) (h : Host) (
 
 -- a player is now another: one that goes on, or the same that still waits
 abbrev pub StandsAs : List SlotState → List Player → List Player → Host → Player → Player → Type 0
-StandsAs slots players now h player (Playing slot) = IsGoing slots players h player slot
+StandsAs slots players now h player (Playing slot) = IsPlayerGoing slots players h player slot
 StandsAs slots players now h player (Waiting fork) = (player ≡ Waiting fork) × IsForkWaiting now fork
 
 -- a host and its players have become these
-pub record HasCome (old new : Host) (players now : List Player) : Type 0 where
+pub record HaveBecome (old new : Host) (players now : List Player) : Type 0 where
   pub long : length now ≡ length players
   pub each : (place : ℕ) (p q : Player) → slice_get players place ≡ Some p → slice_get now place ≡ Some q → StandsAs old.slots players now new p q
   pub differ : AllDiffer now

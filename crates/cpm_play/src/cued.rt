@@ -107,7 +107,7 @@ fn show_kept<W: Write>(
 }
 
 /// Executes so many steps, or those up to the machine's end, or with `to_wait` to where it waits for a key. Shows their text, and keeps it if
-/// so asked; says how many. The watcher is told after each turn how far the machine has come of `until` steps.
+/// so asked; says how many. The watcher is told after each turn how many of `until` steps the machine has made.
 fn run<W: Write, T: Watcher>(
     system: &Image,
     machine: &mut Machine,

@@ -9,7 +9,7 @@ use thiserror::Error;
 /// Why sessions are not played to their end.
 #[derive(Clone, Copy, Debug, PartialEq, Eq, Drop, Error)]
 pub enum PlayError {
-    /// The fork of the session at this place is refused, but not for want of memory.
+    /// The fork of the session at this place is refused for another reason than memory.
     #[error("the session at place {place} is not forked: {fault}")]
     ForkRefused { place: usize, fault: ForkError },
     /// Memory was refused.

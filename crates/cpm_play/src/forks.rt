@@ -3,7 +3,7 @@
 ghost use Rattle.std.specs.Prelude.{◌≡◌, ◌≤◌, ◌<◌, ◌⊎◌, List, OnOk, IfOk, IfErr, length, slice_get, Some, false};
 ghost use Rattle.cpm_slots.specs.Host.{Host as HostValue, fork_fault, slot_at};
 ghost use Rattle.cpm_play.specs.declared.player.Player.{Player as PlayerValue};
-ghost use Rattle.cpm_play.specs.Players.{AllReady, ChangesPlayerAt, HasCome, IsFar, IsForkedFrom, IsPlayRefusal};
+ghost use Rattle.cpm_play.specs.Players.{AllReady, ChangesPlayerAt, HaveBecome, IsFar, IsForkedFrom, IsPlayRefusal};
 ghost use Rattle.cpm_play.specs.Players.{KeepsPlaying, LeavesFewer, NoneIsDue, has_fork, is_due, play_error};
 
 use crate::error::PlayError;
@@ -59,14 +59,14 @@ fn fork_at(
     requires parent { parent < length players.old }
     requires place { place < length players.old }
     ensures come { OnOk result ((old : HostValue) (given : List PlayerValue) → AllReady old.slots given
-        → HasCome old host.old.host given players.old → HasCome old host.new.host given players.new) }
+        → HaveBecome old host.old.host given players.old → HaveBecome old host.new.host given players.new) }
     ensures changes { OnOk result (ChangesPlayerAt place players.old players.new) }
     ensures parent { OnOk result (slice_get players.new parent ≡ slice_get players.old parent) }
     ensures far { IfOk result (λ steps. IsFar parent steps players.new place) }
     ensures some { IfOk result (λ steps. 1 ≤ steps) }
     ensures left { OnOk result (LeavesFewer players.old players.new) }
     ensures refused { IfErr result (λ e. (old : HostValue) (given : List PlayerValue) → AllReady old.slots given
-        → HasCome old host.old.host given players.old → IsPlayRefusal old given e) }
+        → HaveBecome old host.old.host given players.old → IsPlayRefusal old given e) }
 {
     let (Player::Playing(slot), Player::Waiting(fork)) = (&players[parent], &players[place]) else {
         return Ok(u64::MAX);
@@ -98,13 +98,13 @@ fn fork_due(
     requires quantum { 1 ≤ quantum }
     requires within { parent < length players.old }
     ensures come { OnOk result ((old : HostValue) (given : List PlayerValue) → AllReady old.slots given
-        → HasCome old host.old.host given players.old → HasCome old host.new.host given players.new) }
+        → HaveBecome old host.old.host given players.old → HaveBecome old host.new.host given players.new) }
     ensures keeps { OnOk result (KeepsPlaying players.old players.new) }
     ensures far { IfOk result (λ steps. NoneIsDue parent steps players.new) }
     ensures steps { IfOk result (λ steps. (1 ≤ steps) × (steps ≤ quantum)) }
     ensures left { OnOk result (LeavesFewer players.old players.new) }
     ensures refused { IfErr result (λ e. (old : HostValue) (given : List PlayerValue) → AllReady old.slots given
-        → HasCome old host.old.host given players.old → IsPlayRefusal old given e) }
+        → HaveBecome old host.old.host given players.old → IsPlayRefusal old given e) }
 {
     let mut steps = quantum;
     for place in 0..players.len() {
@@ -136,14 +136,14 @@ pub(crate) fn fork_if_due(
     requires within { parent < length players.old }
     requires none { may_fork ≡ false → has_fork players.old ≡ false }
     ensures come { OnOk result ((old : HostValue) (given : List PlayerValue) → AllReady old.slots given
-        → HasCome old host.old.host given players.old → HasCome old host.new.host given players.new) }
+        → HaveBecome old host.old.host given players.old → HaveBecome old host.new.host given players.new) }
     ensures keeps { OnOk result (KeepsPlaying players.old players.new) }
     ensures far { IfOk result (λ steps. NoneIsDue parent steps players.new) }
     ensures steps { IfOk result (λ steps. (1 ≤ steps) × (steps ≤ quantum)) }
     ensures left { OnOk result (LeavesFewer players.old players.new) }
     ensures none { OnOk result (may_fork ≡ false → has_fork players.new ≡ false) }
     ensures refused { IfErr result (λ e. (old : HostValue) (given : List PlayerValue) → AllReady old.slots given
-        → HasCome old host.old.host given players.old → IsPlayRefusal old given e) }
+        → HaveBecome old host.old.host given players.old → IsPlayRefusal old given e) }
 {
     if !may_fork {
         return Ok(quantum);

@@ -7,7 +7,7 @@ pub fn scripts_in_order()
     ensures { ScriptsInOrder }
 {}
 
-/// A script that never waits gives its keys, where all of them come within the steps and the machine still runs behind these.
+/// A script that never waits gives its keys, where all of them come within the steps and the machine still runs after these.
 pub fn plain_cues_give_their_keys()
     ensures { PlainCuesGiveTheirKeys }
 {}

@@ -21,6 +21,6 @@ pub use error::PlayError;
 pub use live::{Live, LiveError, play_live};
 pub use machine::play_machine;
 pub use player::{Fork, Player};
-pub use progress::{Progress, Unwatched, Watcher};
+pub use progress::{NoWatcher, Progress, Watcher};
 pub use rounds::play;
 pub use scripted_slot::ScriptedSlot;

@@ -27,9 +27,9 @@ pub trait Watcher {
 
 /// Nobody.
 #[derive(Clone, Copy, Debug, Drop)]
-pub struct Unwatched;
+pub struct NoWatcher;
 
-impl Watcher for Unwatched {
+impl Watcher for NoWatcher {
     fn is_watching(&self) -> bool {
         false
     }

@@ -3,7 +3,7 @@
 ghost use Rattle.std.specs.Prelude.{◌≡◌, ◌≤◌, ◌<◌, List, OnOk, IfErr, false};
 ghost use Rattle.cpm_slots.specs.Host.{Host as HostValue};
 ghost use Rattle.cpm_play.specs.declared.player.Player.{Player as PlayerValue};
-ghost use Rattle.cpm_play.specs.Players.{AllDiffer, AllPlayed, AllReady, HasCome, HasRoomForForks, IsPlayRefusal, LeavesRest};
+ghost use Rattle.cpm_play.specs.Players.{AllDiffer, AllPlayed, AllReady, HaveBecome, HasRoomForForks, IsPlayRefusal, LeavesRest};
 ghost use Rattle.cpm_play.specs.Players.{fork_pages, forks_of, still_plays, has_fork, ids_of, is_over, players_left};
 
 use crate::error::PlayError;
@@ -72,12 +72,12 @@ fn round(
     requires quantum { 1 ≤ quantum }
     requires none { may_fork ≡ false → has_fork players.old ≡ false }
     ensures come { OnOk result ((old : HostValue) (given : List PlayerValue) → AllReady old.slots given
-        → HasCome old host.old.host given players.old → HasCome old host.new.host given players.new) }
+        → HaveBecome old host.old.host given players.old → HaveBecome old host.new.host given players.new) }
     ensures left { OnOk result ((old : HostValue) (given : List PlayerValue) → AllReady old.slots given
-        → HasCome old host.old.host given players.old → 0 < players_left players.old → players_left players.new < players_left players.old) }
+        → HaveBecome old host.old.host given players.old → 0 < players_left players.old → players_left players.new < players_left players.old) }
     ensures none { OnOk result (may_fork ≡ false → has_fork players.new ≡ false) }
     ensures refused { IfErr result (λ e. (old : HostValue) (given : List PlayerValue) → AllReady old.slots given
-        → HasCome old host.old.host given players.old → IsPlayRefusal old given e) }
+        → HaveBecome old host.old.host given players.old → IsPlayRefusal old given e) }
 {
     for place in 0..players.len() {
         if !may_fork && is_over(&players[place]) {

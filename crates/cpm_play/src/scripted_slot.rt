@@ -67,7 +67,7 @@ impl ScriptedSlot {
         })
     }
 
-    /// Adds bytes of a device to those that it has shown so far. Want of memory adds none.
+    /// Adds bytes of a device to those that it has shown so far. Out of memory, it adds none.
     pub(crate) fn add_bytes(&mut self, device: Device, bytes: &[u8]) -> Result<(), AllocError>
         ensures added { OnOk result (HasAdded device bytes.now self.old self.new) }
         ensures pace { self.new.pace ≡ self.old.pace }

@@ -25,12 +25,12 @@ use Rattle.cpm_play.specs.declared.scripted_slot.ScriptedSlot.{ScriptedSlot}
 use Rattle.cpm_run.proofs.PlayLemmas.{all_ended}
 use Rattle.cpm_run.specs.Illegal.{bytes_at_pc}
 use Rattle.cpm_run.specs.Playing.{AllEnded, AreFinished, HavePlayers, IsClosed, files_by, report_by}
-use Rattle.cpm_run.specs.Run.{Reported, files_left, session_output, report_view, reported_of, reports_of, run_of, start_of}
+use Rattle.cpm_run.specs.Run.{ReportEntry, files_left, session_output, report_view, reported_of, reports_of, run_of, start_of}
 use Rattle.cpm_run.specs.declared.report.SessionReport.{SessionReport}
 
 -- ---- one session
 
-abbrev reported : SessionConfig → End → ℕ → ℕ → ℕ → List ℕ → Reported
+abbrev reported : SessionConfig → End → ℕ → ℕ → ℕ → List ℕ → ReportEntry
 reported s ended count bytes pc at_pc = record { name = string_bytes s.name; ended = ended; count = count; bytes = bytes; pc = pc; at_pc = at_pc }
 
 -- the same registers, and the same memory
@@ -131,19 +131,19 @@ IsFinishing sessions k start now players rest reports files = (system : Disk) (i
     → IsFinishedTo system is k now rest reports files
 
 -- what closing the next slot says
-abbrev pub Closing : Host → Host → List Player → Option (ScriptedSlot × Closed × List ℕ) → List Player → Type 0
-Closing old new rest r left = (p : ScriptedSlot) (ps : List Player) (s : MachineState) → rest ≡ Playing p ∷ ps → slot_at p.id.0 old.slots ≡ Some s → IsClosed p ps s old new r left
+abbrev pub ClosesNextSlot : Host → Host → List Player → Option (ScriptedSlot × Closed × List ℕ) → List Player → Type 0
+ClosesNextSlot old new rest r left = (p : ScriptedSlot) (ps : List Player) (s : MachineState) → rest ≡ Playing p ∷ ps → slot_at p.id.0 old.slots ≡ Some s → IsClosed p ps s old new r left
 
 module _ (sessions : List SessionConfig) (k : ℕ) (s : SessionConfig) (start : List SlotState) (old new : Host) (players : List Player) (r : Option (ScriptedSlot × Closed × List ℕ)) (left : List Player) (below : k < length sessions) (at : s ≡ get_or sessions k s) where
   finish_one : (q : ScriptedSlot) (closed : Closed) (bytes : List ℕ) (rest : List Player) (reports : List SessionReport) (files : List SessionFiles) (report : SessionReport) (file : SessionFiles) (system : Disk) (is : List SessionInput)
-      → map (λ i. i.session) is ≡ sessions → IsFinishedTo system is k old.slots rest reports files → Closing old new rest r left → r ≡ Some (q, closed, bytes) → report_view report ≡ report_by s q closed bytes
+      → map (λ i. i.session) is ≡ sessions → IsFinishedTo system is k old.slots rest reports files → ClosesNextSlot old new rest r left → r ≡ Some (q, closed, bytes) → report_view report ≡ report_by s q closed bytes
       → left_by file ≡ files_by s q closed → IsFinishedTo system is (k + 1) new.slots left (reports ++ report ∷ []) (files ++ file ∷ [])
   unfolding who_of what_of bytes_of
   finish_one q closed bytes rest reports files report file system is same h closing got one other =
       let a = is_at is sessions k s same below at in
       go a rest h.differ (subst (λ (xs : List SessionInput). AllEnded system is old.slots xs rest) a.first h.ended) closing
     where
-      go : (a : IsAt is k (k + 1) s) (now : List Player) → AllDiffer now → AllEnded system is old.slots (a.input ∷ drop (k + 1) is) now → Closing old new now r left
+      go : (a : IsAt is k (k + 1) s) (now : List Player) → AllDiffer now → AllEnded system is old.slots (a.input ∷ drop (k + 1) is) now → ClosesNextSlot old new now r left
           → IsFinishedTo system is (k + 1) new.slots left (reports ++ report ∷ []) (files ++ file ∷ [])
       go a [] differ all close = absurd all
       go a (x ∷ ps) differ all close =
@@ -170,7 +170,7 @@ module _ (sessions : List SessionConfig) (k : ℕ) (s : SessionConfig) (start : 
           }
 
   pub finishing_more : (q : ScriptedSlot) (closed : Closed) (bytes : List ℕ) (rest : List Player) (reports more : List SessionReport) (files others : List SessionFiles) (report : SessionReport) (file : SessionFiles)
-      → IsFinishing sessions k start old.slots players rest reports files → Closing old new rest r left → r ≡ Some (q, closed, bytes) → report_view report ≡ report_by s q closed bytes → left_by file ≡ files_by s q closed
+      → IsFinishing sessions k start old.slots players rest reports files → ClosesNextSlot old new rest r left → r ≡ Some (q, closed, bytes) → report_view report ≡ report_by s q closed bytes → left_by file ≡ files_by s q closed
       → more ≡ reports ++ report ∷ [] → others ≡ files ++ file ∷ [] → IsFinishing sessions (k + 1) start new.slots players left more others
   finishing_more q closed bytes rest reports more files others report file h closing got one other pushed added = λ system is same all.
       subst (λ (xs : List SessionReport). IsFinishedTo system is (k + 1) new.slots left xs others) (sym pushed)
@@ -178,14 +178,14 @@ module _ (sessions : List SessionConfig) (k : ℕ) (s : SessionConfig) (start : 
       (finish_one q closed bytes rest reports files report file system is same (h system is same all) closing got one other))
 
   -- where a session is left, its player is there, and its slot is closed
-  pub finished_early : (rest : List Player) (reports : List SessionReport) (files : List SessionFiles) → IsFinishing sessions k start old.slots players rest reports files → Closing old new rest r left → r ≡ None
+  pub finished_early : (rest : List Player) (reports : List SessionReport) (files : List SessionFiles) → IsFinishing sessions k start old.slots players rest reports files → ClosesNextSlot old new rest r left → r ≡ None
       → AreFinished sessions start players reports files
   finished_early rest reports files h closing none = λ system is same all.
       let f = h system is same all in
       let a = is_at is sessions k s same below at in
       absurd (go system is a rest (subst (λ (xs : List SessionInput). AllEnded system is old.slots xs rest) a.first f.ended) closing)
     where
-      go : (system : Disk) (is : List SessionInput) (a : IsAt is k (k + 1) s) (now : List Player) → AllEnded system is old.slots (a.input ∷ drop (k + 1) is) now → Closing old new now r left → ⊥
+      go : (system : Disk) (is : List SessionInput) (a : IsAt is k (k + 1) s) (now : List Player) → AllEnded system is old.slots (a.input ∷ drop (k + 1) is) now → ClosesNextSlot old new now r left → ⊥
       go system is a [] all close = all
       go system is a (x ∷ ps) all close =
           let e = all.0 in

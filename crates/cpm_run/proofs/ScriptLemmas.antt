@@ -20,7 +20,7 @@ use Rattle.cpm_script.specs.Script.{script}
 use Rattle.cpm_script.specs.declared.fault.LineFault.{LineFault}
 use Rattle.cpm_script.specs.declared.script.Key.{Key}
 use Rattle.cpm_script.proofs.ForkLemmas.{forked_script-keys, length-keys_before}
-use Rattle.cpm_store.specs.Files.{Files, StoreName}
+use Rattle.cpm_store.specs.Files.{StoreFiles, StoreName}
 use Rattle.cpm_play.specs.Playing.{IsInOrder}
 use Rattle.cpm_play.proofs.ScriptLemmas.{script-order}
 use Rattle.cpm_run.specs.Playing.{ArePressable, IsForkPressable, IsPressableBy}
@@ -37,7 +37,7 @@ no_keys keys none = subst IsGood (sym none) (tt, omega arith)
 pub of_script : (text : List ℕ) (keys : List Key) → script text ≡ Ok keys → IsGood keys
 of_script text keys is = subst (λ (r : Result (List Key) (ℕ × LineFault)). IfOk r IsGood) is (script-order text)
 
-session_good : (files : Option Files) (name : Option (String Global)) (keys : List Key) → HasKeys files name keys → IsGood keys
+session_good : (files : Option StoreFiles) (name : Option (String Global)) (keys : List Key) → HasKeys files name keys → IsGood keys
 session_good files None keys none = no_keys keys none
 session_good files (Some name) keys some = of_script some.text keys some.read
 
@@ -54,7 +54,7 @@ record AreForkedKeys (at : ℕ) (before keys : List Key) : Type 0 where
   order : IsInOrder at own
   few : length keys ≤ 4096
 
-forked_good : (files : Option Files) (name : Option (String Global)) (at : ℕ) (before keys : List Key) → length before ≤ 4096 → HasForkedKeys files name at before keys → AreForkedKeys at before keys
+forked_good : (files : Option StoreFiles) (name : Option (String Global)) (at : ℕ) (before keys : List Key) → length before ≤ 4096 → HasForkedKeys files name at before keys → AreForkedKeys at before keys
 forked_good files None at before keys few same = record { own = []; joined = same ∙ sym (append-nil before); order = tt; few = subst (λ (ks : List Key). length ks ≤ 4096) (sym same) few }
 forked_good files (Some name) at before keys few some =
     let forked : IsForked at before keys = subst (λ (r : Result (List Key) (ℕ × LineFault)). IfOk r (IsForked at before)) some.read (forked_script-keys at before some.text few) in
@@ -94,12 +94,12 @@ record IsGoodInput (all : List SessionInput) (i : SessionInput) : Type 0 where
   few : length i.keys ≤ 4096
   pressable : IsPressableBy all i.start i
 
-opened_good : (files : Option Files) (all : List SessionInput) (cpu : Cpu) (quota : ℕ) (names : List (String Global)) (i : SessionInput) → IsOpenedInput files cpu quota names i → IsGoodInput all i
+opened_good : (files : Option StoreFiles) (all : List SessionInput) (cpu : Cpu) (quota : ℕ) (names : List (String Global)) (i : SessionInput) → IsOpenedInput files cpu quota names i → IsGoodInput all i
 opened_good files all cpu quota names i h =
     let good = session_good files i.session.keys i.keys h.keys in
     record { few = good.1; pressable = subst (λ (b : StartInput). IsPressableBy all b i) (sym h.start) good }
 
-fork_good : (files : Option Files) (before is : List SessionInput) (name : StoreName) (at : ℕ) (i : SessionInput) → AreFew before → IsForkedInput files before name at i → at ≤ i.session.steps
+fork_good : (files : Option StoreFiles) (before is : List SessionInput) (name : StoreName) (at : ℕ) (i : SessionInput) → AreFew before → IsForkedInput files before name at i → at ≤ i.session.steps
     → IsGoodInput (before ++ is) i
 fork_good files before is name at i few h within =
     let parent = h.parent in
@@ -117,7 +117,7 @@ fork_good files before is name at i few h within =
     } in
     record { few = keys.few; pressable = subst (λ (b : StartInput). IsPressableBy (before ++ is) b i) (sym h.start) can }
 
-input_good : (files : Option Files) (before is : List SessionInput) (o : Origin) (i : SessionInput) → AreFew before → HasInputOf files before o i
+input_good : (files : Option StoreFiles) (before is : List SessionInput) (o : Origin) (i : SessionInput) → AreFew before → HasInputOf files before o i
     → origin_fault (map (λ x. session_view x.session) before) (pos i.session.steps) (origin_view o) ≡ None → IsGoodInput (before ++ is) i
 input_good files before is (origin.Opened cpu quota drives) i few h none = opened_good files (before ++ is) cpu quota drives.items i h
 input_good files before is (origin.Forked parent at) i few h none =
@@ -132,7 +132,7 @@ seen_sessions : (is : List SessionInput) → map (λ x. session_view x.session) 
 seen_sessions [] = refl
 seen_sessions (i ∷ is) = ap (λ ss. session_view i.session ∷ ss) (seen_sessions is)
 
-pressable_from : (files : Option Files) (n : ℕ) (before is : List SessionInput) → AreFew before → AllInputs files before is
+pressable_from : (files : Option StoreFiles) (n : ℕ) (before is : List SessionInput) → AreFew before → AllInputs files before is
     → forks_fault n (map (λ x. session_view x.session) before) (map (λ x. session_view x.session) is) ≡ None
     → (place : ℕ) → IfSome (slice_get is place) (λ i. IsPressableBy (before ++ is) i.start i)
 pressable_from files n before [] few h none place = tt
@@ -144,7 +144,7 @@ pressable_from files n before (i ∷ is) few h none place =
     (λ next. subst (λ (all : List SessionInput). IfSome (slice_get is next) (λ j. IsPressableBy all j.start j)) (append_assoc before (i ∷ []) is)
     (pressable_from files (n + 1) (before ++ i ∷ []) is (few_more before i few good.few) h.1 later next)) place
 
-pub inputs_pressable : (files : Option Files) (sessions : List SessionConfig) (is : List SessionInput) → map (λ i. i.session) is ≡ sessions → AllInputs files [] is
+pub inputs_pressable : (files : Option StoreFiles) (sessions : List SessionConfig) (is : List SessionInput) → map (λ i. i.session) is ≡ sessions → AllInputs files [] is
     → forks_fault 1 [] (map session_view sessions) ≡ None → ArePressable is
 inputs_pressable files sessions is same h none =
     let seen : map (λ x. session_view x.session) is ≡ map session_view sessions = seen_sessions is ∙ ap (map session_view) same in

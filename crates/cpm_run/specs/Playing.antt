@@ -21,7 +21,7 @@ use Rattle.cpm_play.specs.declared.player.Fork.{Fork}
 use Rattle.cpm_play.specs.declared.player.Player.{Player}
 use Rattle.cpm_play.specs.declared.player.Player.TheVariants.{Playing, Waiting}
 use Rattle.cpm_play.specs.declared.scripted_slot.ScriptedSlot.{ScriptedSlot}
-use Rattle.cpm_run.specs.Run.{IsFirstRefused, IsOpening, IsShortFor, Reported, files_left, pages_of_config, report_view, reports_of, start_of}
+use Rattle.cpm_run.specs.Run.{IsFirstRefused, IsOpening, IsShortFor, ReportEntry, files_left, pages_of_config, report_view, reports_of, start_of}
 use Rattle.cpm_run.specs.Illegal.{bytes_at_pc}
 use Rattle.cpm_run.specs.declared.report.SessionReport.{SessionReport}
 use Rattle.cpm_run.specs.declared.error.RunError.{RunError}
@@ -162,7 +162,7 @@ pub record IsClosed (p : ScriptedSlot) (ps : List Player) (s : MachineState) (ol
   pub others : (id : ℕ) → id ≢ p.id.0 → slot_at id new.slots ≡ slot_at id old.slots
 
 -- what is reported of a session, by what is left of it
-abbrev pub report_by : SessionConfig → ScriptedSlot → Closed → List ℕ → Reported
+abbrev pub report_by : SessionConfig → ScriptedSlot → Closed → List ℕ → ReportEntry
 report_by session p closed at_pc = record {
   name = string_bytes session.name;
   ended = closed.look.ended;

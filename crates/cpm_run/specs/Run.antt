@@ -20,13 +20,15 @@ use Rattle.cpm_flags.specs.declared.regs.Cpu.TheVariants.{I8080}
 use Rattle.cpm_geom.specs.Disk.{Disk}
 use Rattle.cpm_slots.specs.Host.{Host, new_host, refusal_of, with_opened}
 use Rattle.cpm_slots.specs.declared.event.ForkError.TheVariants as fork
+use Rattle.cpm_slots.specs.declared.host.TheConstants.{LEAST_FRAMES}
+use Rattle.cpm_memory.specs.declared.store.TheConstants.{MOST_FRAMES}
 use Rattle.cpm_machine.specs.MachineState.{MachineState, opened_machine}
 use Rattle.cpm_machine.specs.declared.opening.Opening.{Opening}
 use Rattle.cpm_machine.specs.declared.opening.OpenError.{OpenError}
 use Rattle.cpm_machine.specs.declared.opening.OpenError.TheVariants.{NoFrames, NoSlot}
 use Rattle.cpm_machine.specs.declared.reply.End.{End}
-use Rattle.cpm_store.specs.Files.{Files, StoreName, WhereTold}
-use Rattle.cpm_store.specs.Log.{Access, AreNoWrites, AreWrites, RanBy, StopsAfter, Then}
+use Rattle.cpm_store.specs.Files.{StoreFiles, StoreName, WhereTold}
+use Rattle.cpm_store.specs.Log.{StoreAccess, AreNoWrites, AreWrites, LogLeadsBy, StopsAfter, Then}
 use Rattle.cpm_store.specs.Writes.{NamedBytes, StopsAt, WritesAll}
 use Rattle.cpm_play.specs.Players.{HasRoomForForks, IsLackFor}
 use Rattle.cpm_play.specs.Playing.{alone_by}
@@ -70,7 +72,7 @@ session_output session s = record {
 }
 
 -- what is reported of it: its name, its end, its steps, the number of its console bytes, and its program counter with the bytes there
-pub record Reported : Type 0 where
+pub record ReportEntry : Type 0 where
   pub name : StoreName
   pub ended : End
   pub count : ℕ
@@ -78,7 +80,7 @@ pub record Reported : Type 0 where
   pub pc : ℕ
   pub at_pc : List ℕ
 
-abbrev pub reported_of : SessionConfig → MachineState → Reported
+abbrev pub reported_of : SessionConfig → MachineState → ReportEntry
 reported_of session s = record {
   name = string_bytes session.name;
   ended = s.ended;
@@ -88,13 +90,13 @@ reported_of session s = record {
   at_pc = bytes_at_pc s;
 }
 
-abbrev pub report_view : SessionReport → Reported
+abbrev pub report_view : SessionReport → ReportEntry
 report_view r =
     record { name = string_bytes r.name; ended = r.ended; count = r.count; bytes = r.bytes; pc = r.pc; at_pc = r.at_pc }
 
 -- ---- all sessions
 
-abbrev pub reports_of : Disk → List SessionInput → List Reported
+abbrev pub reports_of : Disk → List SessionInput → List ReportEntry
 reports_of system inputs = map (λ i. reported_of i.session (run_of system inputs i)) inputs
 
 abbrev pub files_left : Disk → List SessionInput → List SessionOutput
@@ -106,7 +108,7 @@ outputs_of system inputs = files_of_all (files_left system inputs)
 -- a number that no host can have, or no turn
 abbrev pub top_fault : Config → Option Field
 top_fault config =
-    if not (nat_le 16 config.frames && nat_le config.frames 16384) then Some Frames
+    if not (nat_le LEAST_FRAMES config.frames && nat_le config.frames MOST_FRAMES) then Some Frames
     else if config.quantum == 0 then Some Quantum else None
 
 -- the first place at which nothing can be run: a number at the top, or a fork from no earlier session that is opened, or at a count above the steps of either
@@ -152,7 +154,7 @@ AllAccepted all h (i ∷ is) = IsAccepted h i.start (λ next. AllAccepted all ne
 
 -- Where the store tells its files: with what the files held, the sessions were run alone.
 -- The files that they name were written in order, and nothing else; and each session is reported.
-pub record HasRun (config : Config) (reports : List SessionReport) (old new : Option Files) : Type 0 where
+pub record HasRun (config : Config) (reports : List SessionReport) (old new : Option StoreFiles) : Type 0 where
   pub system : Disk
   pub inputs : List SessionInput
   pub read : AreInputs old config system inputs
@@ -164,11 +166,11 @@ pub record HasRun (config : Config) (reports : List SessionReport) (old new : Op
 
 -- Over any store: with what its files gave, the sessions were run alone. The calls were the reads of what the configuration needs,
 -- then the writes of the files that the sessions name, in order, and no others.
-pub record HasAccessed {S : Type 0} (does : S → Access → S → Type 0) (config : Config) (reports : List SessionReport) (old new : S) : Type 0 where
+pub record HasAccessed {S : Type 0} (does : S → StoreAccess → S → Type 0) (config : Config) (reports : List SessionReport) (old new : S) : Type 0 where
   pub system : Disk
   pub inputs : List SessionInput
   pub accepted : AllAccepted inputs (new_host system config.frames) inputs
-  pub calls : RanBy does (Then (AreRead config system inputs) (AreWrites (outputs_of system inputs))) old new
+  pub calls : LogLeadsBy does (Then (AreRead config system inputs) (AreWrites (outputs_of system inputs))) old new
   pub reported : map report_view reports ≡ reports_of system inputs
 
 -- the openings of those that are opened are all accepted, one after another, whatever becomes of the forks
@@ -177,7 +179,7 @@ AreOpenable h [] = ⊤
 AreOpenable h (i ∷ is) = IsAccepted h i.start (λ next. AreOpenable next is)
 
 -- Where the store tells its files: no number at the top and no fork is at fault, the files hold what is needed, and all openings are accepted.
-pub record IsRunJudged (config : Config) (files : Option Files) : Type 0 where
+pub record IsRunJudged (config : Config) (files : Option StoreFiles) : Type 0 where
   pub faultless : config_fault config ≡ None
   pub system : Disk
   pub inputs : List SessionInput
@@ -226,14 +228,14 @@ abbrev pub pages_of_config : Config → ℕ
 pages_of_config config = sum_by (λ (s : SessionConfig). quota_in config.sessions.items s.origin) config.sessions.items
 
 -- a session's opening or its fork is refused
-pub record IsOpenRefusal (config : Config) (fault : OpenError) (old : Option Files) : Type 0 where
+pub record IsOpenRefusal (config : Config) (fault : OpenError) (old : Option StoreFiles) : Type 0 where
   pub system : Disk
   pub inputs : List SessionInput
   pub read : AreInputs old config system inputs
   pub refused : IsFirstRefused inputs (new_host system config.frames) inputs fault
 
 -- the files before one were written as they should be, and no other name than those and its own has changed
-pub record StopsWriting (config : Config) (old new : Option Files) : Type 0 where
+pub record StopsWriting (config : Config) (old new : Option StoreFiles) : Type 0 where
   pub system : Disk
   pub inputs : List SessionInput
   pub place : ℕ
@@ -241,14 +243,14 @@ pub record StopsWriting (config : Config) (old new : Option Files) : Type 0 wher
   pub stopped : WhereTold old new (StopsAt (outputs_of system inputs) place)
 
 -- how writing is refused
-abbrev pub IsWriteRefusal : List NamedBytes → Option Files → Option Files → RunError → Type 0
+abbrev pub IsWriteRefusal : List NamedBytes → Option StoreFiles → Option StoreFiles → RunError → Type 0
 IsWriteRefusal outputs old new (refusal.WriteFault name) = (place : ℕ) × WhereTold old new (StopsAt outputs place)
 IsWriteRefusal outputs old new refusal.OutOfMemory = (place : ℕ) × WhereTold old new (StopsAt outputs place)
 IsWriteRefusal outputs old new _ = ⊥
 
 -- how a run is refused: for a number at the top or a fork before anything is read, then for the first fault of what is needed, then for the first session whose
--- opening is refused, or for want of room for the forks. But for want of memory and for a file that can't be written nothing was written
-abbrev pub IsRunRefusal : Config → Option Files → Option Files → RunError → Type 0
+-- opening is refused, or because there is no room for the forks. Nothing was written then, unless it is out of memory or a file can't be written
+abbrev pub IsRunRefusal : Config → Option StoreFiles → Option StoreFiles → RunError → Type 0
 IsRunRefusal config old new (refusal.ConfigRefused (Range place)) = (config_fault config ≡ Some place) × (new ≡ old)
 IsRunRefusal config old new (refusal.FileRefused e) = (config_fault config ≡ None) × IsInputFault old config e × (new ≡ old)
 IsRunRefusal config old new (refusal.SessionRefused name fault) =
@@ -260,19 +262,19 @@ IsRunRefusal config old new refusal.OutOfMemory = (new ≡ old) ⊎ StopsWriting
 IsRunRefusal config old new _ = ⊥
 
 -- Over any store: what is needed was read, then those before one of the files were written, writing that one failed, and no other call was made.
-pub record FailsAtWrite {S : Type 0} (does : S → Access → S → Type 0) (config : Config) (old new : S) : Type 0 where
+pub record FailsAtWrite {S : Type 0} (does : S → StoreAccess → S → Type 0) (config : Config) (old new : S) : Type 0 where
   pub system : Disk
   pub inputs : List SessionInput
   pub place : ℕ
-  pub calls : RanBy does (Then (AreRead config system inputs) (StopsAfter (outputs_of system inputs) place)) old new
+  pub calls : LogLeadsBy does (Then (AreRead config system inputs) (StopsAfter (outputs_of system inputs) place)) old new
 
 -- what calls a run that is refused has made of any store: where it was not at its writes, none that writes;
 -- and where a file is refused, the reads up to it and no others
-abbrev pub IsStoppedRun : {S : Type 0} → (S → Access → S → Type 0) → Config → S → S → RunError → Type 0
-IsStoppedRun {S} does config old new (refusal.FileRefused e) = RanBy does (StopsAtInput config e) old new
+abbrev pub IsStoppedRun : {S : Type 0} → (S → StoreAccess → S → Type 0) → Config → S → S → RunError → Type 0
+IsStoppedRun {S} does config old new (refusal.FileRefused e) = LogLeadsBy does (StopsAtInput config e) old new
 IsStoppedRun {S} does config old new (refusal.WriteFault name) = FailsAtWrite does config old new
-IsStoppedRun {S} does config old new refusal.OutOfMemory = RanBy does AreNoWrites old new ⊎ FailsAtWrite does config old new
-IsStoppedRun {S} does config old new _ = RanBy does AreNoWrites old new
+IsStoppedRun {S} does config old new refusal.OutOfMemory = LogLeadsBy does AreNoWrites old new ⊎ FailsAtWrite does config old new
+IsStoppedRun {S} does config old new _ = LogLeadsBy does AreNoWrites old new
 
 -- a device failed
 abbrev pub IsDeviceFault : RunError → Type 0

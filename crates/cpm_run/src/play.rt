@@ -27,7 +27,7 @@ use cpm_config::{Config, SessionConfig};
 use cpm_machine::{Closed, OpenError, Opening};
 use cpm_play::{Fork, PlayError, Player, ScriptedSlot, Watcher, play};
 use cpm_script::Key;
-use cpm_slots::{ForkError, Host};
+use cpm_slots::{ForkError, Host, LEAST_FRAMES, MOST_FRAMES};
 use std::alloc::{AllocError, Global};
 use std::vec::IntoIter;
 
@@ -263,8 +263,8 @@ fn prepare_host(
     config: &Config,
     inputs: Inputs<'_>,
 ) -> Result<(Host, Vec<Player>), RunError>
-    requires least { 16 ≤ config.now.frames }
-    requires most { config.now.frames ≤ 16384 }
+    requires least { LEAST_FRAMES ≤ config.now.frames }
+    requires most { config.now.frames ≤ MOST_FRAMES }
     ensures prepared { IfOk result (λ p. HavePlayers p.0.host.slots (map given inputs.entry.sessions.items) p.1.items) }
     ensures accepted { IfOk result (λ p. (all : List SessionInput) → HasForkRoom all p.0.host
         → AllAccepted all (new_host inputs.entry.system config.entry.now.frames) (map given inputs.entry.sessions.items)) }
@@ -289,8 +289,8 @@ fn prepare_host(
 
 /// Opens all sessions of a configuration that aren't forked, and drops them again.
 pub(crate) fn open_all(alloc: Global, config: &Config, inputs: Inputs<'_>) -> Result<(), RunError>
-    requires least { 16 ≤ config.now.frames }
-    requires most { config.now.frames ≤ 16384 }
+    requires least { LEAST_FRAMES ≤ config.now.frames }
+    requires most { config.now.frames ≤ MOST_FRAMES }
     ensures refusal { IfErr result (IsSessionsRefusal config.entry.now (new_host inputs.entry.system config.entry.now.frames)
         (map given inputs.entry.sessions.items)) }
     ensures openable { OnOk result (AreOpenable (new_host inputs.entry.system config.entry.now.frames) (map given inputs.entry.sessions.items)) }
@@ -306,8 +306,8 @@ pub(crate) fn play_all<'a, T: Watcher>(
     inputs: Inputs<'_>,
     watcher: &mut T,
 ) -> Result<RunResults<'a>, RunError>
-    requires least { 16 ≤ config.now.frames }
-    requires most { config.now.frames ≤ 16384 }
+    requires least { LEAST_FRAMES ≤ config.now.frames }
+    requires most { config.now.frames ≤ MOST_FRAMES }
     requires quantum { 1 ≤ config.now.quantum }
     requires keys { ArePressable (map given inputs.sessions.items) }
     requires sessions { map (λ i. i.session) (map given inputs.sessions.items) ≡ config.now.sessions.items }

@@ -3,7 +3,7 @@ ghost use Rattle.std.specs.Prelude.{◌≡◌, ◌⊎◌, ◌<◌, ◌≤◌, �
 ghost use Rattle.cpm_batch.specs.Inputs.{given};
 ghost use Rattle.cpm_slots.specs.Host.{new_host};
 ghost use Rattle.cpm_store.specs.Files.{CountsFailure, WhereTold};
-ghost use Rattle.cpm_store.specs.Log.{AreNoWrites, AreWrites, RanBy, StopsAfter};
+ghost use Rattle.cpm_store.specs.Log.{AreNoWrites, AreWrites, LogLeadsBy, StopsAfter};
 ghost use Rattle.cpm_store.specs.Writes.{StopsAt, WritesAll, named_output};
 ghost use Rattle.cpm_run.specs.Playing.{ArePressable, IsSessionsRefusal};
 ghost use Rattle.cpm_run.specs.Run.{AllAccepted, HasAccessed, HasRun, IsDeviceFault, IsRunJudged, IsRunRefusal, IsStoppedRun};
@@ -48,8 +48,8 @@ fn config_fault(config: &Config) -> Option<ConfigKey>
 fn write_files<S: Store>(outputs: &[Output<'_>], store: &mut S) -> Result<(), RunError>
     ensures written { OnOk result (WhereTold (S.files store.old) (S.files store.new) (WritesAll (map named_output outputs.now))) }
     ensures refusal { IfErr result (IsWriteRefusal (map named_output outputs.now) (S.files store.old) (S.files store.new)) }
-    ensures log { OnOk result (RanBy S.does (AreWrites (map named_output outputs.now)) store.old store.new) }
-    ensures stopped_log { IfErr result (λ _. (place : ℕ) × RanBy S.does (StopsAfter (map named_output outputs.now) place) store.old store.new) }
+    ensures log { OnOk result (LogLeadsBy S.does (AreWrites (map named_output outputs.now)) store.old store.new) }
+    ensures stopped_log { IfErr result (λ _. (place : ℕ) × LogLeadsBy S.does (StopsAfter (map named_output outputs.now) place) store.old store.new) }
     ensures device { IfErr result (λ e. IsDeviceFault e → CountsFailure (S.failed store.old) (S.failed store.new)) }
     ensures memory { IfErr result (λ e. e ≡ RunError.OutOfMemory → S.failed store.new ≡ S.failed store.old) }
     ensures counted { S.failed store.old ≤ S.failed store.new }
@@ -70,8 +70,8 @@ fn play_inputs<'a, T: Watcher>(
     inputs: Inputs<'_>,
     watcher: &mut T,
 ) -> Result<(Report, Vec<Output<'a>>), RunError>
-    requires least { 16 ≤ config.now.frames }
-    requires most { config.now.frames ≤ 16384 }
+    requires least { LEAST_FRAMES ≤ config.now.frames }
+    requires most { config.now.frames ≤ MOST_FRAMES }
     requires quantum { 1 ≤ config.now.quantum }
     requires keys { ArePressable (map given inputs.sessions.items) }
     requires sessions { map (λ i. i.session) (map given inputs.sessions.items) ≡ config.now.sessions.items }
@@ -90,12 +90,12 @@ fn play_inputs<'a, T: Watcher>(
 /// Judges the sessions of a configuration before a person types at one of them: what `run_host` would read is read, and all sessions are opened that aren't
 /// forked. Nothing is played, and nothing is written.
 ///
-/// It is refused as `run_host` refuses it, but for want of room for forks.
+/// It is refused as `run_host` refuses it, except that room for forks isn't judged.
 pub fn judge_host<S: Store>(alloc: Global, config: &Config, store: &mut S) -> Result<(), RunError>
     ensures judged { OnOk result (IsRunJudged config.now (S.files store.old)) }
     ensures refusal { IfErr result (IsRunRefusal config.now (S.files store.old) (S.files store.new)) }
     ensures same { S.files store.new ≡ S.files store.old }
-    ensures unwritten { RanBy S.does AreNoWrites store.old store.new }
+    ensures unwritten { LogLeadsBy S.does AreNoWrites store.old store.new }
     ensures device { IfErr result (λ e. IsDeviceFault e → CountsFailure (S.failed store.old) (S.failed store.new)) }
 {
     if let Some(place) = config_fault(config) {

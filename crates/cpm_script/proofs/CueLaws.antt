@@ -13,7 +13,7 @@ use Rattle.cpm_script.specs.Cues.{Awaited, Counted, Pressed, CueText, cues, cues
 use Rattle.cpm_script.specs.Cues as cue
 use Rattle.cpm_script.specs.KeyText.{caret, control_key, count_of, keys_of, onto, plain_key}
 use Rattle.cpm_script.specs.Laws.{AreInOrder, CountsRise, CuesInOrder, KeysAreAscii, MeansTheSame, PlainScripts, PressesFollow}
-use Rattle.cpm_script.specs.Script.{is_after, is_skipped, is_script_space, keys_at, most_keys, at_line, or_fault, script_from, with_counted, keys_added, with_line, with_text}
+use Rattle.cpm_script.specs.Script.{is_after, is_skipped, is_script_space, keys_at, most_keys, at_line, or_fault, script_from, keys_with_counted, keys_added, keys_with_line, keys_with_text}
 use Rattle.cpm_script.specs.declared.fault.LineFault.{LineFault}
 use Rattle.cpm_script.specs.declared.fault.LineFault.TheVariants.{CountFalls, NoCount, NoText, NotAKey, TooManyKeys}
 use Rattle.cpm_script.specs.declared.script.Key.{Key}
@@ -70,13 +70,13 @@ same-text keys count None = λ other. refl
 same-text keys count (Some bytes) = same-keys keys count bytes
 
 same-counted : (keys : List Key) (number : Option ℕ) (text : List ℕ)
-    → SameLine (or_fault NoCount number (λ count. if is_after keys count then with_text keys count text else Err CountFalls))
-    (or_fault NoCount number (λ count. if nat_le (last_cue_count 0 (map Counted keys)) count then cue.with_text (map Counted keys) (Some count) text else Err CountFalls))
+    → SameLine (or_fault NoCount number (λ count. if is_after keys count then keys_with_text keys count text else Err CountFalls))
+    (or_fault NoCount number (λ count. if nat_le (last_cue_count 0 (map Counted keys)) count then cue.cues_with_text (map Counted keys) (Some count) text else Err CountFalls))
 same-counted keys None text = λ other. refl
 same-counted keys (Some count) text = by_test (is_after keys count) (nat_le (last_cue_count 0 (map Counted keys)) count) (after-same keys count)
   where
     by_test : (t u : Bool) → t ≡ u
-        → SameLine (if t then with_text keys count text else Err CountFalls) (if u then cue.with_text (map Counted keys) (Some count) text else Err CountFalls)
+        → SameLine (if t then keys_with_text keys count text else Err CountFalls) (if u then cue.cues_with_text (map Counted keys) (Some count) text else Err CountFalls)
     by_test true true e = same-text keys count (keys_of text)
     by_test false false e = λ other. refl
     by_test true false e = absurd (false≢true (sym e))
@@ -89,22 +89,22 @@ other-word word name n is none = false_from_ne_true _ (λ same.
     let both : Some n ≡ None = sym is ∙ ap count_of equal ∙ none in
     absurd (cc))
 
-same-word : (keys : List Key) (word text : List ℕ) → SameLine (with_counted keys word text) (cue.cues_with_word (map Counted keys) word text)
+same-word : (keys : List Key) (word text : List ℕ) → SameLine (keys_with_counted keys word text) (cue.cues_with_word (map Counted keys) word text)
 same-word keys word text = by_count (count_of word) refl
   where
     by_count : (o : Option ℕ) → count_of word ≡ o
-        → SameLine (or_fault NoCount o (λ count. if is_after keys count then with_text keys count text else Err CountFalls)) (cue.cues_with_word (map Counted keys) word text)
+        → SameLine (or_fault NoCount o (λ count. if is_after keys count then keys_with_text keys count text else Err CountFalls)) (cue.cues_with_word (map Counted keys) word text)
     by_count None is = λ other. absurd (other refl)
     by_count (Some n) is =
-        let counted = subst (λ o. SameLine (or_fault NoCount (Some n) (λ count. if is_after keys count then with_text keys count text else Err CountFalls))
-        (or_fault NoCount o (λ count. if nat_le (last_cue_count 0 (map Counted keys)) count then cue.with_text (map Counted keys) (Some count) text else Err CountFalls)))
+        let counted = subst (λ o. SameLine (or_fault NoCount (Some n) (λ count. if is_after keys count then keys_with_text keys count text else Err CountFalls))
+        (or_fault NoCount o (λ count. if nat_le (last_cue_count 0 (map Counted keys)) count then cue.cues_with_text (map Counted keys) (Some count) text else Err CountFalls)))
         (sym is) (same-counted keys (Some n) text) in
         rw (other-word word (codes "wait") n is refl, other-word word (codes "expect") n is refl) counted
 
-same-line : (keys : List Key) (line : List ℕ) → SameLine (with_line keys line) (cue.with_line (map Counted keys) line)
+same-line : (keys : List Key) (line : List ℕ) → SameLine (keys_with_line keys line) (cue.cues_with_line (map Counted keys) line)
 same-line keys line = by_test (is_skipped line)
   where
-    by_test : (t : Bool) → SameLine (if t then Ok keys else with_counted keys (before_first is_script_space line) (after_first is_script_space line))
+    by_test : (t : Bool) → SameLine (if t then Ok keys else keys_with_counted keys (before_first is_script_space line) (after_first is_script_space line))
         (if t then Ok (map Counted keys) else cue.cues_with_word (map Counted keys) (before_first is_script_space line) (after_first is_script_space line))
     by_test true = refl
     by_test false = same-word keys (before_first is_script_space line) (after_first is_script_space line)
@@ -119,7 +119,7 @@ after-same-line number rest (Err fault) read is goes = λ other. ap (λ r. at_li
 same-lines : (number : ℕ) (keys : List Key) (rest : List (List ℕ)) → MeansTheSame (script_from number keys rest) (cues_from number (map Counted keys) rest)
 same-lines number keys [] = refl
 same-lines number keys (line ∷ rest) =
-    after-same-line number rest (with_line keys line) (cue.with_line (map Counted keys) line) (same-line keys line) (λ more. same-lines (number + 1) more rest)
+    after-same-line number rest (keys_with_line keys line) (cue.cues_with_line (map Counted keys) line) (same-line keys line) (λ more. same-lines (number + 1) more rest)
 
 pub plain-same : PlainScripts
 plain-same text = same-lines 1 [] (lines text)
@@ -226,7 +226,7 @@ by-keys P cs all at (Some (b ∷ bytes)) is each = by_test (nat_le (cued_key_cou
         subst P same (each (b ∷ bytes) refl (grind (arith, nat_tests, fit)))
     by_test false fit e = absurd (cc)
 
-order-counted : (cs all : List CueText) (count : ℕ) (text : List ℕ) → AreInOrder cs → last_cue_count 0 cs ≤ count → cue.with_text cs (Some count) text ≡ Ok all → AreInOrder all
+order-counted : (cs all : List CueText) (count : ℕ) (text : List ℕ) → AreInOrder cs → last_cue_count 0 cs ≤ count → cue.cues_with_text cs (Some count) text ≡ Ok all → AreInOrder all
 order-counted cs all count text good late is = by-keys AreInOrder cs all (Some count) (keys_of text) is (λ bytes some room.
     follows cs (map (key_cue (Some count)) bytes) good (record {
       counts = counts-at (last_cue_count 0 cs) count bytes late;
@@ -235,7 +235,7 @@ order-counted cs all count text good late is = by-keys AreInOrder cs all (Some c
     }) (omega (arith, as_many (Some count) bytes, room)))
 
 order-awaited : (cs all : List CueText) (shown : Option (List ℕ)) (text : List ℕ) → AreInOrder cs
-    → or_fault NotAKey shown (λ bytes. cue.with_text (cs ++ Awaited bytes ∷ []) None text) ≡ Ok all → AreInOrder all
+    → or_fault NotAKey shown (λ bytes. cue.cues_with_text (cs ++ Awaited bytes ∷ []) None text) ≡ Ok all → AreInOrder all
 order-awaited cs all None text good is = absurd (cc)
 order-awaited cs all (Some shown) text good is = by-keys AreInOrder (cs ++ Awaited shown ∷ []) all None (keys_of text) is (λ bytes some room.
     subst AreInOrder (sym (append_assoc cs (Awaited shown ∷ []) (map (key_cue None) bytes)))
@@ -245,28 +245,28 @@ order-awaited cs all (Some shown) text good is = by-keys AreInOrder (cs ++ Await
       presses = λ t. presses-none bytes;
     }) (omega (arith, as_many None bytes, keys_in-append cs (Awaited shown ∷ []), room))))
 
-order-expected : (cs all : List CueText) (parts : Option (List ℕ × List ℕ)) → AreInOrder cs → or_fault NoText parts (λ p. cue.with_awaited cs p.0 p.1) ≡ Ok all → AreInOrder all
+order-expected : (cs all : List CueText) (parts : Option (List ℕ × List ℕ)) → AreInOrder cs → or_fault NoText parts (λ p. cue.cues_with_awaited cs p.0 p.1) ≡ Ok all → AreInOrder all
 order-expected cs all None good is = absurd (cc)
 order-expected cs all (Some p) good is = order-awaited cs all (keys_of p.0) p.1 good is
 
 order-number : (cs all : List CueText) (number : Option ℕ) (text : List ℕ) → AreInOrder cs
-    → or_fault NoCount number (λ count. if nat_le (last_cue_count 0 cs) count then cue.with_text cs (Some count) text else Err CountFalls) ≡ Ok all → AreInOrder all
+    → or_fault NoCount number (λ count. if nat_le (last_cue_count 0 cs) count then cue.cues_with_text cs (Some count) text else Err CountFalls) ≡ Ok all → AreInOrder all
 order-number cs all None text good is = absurd (cc)
 order-number cs all (Some count) text good is = by_test (nat_le (last_cue_count 0 cs) count) refl is
   where
-    by_test : (t : Bool) → nat_le (last_cue_count 0 cs) count ≡ t → (if t then cue.with_text cs (Some count) text else Err CountFalls) ≡ Ok all → AreInOrder all
+    by_test : (t : Bool) → nat_le (last_cue_count 0 cs) count ≡ t → (if t then cue.cues_with_text cs (Some count) text else Err CountFalls) ≡ Ok all → AreInOrder all
     by_test true late e = order-counted cs all count text good (grind (arith, nat_tests, late)) e
     by_test false late e = absurd (cc)
 
 order-word : (cs all : List CueText) (word text : List ℕ) → AreInOrder cs → cue.cues_with_word cs word text ≡ Ok all → AreInOrder all
 order-word cs all word text good is = by_tests (is_wait_word word) (is_expect word) is
   where
-    by_tests : (t u : Bool) → (if t then cue.with_awaited cs [] text else (if u then cue.with_expected cs text else cue.with_counted cs word text)) ≡ Ok all → AreInOrder all
+    by_tests : (t u : Bool) → (if t then cue.cues_with_awaited cs [] text else (if u then cue.cues_with_expected cs text else cue.cues_with_counted cs word text)) ≡ Ok all → AreInOrder all
     by_tests true u e = order-awaited cs all (Some []) text good e
     by_tests false true e = order-expected cs all (quoted text) good e
     by_tests false false e = order-number cs all (count_of word) text good e
 
-order-line : (cs all : List CueText) (line : List ℕ) → AreInOrder cs → cue.with_line cs line ≡ Ok all → AreInOrder all
+order-line : (cs all : List CueText) (line : List ℕ) → AreInOrder cs → cue.cues_with_line cs line ≡ Ok all → AreInOrder all
 order-line cs all line good is = by_test (is_skipped line) is
   where
     by_test : (t : Bool) → (if t then Ok cs else cue.cues_with_word cs (before_first is_script_space line) (after_first is_script_space line)) ≡ Ok all → AreInOrder all
@@ -281,7 +281,7 @@ order-after number rest (Err fault) goes = tt
 order-lines : (number : ℕ) (cs : List CueText) (rest : List (List ℕ)) → AreInOrder cs → IfOk (cues_from number cs rest) AreInOrder
 order-lines number cs [] good = good
 order-lines number cs (line ∷ rest) good =
-    order-after number rest (cue.with_line cs line) (λ more is. order-lines (number + 1) more rest (order-line cs more line good is))
+    order-after number rest (cue.cues_with_line cs line) (λ more is. order-lines (number + 1) more rest (order-line cs more line good is))
 
 pub cues-ordered : CuesInOrder
 cues-ordered text = order-lines 1 [] (lines text) (record { few = omega arith; counts = tt; ascii = tt; presses = tt })

@@ -8,7 +8,7 @@ use Rattle.std.proofs.lemmas.Bool.{false≢true}
 use Rattle.std.proofs.lemmas.List.{append-nil, map-append}
 use Rattle.memchr.specs.Find.{FindsNeedle, first_of, matches}
 use Rattle.memchr.proofs.lemmas.ValueLemmas.{FindsNeedle-value}
-use Rattle.cpm_script.specs.Cues.{Awaited, Counted, IsReading, Pressed, CueText, all_said, closing, cues_from, cut_at, cued_key_count, last_cue_count, key_cue, quoted, cue_text, cues_with_keys, with_line, with_text, cues_with_word}
+use Rattle.cpm_script.specs.Cues.{Awaited, Counted, IsReading, Pressed, CueText, all_said, closing, cues_from, cut_at, cued_key_count, last_cue_count, key_cue, quoted, cue_text, cues_with_keys, cues_with_line, cues_with_text, cues_with_word}
 use Rattle.cpm_script.specs.KeyText.{first_key_of_text, keys_of}
 use Rattle.cpm_script.specs.Laws.{KeysAreAscii}
 use Rattle.cpm_script.specs.Script.{is_skipped, is_script_space, most_keys, at_line, or_fault}
@@ -180,21 +180,21 @@ text-added cues new at n (Some (k ∷ ks)) is some room added =
 -- ---- a line that waits
 
 pub awaited-none : (cues : List CueText) (shown : Option (List ℕ)) (text : List ℕ) → is_some shown ≡ false
-    → or_fault NotAKey shown (λ bytes. with_text (cues ++ Awaited bytes ∷ []) None text) ≡ Err NotAKey
+    → or_fault NotAKey shown (λ bytes. cues_with_text (cues ++ Awaited bytes ∷ []) None text) ≡ Err NotAKey
 awaited-none cues None text none = refl
 awaited-none cues (Some bytes) text none = absurd (false≢true (sym none))
 
 pub awaited-some : (cues mid : List CueText) (shown : Option (List ℕ)) (text : List ℕ) → option_map (λ bytes. cues ++ Awaited bytes ∷ []) shown ≡ Some mid
-    → or_fault NotAKey shown (λ bytes. with_text (cues ++ Awaited bytes ∷ []) None text) ≡ with_text mid None text
+    → or_fault NotAKey shown (λ bytes. cues_with_text (cues ++ Awaited bytes ∷ []) None text) ≡ cues_with_text mid None text
 awaited-some cues mid None text is = absurd (cc)
-awaited-some cues mid (Some bytes) text is = let same : cues ++ Awaited bytes ∷ [] ≡ mid = cc in ap (λ cs. with_text cs None text) same
+awaited-some cues mid (Some bytes) text is = let same : cues ++ Awaited bytes ∷ [] ≡ mid = cc in ap (λ cs. cues_with_text cs None text) same
 
 -- ---- lines
 
-pub kept-line : (cues : List CueText) (line : List ℕ) → is_skipped line ≡ false → with_line cues line ≡ cues_with_word cues (before_first is_script_space line) (after_first is_script_space line)
+pub kept-line : (cues : List CueText) (line : List ℕ) → is_skipped line ≡ false → cues_with_line cues line ≡ cues_with_word cues (before_first is_script_space line) (after_first is_script_space line)
 kept-line cues line kept = ap (λ (t : Bool). if t then Ok cues else cues_with_word cues (before_first is_script_space line) (after_first is_script_space line)) kept
 
-pub cues-step : (n : ℕ) (cues new : List CueText) (line : List ℕ) (rest : List (List ℕ)) → with_line cues line ≡ Ok new
+pub cues-step : (n : ℕ) (cues new : List CueText) (line : List ℕ) (rest : List (List ℕ)) → cues_with_line cues line ≡ Ok new
     → cues_from n cues (line ∷ rest) ≡ cues_from (n + 1) new rest
 cues-step n cues new line rest is = ap (λ r. at_line n r (λ more. cues_from (n + 1) more rest)) is
 

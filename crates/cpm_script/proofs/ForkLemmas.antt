@@ -11,7 +11,7 @@ use Rattle.std.proofs.lemmas.List.Elements.{All-cons, All-head, All-nil, All-tai
 use Rattle.cpm_script.specs.Fork.{line_fault_or, fork_lines_fault, forked_keys, keys_before, line_keys, room_left, with_own}
 use Rattle.cpm_script.specs.KeyText.{count_of, keys_of}
 use Rattle.cpm_script.specs.Laws.{AreFrom, ForkedKeysInOrder, IsCut, IsForked, KeysBeforeAreFirst}
-use Rattle.cpm_script.specs.Script.{has_count, is_after, is_counted, is_skipped, is_script_space, keys_at, most_keys, at_line, or_fault, script, script_from, with_counted, keys_added, with_line}
+use Rattle.cpm_script.specs.Script.{has_count, is_after, is_counted, is_skipped, is_script_space, keys_at, most_keys, at_line, or_fault, script, script_from, keys_with_counted, keys_added, keys_with_line}
 use Rattle.cpm_script.specs.declared.fault.LineFault.{LineFault}
 use Rattle.cpm_script.specs.declared.fault.LineFault.TheVariants.{BeforeFork, CountFalls, NoCount, NotAKey, TooManyForked, TooManyKeys}
 use Rattle.cpm_script.specs.declared.script.Key.{Key}
@@ -44,7 +44,7 @@ uncounted : (number : ℕ) (keys all : List Key) (rest : List (List ℕ)) → ha
 uncounted number keys all [] none is = cc
 uncounted number keys all (line ∷ rest) none is =
     let both = neither (is_counted line) (has_count rest) none in
-    after_line number (with_line keys line) (λ more. script_from (number + 1) more rest) all (all ≡ keys)
+    after_line number (keys_with_line keys line) (λ more. script_from (number + 1) more rest) all (all ≡ keys)
     (λ more got goes. uncounted (number + 1) more all rest both.1 goes
     ∙ uncounted_line (is_skipped line) (count_of (before_first is_script_space line)) keys more _ both.0 got) is
 
@@ -149,11 +149,11 @@ good-counted at total room left keys more (Some count) text good is rooms = by_t
     by_test true late e = good-text at total room left count keys more text good late e rooms
     by_test false late e = absurd (cc)
 
-good-line : (at total room left : ℕ) (keys more : List Key) (line : List ℕ) → IsGood at total room keys → with_line keys line ≡ Ok more
+good-line : (at total room left : ℕ) (keys more : List Key) (line : List ℕ) → IsGood at total room keys → keys_with_line keys line ≡ Ok more
     → room_left at room (line_keys line) ≡ Ok left → IsGood at total left more
 good-line at total room left keys more line good is rooms = by_test (is_skipped line) is rooms
   where
-    by_test : (t : Bool) → (if t then Ok keys else with_counted keys (before_first is_script_space line) (after_first is_script_space line)) ≡ Ok more
+    by_test : (t : Bool) → (if t then Ok keys else keys_with_counted keys (before_first is_script_space line) (after_first is_script_space line)) ≡ Ok more
         → room_left at room (if t then None else option_zip (count_of (before_first is_script_space line)) (option_map length (keys_of (after_first is_script_space line)))) ≡ Ok left
         → IsGood at total left more
     by_test true e f = let same : keys ≡ more = cc in let same_room : room ≡ left = cc in rw (sym same, sym same_room) good
@@ -165,7 +165,7 @@ good-lines at total room number other keys all [] good is none =
     let same : keys ≡ all = cc in
     rw (sym same) (record { order = good.order; room = omega (arith, good.room) })
 good-lines at total room number other keys all (line ∷ rest) good is none =
-    after_line number (with_line keys line) (λ more. script_from (number + 1) more rest) all (IsGood at total 0 all)
+    after_line number (keys_with_line keys line) (λ more. script_from (number + 1) more rest) all (IsGood at total 0 all)
     (λ more got goes. after_room other (room_left at room (line_keys line)) (λ left. fork_lines_fault at left (other + 1) rest) (IsGood at total 0 all)
     (λ left rooms later. good-lines at total left (number + 1) (other + 1) more all rest (good-line at total room left keys more line good got rooms) goes later) none) is
 

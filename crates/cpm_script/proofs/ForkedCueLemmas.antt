@@ -34,7 +34,7 @@ room-text : (at room left count : ℕ) (text : Option (List ℕ)) (bytes : List 
 room-text at room left count text bytes is rooms =
     room-is at room left count (length bytes) (subst (λ t. room_left at room (option_zip (Some count) (option_map length t)) ≡ Ok left) is rooms)
 
-good-counted : (at total room left count : ℕ) (cs all : List CueText) (text : List ℕ) → IsGood at total room cs → last_cue_count 0 cs ≤ count → cue.with_text cs (Some count) text ≡ Ok all
+good-counted : (at total room left count : ℕ) (cs all : List CueText) (text : List ℕ) → IsGood at total room cs → last_cue_count 0 cs ≤ count → cue.cues_with_text cs (Some count) text ≡ Ok all
     → room_left at room (option_zip (Some count) (option_map length (keys_of text))) ≡ Ok left → IsGood at total left all
 good-counted at total room left count cs all text good late is rooms = by-keys (IsGood at total left) cs all (Some count) (keys_of text) is (λ bytes some fits.
     let here = room-text at room left count (keys_of text) bytes some rooms in
@@ -44,7 +44,7 @@ good-counted at total room left count cs all text good late is rooms = by-keys (
     })
 
 good-awaited : (at total room left : ℕ) (cs all : List CueText) (shown : Option (List ℕ)) (text : List ℕ) → IsGood at total room cs
-    → or_fault NotAKey shown (λ bytes. cue.with_text (cs ++ Awaited bytes ∷ []) None text) ≡ Ok all
+    → or_fault NotAKey shown (λ bytes. cue.cues_with_text (cs ++ Awaited bytes ∷ []) None text) ≡ Ok all
     → room_left at room (option_zip (Some at) (option_map length (keys_of text))) ≡ Ok left → IsGood at total left all
 good-awaited at total room left cs all None text good is rooms = absurd (cc)
 good-awaited at total room left cs all (Some shown) text good is rooms =
@@ -56,18 +56,18 @@ good-awaited at total room left cs all (Some shown) text good is rooms =
     }))
 
 good-expected : (at total room left : ℕ) (cs all : List CueText) (parts : Option (List ℕ × List ℕ)) → IsGood at total room cs
-    → or_fault NoText parts (λ p. cue.with_awaited cs p.0 p.1) ≡ Ok all
+    → or_fault NoText parts (λ p. cue.cues_with_awaited cs p.0 p.1) ≡ Ok all
     → room_left at room (option_zip (Some at) (option_and_then (λ p. option_map length (keys_of p.1)) parts)) ≡ Ok left → IsGood at total left all
 good-expected at total room left cs all None good is rooms = absurd (cc)
 good-expected at total room left cs all (Some p) good is rooms = good-awaited at total room left cs all (keys_of p.0) p.1 good is rooms
 
 good-number : (at total room left : ℕ) (cs all : List CueText) (number : Option ℕ) (text : List ℕ) → IsGood at total room cs
-    → or_fault NoCount number (λ count. if nat_le (last_cue_count 0 cs) count then cue.with_text cs (Some count) text else Err CountFalls) ≡ Ok all
+    → or_fault NoCount number (λ count. if nat_le (last_cue_count 0 cs) count then cue.cues_with_text cs (Some count) text else Err CountFalls) ≡ Ok all
     → room_left at room (option_zip number (option_map length (keys_of text))) ≡ Ok left → IsGood at total left all
 good-number at total room left cs all None text good is rooms = absurd (cc)
 good-number at total room left cs all (Some count) text good is rooms = by_test (nat_le (last_cue_count 0 cs) count) refl is
   where
-    by_test : (t : Bool) → nat_le (last_cue_count 0 cs) count ≡ t → (if t then cue.with_text cs (Some count) text else Err CountFalls) ≡ Ok all → IsGood at total left all
+    by_test : (t : Bool) → nat_le (last_cue_count 0 cs) count ≡ t → (if t then cue.cues_with_text cs (Some count) text else Err CountFalls) ≡ Ok all → IsGood at total left all
     by_test true late e = good-counted at total room left count cs all text good (grind (arith, nat_tests, late)) e rooms
     by_test false late e = absurd (cc)
 
@@ -75,7 +75,7 @@ good-word : (at total room left : ℕ) (cs all : List CueText) (word text : List
     → room_left at room (word_cues at word text) ≡ Ok left → IsGood at total left all
 good-word at total room left cs all word text good is rooms = by_tests (is_wait_word word) (is_expect word) is rooms
   where
-    by_tests : (t u : Bool) → (if t then cue.with_awaited cs [] text else (if u then cue.with_expected cs text else cue.with_counted cs word text)) ≡ Ok all
+    by_tests : (t u : Bool) → (if t then cue.cues_with_awaited cs [] text else (if u then cue.cues_with_expected cs text else cue.cues_with_counted cs word text)) ≡ Ok all
         → room_left at room (if t then option_zip (Some at) (option_map length (keys_of text))
         else (if u then option_zip (Some at) (option_and_then (λ p. option_map length (keys_of p.1)) (quoted text))
         else option_zip (count_of word) (option_map length (keys_of text)))) ≡ Ok left → IsGood at total left all
@@ -83,7 +83,7 @@ good-word at total room left cs all word text good is rooms = by_tests (is_wait_
     by_tests false true e f = good-expected at total room left cs all (quoted text) good e f
     by_tests false false e f = good-number at total room left cs all (count_of word) text good e f
 
-good-line : (at total room left : ℕ) (cs all : List CueText) (line : List ℕ) → IsGood at total room cs → cue.with_line cs line ≡ Ok all
+good-line : (at total room left : ℕ) (cs all : List CueText) (line : List ℕ) → IsGood at total room cs → cue.cues_with_line cs line ≡ Ok all
     → room_left at room (line_cues at line) ≡ Ok left → IsGood at total left all
 good-line at total room left cs all line good is rooms = by_test (is_skipped line) is rooms
   where
@@ -103,7 +103,7 @@ good-lines at total room number other cs all [] good is none =
     let same : cs ≡ all = cc in
     rw (sym same) (record { counts = good.counts; room = omega (arith, good.room) })
 good-lines at total room number other cs all (line ∷ rest) good is none =
-    after_line number (cue.with_line cs line) (λ more. cues_from (number + 1) more rest) all (IsGood at total 0 all)
+    after_line number (cue.cues_with_line cs line) (λ more. cues_from (number + 1) more rest) all (IsGood at total 0 all)
     (λ more got goes. after_room other (room_left at room (line_cues at line)) (λ left. cue_fault at left (other + 1) rest) (IsGood at total 0 all)
     (λ left rooms later. good-lines at total left (number + 1) (other + 1) more all rest (good-line at total room left cs more line good got rooms) goes later) none) is
 

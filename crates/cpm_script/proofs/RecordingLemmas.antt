@@ -17,7 +17,7 @@ use Rattle.std.proofs.lemmas.Str.Parse.{digit_at}
 use Rattle.cpm_script.specs.KeyText.{caret, control_key, count_of, keys_of, onto, plain_key}
 use Rattle.cpm_script.specs.Laws.{RecordedKeys}
 use Rattle.cpm_script.specs.Recording.{AreTyped, key_line, key_text, recorded}
-use Rattle.cpm_script.specs.Script.{is_after, is_skipped, is_script_space, most_keys, at_line, script_from, keys_added, with_line}
+use Rattle.cpm_script.specs.Script.{is_after, is_skipped, is_script_space, most_keys, at_line, script_from, keys_added, keys_with_line}
 use Rattle.cpm_script.specs.declared.script.Key.{Key}
 use Rattle.cpm_script.proofs.LineLemmas.{line_before}
 
@@ -144,7 +144,7 @@ one_more keys k room =
 
 counted_line : (keys : List Key) (k : Key) (line number text : List ℕ) → is_skipped line ≡ false → before_first is_script_space line ≡ number
     → after_first is_script_space line ≡ text → count_of number ≡ Some k.count → is_after keys k.count ≡ true → keys_of text ≡ Some (k.byte ∷ [])
-    → length keys < most_keys → with_line keys line ≡ Ok (keys ++ k ∷ [])
+    → length keys < most_keys → keys_with_line keys line ≡ Ok (keys ++ k ∷ [])
 counted_line keys k line number text counts number_is text_is count late key room =
     rw (counts, number_is, text_is, count, late, key) (one_more keys k room)
 
@@ -153,7 +153,7 @@ abbrev key_front : Key → List ℕ
 key_front k = decimal k.count ++ 0x20 ∷ key_text k.byte
 
 line-read : (keys : List Key) (k : Key) → k.count < 2 ^ 64 → k.byte < 128 → is_after keys k.count ≡ true → length keys < most_keys
-    → with_line keys (key_front k) ≡ Ok (keys ++ k ∷ [])
+    → keys_with_line keys (key_front k) ≡ Ok (keys ++ k ∷ [])
 line-read keys k small ascii late room =
     let digits = digits-decimal k.count small in
     counted_line keys k (key_front k) (decimal k.count) (key_text k.byte)

@@ -24,7 +24,7 @@ use Rattle.cpm_script.specs.declared.fault.ScriptError.TheVariants.{Line, OutOfM
 -- ---- cues
 
 -- a key at its count; that the session waits for a key, and has shown this text since the last one; or a
--- key at once, behind what stands before it
+-- key at once, after what stands before it
 pub data CueText : Type 0 where
   Counted : (key : Key) → CueText
   Awaited : (text : List ℕ) → CueText
@@ -64,19 +64,19 @@ key_cue (Some count) byte = Counted (record { count = count; byte = byte })
 abbrev pub closing : List ℕ
 closing = codes "\" "
 
--- what stands behind a first quote, cut at this place: before it, where there is anything, and behind the
+-- what stands after a first quote, cut at this place: before it, where there is anything, and after the
 -- quote and the space there
 abbrev pub cut_at : List ℕ → ℕ → Option (List ℕ × List ℕ)
 cut_at inner place = if place == 0 then None else Some (take place inner, drop (place + 2) inner)
 
--- the text between a quote in front and the next one with a space behind it, and what follows that space
+-- the text between a quote in front and the next one with a space after it, and what follows that space
 abbrev pub quoted : List ℕ → Option (List ℕ × List ℕ)
 quoted [] = None
 quoted (b ∷ inner) = if b == 0x22 then option_and_then (cut_at inner) (first_of (matches inner closing 0)) else None
 
 -- ---- a line
 
--- the cues with these bytes as keys behind them: at least one, and not too many in all
+-- the cues with these bytes as keys after them: at least one, and not too many in all
 abbrev pub cues_with_keys : List CueText → Option ℕ → List ℕ → Result (List CueText) LineFault
 cues_with_keys cues at [] = Err NoKey
 cues_with_keys cues at (b ∷ bytes) =
@@ -84,21 +84,21 @@ cues_with_keys cues at (b ∷ bytes) =
     then Ok (cues ++ map (key_cue at) (b ∷ bytes)) else Err TooManyKeys
 
 -- the cues with the keys that a text stands for
-abbrev pub with_text : List CueText → Option ℕ → List ℕ → Result (List CueText) LineFault
-with_text cues at text = or_fault NotAKey (keys_of text) (cues_with_keys cues at)
+abbrev pub cues_with_text : List CueText → Option ℕ → List ℕ → Result (List CueText) LineFault
+cues_with_text cues at text = or_fault NotAKey (keys_of text) (cues_with_keys cues at)
 
 -- the cues with the keys of a text at the count that a number writes, which is not below the last one
-abbrev pub with_counted : List CueText → List ℕ → List ℕ → Result (List CueText) LineFault
-with_counted cues number text = or_fault NoCount (count_of number) (λ count.
-    if nat_le (last_cue_count 0 cues) count then with_text cues (Some count) text else Err CountFalls)
+abbrev pub cues_with_counted : List CueText → List ℕ → List ℕ → Result (List CueText) LineFault
+cues_with_counted cues number text = or_fault NoCount (count_of number) (λ count.
+    if nat_le (last_cue_count 0 cues) count then cues_with_text cues (Some count) text else Err CountFalls)
 
 -- the cues with the keys of a text, once the session waits and has shown what another text stands for
-abbrev pub with_awaited : List CueText → List ℕ → List ℕ → Result (List CueText) LineFault
-with_awaited cues shown text = or_fault NotAKey (keys_of shown) (λ bytes. with_text (cues ++ Awaited bytes ∷ []) None text)
+abbrev pub cues_with_awaited : List CueText → List ℕ → List ℕ → Result (List CueText) LineFault
+cues_with_awaited cues shown text = or_fault NotAKey (keys_of shown) (λ bytes. cues_with_text (cues ++ Awaited bytes ∷ []) None text)
 
--- the cues with the keys behind a text in quotes, once the session waits and has shown that text
-abbrev pub with_expected : List CueText → List ℕ → Result (List CueText) LineFault
-with_expected cues text = or_fault NoText (quoted text) (λ parts. with_awaited cues parts.0 parts.1)
+-- the cues with the keys after a text in quotes, once the session waits and has shown that text
+abbrev pub cues_with_expected : List CueText → List ℕ → Result (List CueText) LineFault
+cues_with_expected cues text = or_fault NoText (quoted text) (λ parts. cues_with_awaited cues parts.0 parts.1)
 
 abbrev pub is_wait_word : List ℕ → Bool
 is_wait_word word = bytes_eq word (codes "wait")
@@ -109,12 +109,12 @@ is_expect word = bytes_eq word (codes "expect")
 -- the cues with those of a line that begins with this word
 abbrev pub cues_with_word : List CueText → List ℕ → List ℕ → Result (List CueText) LineFault
 cues_with_word cues word text =
-    if is_wait_word word then with_awaited cues [] text
-    else (if is_expect word then with_expected cues text else with_counted cues word text)
+    if is_wait_word word then cues_with_awaited cues [] text
+    else (if is_expect word then cues_with_expected cues text else cues_with_counted cues word text)
 
 -- the cues so far and those of this line
-abbrev pub with_line : List CueText → List ℕ → Result (List CueText) LineFault
-with_line cues line =
+abbrev pub cues_with_line : List CueText → List ℕ → Result (List CueText) LineFault
+cues_with_line cues line =
     if is_skipped line then Ok cues
     else cues_with_word cues (before_first is_script_space line) (after_first is_script_space line)
 
@@ -124,7 +124,7 @@ with_line cues line =
 abbrev pub cues_from : ℕ → List CueText → List (List ℕ) → Result (List CueText) (ℕ × LineFault)
 cues_from number cues [] = Ok cues
 cues_from number cues (line ∷ rest) =
-    at_line number (with_line cues line) (λ more. cues_from (number + 1) more rest)
+    at_line number (cues_with_line cues line) (λ more. cues_from (number + 1) more rest)
 
 -- what a script says, or the number of its first line with a fault, and the fault; a line ends with LF or
 -- CR LF

@@ -15,7 +15,7 @@ use Rattle.cpm_script.specs.declared.fault.LineFault.TheVariants.{BeforeFork, To
 abbrev pub keys_before : ℕ → List Key → List Key
 keys_before at keys = filter (λ k. nat_lt k.count at) keys
 
--- the count of a line, and how many keys stand behind it, where it has both
+-- the count of a line, and how many keys stand after it, where it has both
 abbrev pub line_keys : List ℕ → Option (ℕ × ℕ)
 line_keys line =
     if is_skipped line then None
@@ -60,7 +60,7 @@ forked_script at before text =
 -- ---- scripts with lines that wait
 
 -- the count of a line that begins with this word, or this one where the line waits, and how many keys stand
--- behind it, where it has both
+-- after it, where it has both
 abbrev pub word_cues : ℕ → List ℕ → List ℕ → Option (ℕ × ℕ)
 word_cues at word text =
     if is_wait_word word then option_zip (Some at) (option_map length (keys_of text))

@@ -68,7 +68,7 @@ KeysAreAscii (Counted key ∷ cs) = (key.byte < 128) × KeysAreAscii cs
 KeysAreAscii (Awaited text ∷ cs) = KeysAreAscii cs
 KeysAreAscii (Pressed byte ∷ cs) = (byte < 128) × KeysAreAscii cs
 
--- each key without a count stands behind a wait, or behind another such key
+-- each key without a count stands after a wait, or after another such key
 abbrev pub PressesFollow : Bool → List CueText → Type 0
 PressesFollow waited [] = ⊤
 PressesFollow waited (Counted key ∷ cs) = PressesFollow false cs

@@ -48,19 +48,19 @@ or_fault fault None next = Err fault
 or_fault fault (Some x) next = next x
 
 -- the keys with those that a text stands for
-abbrev pub with_text : List Key → ℕ → List ℕ → Result (List Key) LineFault
-with_text keys count text = or_fault NotAKey (keys_of text) (keys_added keys count)
+abbrev pub keys_with_text : List Key → ℕ → List ℕ → Result (List Key) LineFault
+keys_with_text keys count text = or_fault NotAKey (keys_of text) (keys_added keys count)
 
 -- the keys with those of a text, at the count that a number writes
-abbrev pub with_counted : List Key → List ℕ → List ℕ → Result (List Key) LineFault
-with_counted keys number text = or_fault NoCount (count_of number) (λ count.
-    if is_after keys count then with_text keys count text else Err CountFalls)
+abbrev pub keys_with_counted : List Key → List ℕ → List ℕ → Result (List Key) LineFault
+keys_with_counted keys number text = or_fault NoCount (count_of number) (λ count.
+    if is_after keys count then keys_with_text keys count text else Err CountFalls)
 
 -- the keys of the lines so far and of this line: what stands before its first space is the count
-abbrev pub with_line : List Key → List ℕ → Result (List Key) LineFault
-with_line keys line =
+abbrev pub keys_with_line : List Key → List ℕ → Result (List Key) LineFault
+keys_with_line keys line =
     if is_skipped line then Ok keys
-    else with_counted keys (before_first is_script_space line) (after_first is_script_space line)
+    else keys_with_counted keys (before_first is_script_space line) (after_first is_script_space line)
 
 -- what follows a line that was read, or its number with its fault
 abbrev pub at_line : {X Y : Type 0} → ℕ → Result X LineFault → (X → Result Y (ℕ × LineFault))
@@ -72,7 +72,7 @@ at_line number (Err fault) next = Err (number, fault)
 abbrev pub script_from : ℕ → List Key → List (List ℕ) → Result (List Key) (ℕ × LineFault)
 script_from number keys [] = Ok keys
 script_from number keys (line ∷ rest) =
-    at_line number (with_line keys line) (λ more. script_from (number + 1) more rest)
+    at_line number (keys_with_line keys line) (λ more. script_from (number + 1) more rest)
 
 -- the keys of a script, or the number of its first line with a fault, and the fault; a line ends
 -- with LF or CR LF

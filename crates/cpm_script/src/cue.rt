@@ -4,7 +4,7 @@ ghost use Rattle.std.specs.Str.Lines.{lines};
 ghost use Rattle.cpm_script.specs.KeyText.{count_of, keys_of};
 ghost use Rattle.cpm_script.specs.Cues.{AddsCues, Awaited, IsReading, ReadsCues, all_said, cues, cut_at};
 ghost use Rattle.cpm_script.specs.Cues.{has_cue, is_cue, is_expect, is_opening, is_wait_word, key_cue, quoted, cue_text};
-ghost use Rattle.cpm_script.specs.Cues.{with_awaited, with_counted, with_expected, with_line, with_text, cues_with_word};
+ghost use Rattle.cpm_script.specs.Cues.{cues_with_awaited, cues_with_counted, cues_with_expected, cues_with_line, cues_with_text, cues_with_word};
 ghost use Rattle.cpm_script.specs.Script.{most_keys};
 
 use crate::count::count_of;
@@ -23,7 +23,7 @@ pub enum Cue {
     /// What comes next comes when the session waits for a key, and has shown this text since the last key.
     /// The text may be empty.
     Wait(Vec<u8>),
-    /// A key at once, behind the one before it.
+    /// A key at once, after the one before it.
     Press(u8),
 }
 
@@ -80,7 +80,7 @@ fn push_keys(reading: &mut ScriptReading, at: Option<u64>, text: &[u8]) -> Resul
 /// Adds the keys that a text stands for.
 fn add_text(reading: &mut ScriptReading, at: Option<u64>, text: &[u8]) -> Result<(), KeyStop>
     requires { IsReading reading.old }
-    ensures added { AddsCues (with_text (all_said reading.old.cues) at text.now) result (all_said reading.new.cues) }
+    ensures added { AddsCues (cues_with_text (all_said reading.old.cues) at text.now) result (all_said reading.new.cues) }
     ensures reading { OnOk result (IsReading reading.new) }
 {
     let Some(count) = count_keys(text) else {
@@ -101,7 +101,7 @@ fn add_text(reading: &mut ScriptReading, at: Option<u64>, text: &[u8]) -> Result
 /// Adds the keys of a text at the count that a number writes.
 fn add_counted(reading: &mut ScriptReading, number: &[u8], text: &[u8]) -> Result<(), KeyStop>
     requires { IsReading reading.old }
-    ensures added { AddsCues (with_counted (all_said reading.old.cues) number.now text.now) result (all_said reading.new.cues) }
+    ensures added { AddsCues (cues_with_counted (all_said reading.old.cues) number.now text.now) result (all_said reading.new.cues) }
     ensures reading { OnOk result (IsReading reading.new) }
     ensures memory { IsErrOf result KeyStop.OutOfMemory → is_some (count_of number.now) ≡ true }
 {
@@ -149,7 +149,7 @@ fn add_awaited(
     text: &[u8],
 ) -> Result<(), KeyStop>
     requires { IsReading reading.old }
-    ensures added { AddsCues (with_awaited (all_said reading.old.cues) shown.now text.now) result (all_said reading.new.cues) }
+    ensures added { AddsCues (cues_with_awaited (all_said reading.old.cues) shown.now text.now) result (all_said reading.new.cues) }
     ensures reading { OnOk result (IsReading reading.new) }
 {
     if !are_keys(shown) {
@@ -161,7 +161,7 @@ fn add_awaited(
     }
 }
 
-/// A text before this place, unless it begins there, and behind the two bytes that stand there.
+/// A text before this place, unless it begins there, and after the two bytes that stand there.
 fn cut_at(inner: &[u8], place: usize) -> Option<(&[u8], &[u8])>
     requires { place + 2 ≤ length inner.now }
     ensures { option_map (λ p. (p.0.now, p.1.now)) result ≡ cut_at inner.now place }
@@ -173,7 +173,7 @@ fn cut_at(inner: &[u8], place: usize) -> Option<(&[u8], &[u8])>
     }
 }
 
-/// The text between a quote in front and the next one with a space behind it, and what follows that space.
+/// The text between a quote in front and the next one with a space after it, and what follows that space.
 pub(crate) fn quoted(text: &[u8]) -> Option<(&[u8], &[u8])>
     ensures { option_map (λ p. (p.0.now, p.1.now)) result ≡ quoted text.now }
 {
@@ -185,10 +185,10 @@ pub(crate) fn quoted(text: &[u8]) -> Option<(&[u8], &[u8])>
     cut_at(inner, place)
 }
 
-/// Adds the keys behind a text in quotes, once the session waits and has shown that text.
+/// Adds the keys after a text in quotes, once the session waits and has shown that text.
 fn add_expected(reading: &mut ScriptReading, alloc: Global, text: &[u8]) -> Result<(), KeyStop>
     requires { IsReading reading.old }
-    ensures added { AddsCues (with_expected (all_said reading.old.cues) text.now) result (all_said reading.new.cues) }
+    ensures added { AddsCues (cues_with_expected (all_said reading.old.cues) text.now) result (all_said reading.new.cues) }
     ensures reading { OnOk result (IsReading reading.new) }
 {
     match quoted(text) {
@@ -233,7 +233,7 @@ fn add_word(
 /// Adds what one more line says.
 fn add_line(reading: &mut ScriptReading, alloc: Global, line: &[u8]) -> Result<(), KeyStop>
     requires { IsReading reading.old }
-    ensures added { AddsCues (with_line (all_said reading.old.cues) line.now) result (all_said reading.new.cues) }
+    ensures added { AddsCues (cues_with_line (all_said reading.old.cues) line.now) result (all_said reading.new.cues) }
     ensures reading { OnOk result (IsReading reading.new) }
     ensures memory { IsErrOf result KeyStop.OutOfMemory → is_cue line.now ≡ true }
 {
@@ -248,14 +248,14 @@ fn add_line(reading: &mut ScriptReading, alloc: Global, line: &[u8]) -> Result<(
 ///
 /// A line is blank, a comment or a count with keys, as `read_keys` has them, or one of these two. `wait KEYS`
 /// gives its keys when the session next waits for a key; `expect "TEXT" KEYS` does so too, where the console
-/// has shown TEXT since the last key. TEXT ends before the first quote with a space behind it, has one key
+/// has shown TEXT since the last key. TEXT ends before the first quote with a space after it, has one key
 /// at least, and is written as keys are. A count is not less than the last one before it.
 ///
 /// `Line` names the first line with a fault, and what is wrong with it. `OutOfMemory` comes only where
-/// memory is refused, whatever is wrong behind that place.
+/// memory is refused, whatever is wrong after that place.
 pub fn read_cues(alloc: Global, text: &[u8]) -> Result<Vec<Cue>, ScriptError>
     ensures read { ReadsCues result (cues text.now) }
-    // Want of memory is answered only where a line has a count or waits.
+    // It is out of memory only where a line has a count or waits.
     ensures memory { IsErrOf result ScriptError.OutOfMemory → has_cue (lines text.now) ≡ true }
 {
     let mut reading = ScriptReading {

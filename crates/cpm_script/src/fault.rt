@@ -11,14 +11,14 @@ pub enum LineFault {
     /// The count is less than that of the key before it.
     #[error("the count is less than the one before it")]
     CountFalls,
-    /// A byte after the count is no key, and no key begins with it.
+    /// A byte of the keys, or of a text in quotes, is no key, and no key begins with it.
     #[error("a key is a character from ' ' to '~', or '^' with '@', a letter, '[', '\\', ']', '^', '_', '?' or '~'")]
     NotAKey,
-    /// Nothing stands after the count.
-    #[error("one space and at least one key are wanted after the count")]
+    /// No key stands after the count, after `wait`, or after a text in quotes.
+    #[error("keys are missing: a space and at least one key are wanted at the end of the line")]
     NoKey,
-    /// No text in quotes stands behind `expect`, or an empty one.
-    #[error("a text in quotes is missing")]
+    /// No text in quotes with a space after it stands after `expect`, or an empty one.
+    #[error("a text in quotes with a space after it is wanted")]
     NoText,
     /// With the keys of this line there are more than 4,096.
     #[error("a script has at most 4096 keys")]

@@ -21,7 +21,7 @@ pub fn keys_before(alloc: Global, keys: &[Key], at: u64) -> Result<Vec<Key>, All
         .collect(alloc)
 }
 
-/// The count of a line, and how many keys stand behind it, where it has both.
+/// The count of a line, and how many keys stand after it, where it has both.
 fn line_keys(line: &[u8]) -> Option<(u64, usize)>
     ensures { result ≡ line_keys line.now }
 {
@@ -81,7 +81,7 @@ pub fn read_forked_keys(
 ) -> Result<Vec<Key>, ScriptError>
     requires { length before.items ≤ most_keys }
     ensures read { Reads result (forked_script at before.items text.now) }
-    // Want of memory is answered only where a line has a count.
+    // It is out of memory only where a line has a count.
     ensures memory { IsErrOf result ScriptError.OutOfMemory → has_count (lines text.now) ≡ true }
 {
     let mut own = read_keys(alloc, text)?;

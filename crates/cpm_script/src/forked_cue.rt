@@ -15,7 +15,7 @@ use crate::script::{MOST_KEYS, is_blank, is_comment, parted};
 use std::alloc::Global;
 
 /// The count of a line that begins with this word, or that of the fork where the line waits, and how many keys
-/// stand behind it, where it has both.
+/// stand after it, where it has both.
 fn word_cues(at: u64, word: &[u8], text: &[u8]) -> Option<(u64, usize)>
     ensures { result ≡ word_cues at word.now text.now }
 {
@@ -72,7 +72,7 @@ pub fn read_forked_cues(
 ) -> Result<Vec<Cue>, ScriptError>
     requires { before ≤ most_keys }
     ensures read { ReadsCues result (forked_cues at before text.now) }
-    // Want of memory is answered only where a line has a count or waits.
+    // It is out of memory only where a line has a count or waits.
     ensures memory { IsErrOf result ScriptError.OutOfMemory → has_cue (lines text.now) ≡ true }
 {
     let cues = read_cues(alloc, text)?;

@@ -20,13 +20,13 @@ pub fn recorded_keys()
 {}
 
 /// A script with no line that waits gives its keys, as `read_keys` does, and has the same fault where that is
-/// another than the want of a count.
+/// not a missing count.
 pub fn plain_scripts()
     ensures { PlainScripts }
 {}
 
 /// What a script says has at most 4,096 keys, each below 80h; counts do not fall, whatever waits between them;
-/// and a key without a count stands behind a wait, or behind another such key.
+/// and a key without a count stands after a wait, or after another such key.
 pub fn cues_in_order()
     ensures { CuesInOrder }
 {}

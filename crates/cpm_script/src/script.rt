@@ -4,7 +4,7 @@ ghost use Rattle.std.specs.Str.Lines.{lines};
 ghost use Rattle.cpm_script.specs.KeyText.{count_of};
 ghost use Rattle.std.specs.List.{after_first, before_first, list_all};
 ghost use Rattle.cpm_script.specs.Script.{Adds, Reads, fault_past_last_key, has_count, is_after, is_counted};
-ghost use Rattle.cpm_script.specs.Script.{is_script_space, script, with_counted, with_line, with_text, most_keys};
+ghost use Rattle.cpm_script.specs.Script.{is_script_space, script, keys_with_counted, keys_with_line, keys_with_text, most_keys};
 
 use crate::count::count_of;
 use crate::fault::{LineFault, ScriptError};
@@ -66,7 +66,7 @@ fn add_key(keys: &mut Vec<Key>, key: Key) -> Result<(), AllocError>
 /// Adds the keys that a text stands for, all at one count.
 fn add_keys(keys: &mut Vec<Key>, count: u64, text: &[u8]) -> Result<(), KeyStop>
     requires { length keys.old.items ≤ most_keys }
-    ensures added { Adds (with_text keys.old.items count text.now) result keys.new.items }
+    ensures added { Adds (keys_with_text keys.old.items count text.now) result keys.new.items }
     ensures room { OnOk result (length keys.new.items ≤ most_keys) }
 {
     if text.is_empty() {
@@ -113,7 +113,7 @@ pub(crate) fn parted(line: &[u8]) -> (&[u8], &[u8])
 /// Adds the keys of a text at the count that a number writes.
 fn add_counted(keys: &mut Vec<Key>, number: &[u8], text: &[u8]) -> Result<(), KeyStop>
     requires { length keys.old.items ≤ most_keys }
-    ensures added { Adds (with_counted keys.old.items number.now text.now) result keys.new.items }
+    ensures added { Adds (keys_with_counted keys.old.items number.now text.now) result keys.new.items }
     ensures room { OnOk result (length keys.new.items ≤ most_keys) }
     ensures memory { IsErrOf result KeyStop.OutOfMemory → is_some (count_of number.now) ≡ true }
 {
@@ -130,7 +130,7 @@ fn add_counted(keys: &mut Vec<Key>, number: &[u8], text: &[u8]) -> Result<(), Ke
 /// Adds the keys of one more line.
 fn add_line(keys: &mut Vec<Key>, line: &[u8]) -> Result<(), KeyStop>
     requires { length keys.old.items ≤ most_keys }
-    ensures added { Adds (with_line keys.old.items line.now) result keys.new.items }
+    ensures added { Adds (keys_with_line keys.old.items line.now) result keys.new.items }
     ensures room { OnOk result (length keys.new.items ≤ most_keys) }
     ensures memory { IsErrOf result KeyStop.OutOfMemory → is_counted line.now ≡ true }
 {
@@ -148,10 +148,10 @@ fn add_line(keys: &mut Vec<Key>, line: &[u8]) -> Result<(), KeyStop>
 /// with `@`, a letter or one of `[ \ ] ^ _` is a control character, `^?` is 7Fh and `^~` a caret.
 ///
 /// `Line` names the first line with a fault, and what is wrong with it. `OutOfMemory` comes only where
-/// memory is refused, whatever is wrong behind that place.
+/// memory is refused, whatever is wrong after that place.
 pub fn read_keys(alloc: Global, text: &[u8]) -> Result<Vec<Key>, ScriptError>
     ensures read { Reads result (script text.now) }
-    // Want of memory is answered only where a line has a count.
+    // It is out of memory only where a line has a count.
     ensures memory { IsErrOf result ScriptError.OutOfMemory → has_count (lines text.now) ≡ true }
 {
     let mut keys = Vec::new(alloc);

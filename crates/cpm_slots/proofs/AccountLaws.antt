@@ -3,14 +3,14 @@ use Rattle.std.proofs.Common.{◌≡◌, List, [], ◌∷◌, Option, Some, None
 use Rattle.std.specs.Prelude.{IfSome}
 use Rattle.cpm_geom.specs.Disk.{Disk}
 use Rattle.cpm_machine.specs.MachineState.{MachineState}
-use Rattle.cpm_machine.specs.Calls.{Call, Answer, Accepted, KeysFull, Grants, Bytes, Looked, Peeked, Account, no_account, entered, serve, state_after, account_after}
+use Rattle.cpm_machine.specs.Calls.{Call, CallAnswer, Accepted, KeysFull, Grants, Bytes, Looked, Peeked, Account, no_account, entered, serve, state_after, account_after}
 use Rattle.cpm_machine.proofs.AloneLaws.{alone-after}
 use Rattle.cpm_slots.specs.Serving.{Ask, Calls, Closes, reply_of, serve_slot}
 use Rattle.cpm_slots.specs.Account.{answer_of, account_by, slot_after, replies_of, IsRunAlone}
 use Rattle.cpm_slots.proofs.EventLaws.{slot_after-none}
 
 -- no answer is lost in its reply
-answer-reply : (x : Answer) → answer_of (reply_of x) ≡ x
+answer-reply : (x : CallAnswer) → answer_of (reply_of x) ≡ x
 answer-reply Accepted = refl
 answer-reply KeysFull = refl
 answer-reply (Grants granted) = refl

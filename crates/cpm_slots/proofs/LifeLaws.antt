@@ -13,7 +13,7 @@ use Rattle.cpm_slots.specs.Serving.{Ask, serve_slot}
 use Rattle.cpm_slots.specs.Account.{account_by, slot_after, replies_of, IsRunAlone}
 use Rattle.cpm_slots.specs.Host.{Host, Happening, Opens, Forks, Asks, new_host, opened_slot, refusal_of, opened_if, fork_fault, forked_if, with_forked, with_added, slot_at, reply_at, after_ask, after_one, host_after, own, AllBelow, IsHost}
 use Rattle.cpm_slots.specs.Lives.{Life, NamedLife, life_of, with_life, lived_on, lived_by, begun_if, parted_if, lives_by, lives}
-use Rattle.cpm_slots.specs.Laws.{HasLived, GoesOn, Parts}
+use Rattle.cpm_slots.specs.Laws.{HasLived, GoesOn, PartsSlot}
 use Rattle.cpm_slots.proofs.SlotLaws.{slot_at-past, slot_at-new, slot_at-same, AllBelow-added, AllBelow-with}
 use Rattle.cpm_slots.proofs.EventLaws.{apart, added-slot, slot-after, told-after, slot_after-append, replies_of-append}
 use Rattle.cpm_slots.proofs.AccountLaws.{alone-asked}
@@ -177,7 +177,7 @@ forked-host : (h : Host) (id : ℕ) (s : MachineState) → slot_at id h.slots �
 forked-host h id s at e =
     ap (λ o. forked_if (fork_fault h o) h id) at ∙ ap (λ r. forked_if r h id) e ∙ ap (with_forked h) at
 
-pub parts : (h : Host) (id : ℕ) (s : MachineState) (events : List Happening) → IsHost h → slot_at id h.slots ≡ Some s → fork_fault h (Some s) ≡ None → Parts h id s events
+pub parts : (h : Host) (id : ℕ) (s : MachineState) (events : List Happening) → IsHost h → slot_at id h.slots ≡ Some s → fork_fault h (Some s) ≡ None → PartsSlot h id s events
 parts h id s events host at e =
     let added = with_added h s in
     let after = forked-host h id s at e in

@@ -69,21 +69,21 @@ none-at s t h =
     (cases_lt t 64)
 
 -- the other memories are the same
-abbrev pub Kept : ℕ → List (Option Contents) → List (Option Contents) → Type 0
-Kept table old new = (t : ℕ) → t ≢ table → get_or new t None ≡ get_or old t None
+abbrev pub KeepsOtherMemories : ℕ → List (Option Contents) → List (Option Contents) → Type 0
+KeepsOtherMemories table old new = (t : ℕ) → t ≢ table → get_or new t None ≡ get_or old t None
 
-pub kept-set : (table : ℕ) (old : List (Option Contents)) (o : Option Contents) → Kept table old (set old table o)
+pub kept-set : (table : ℕ) (old : List (Option Contents)) (o : Option Contents) → KeepsOtherMemories table old (set old table o)
 kept-set table old o t ne = get_or-set_other old table t o None ne
 
-contents-kept : (table t : ℕ) (old new : List (Option Contents)) → Kept table old new → t ≢ table → contents_at new t ≡ contents_at old t
+contents-kept : (table t : ℕ) (old new : List (Option Contents)) → KeepsOtherMemories table old new → t ≢ table → contents_at new t ≡ contents_at old t
 contents-kept table t old new same ne = ap (λ o. unwrap_or o (opening 0)) (same t ne)
 
-pub slots-kept : (table : ℕ) (old new : List (Option Contents)) (slots : List Slot) → Kept table old new → NoneAt table slots → slots_of new slots ≡ slots_of old slots
+pub slots-kept : (table : ℕ) (old new : List (Option Contents)) (slots : List Slot) → KeepsOtherMemories table old new → NoneAt table slots → slots_of new slots ≡ slots_of old slots
 slots-kept table old new [] same k = refl
 slots-kept table old new (x ∷ xs) same k =
     rw (contents-kept table x.table old new same k.0) (ap (λ t. slot_of old x ∷ t) (slots-kept table old new xs same k.1))
 
-pub AllSound-kept : (table : ℕ) (old new : List (Option Contents)) (slots : List Slot) → Kept table old new → NoneAt table slots → AllSound old slots → AllSound new slots
+pub AllSound-kept : (table : ℕ) (old new : List (Option Contents)) (slots : List Slot) → KeepsOtherMemories table old new → NoneAt table slots → AllSound old slots → AllSound new slots
 AllSound-kept table old new [] same k a = tt
 AllSound-kept table old new (x ∷ xs) same k a =
     (rw (same x.table k.0) a.0, rw (contents-kept table x.table old new same k.0) a.1, a.2, AllSound-kept table old new xs same k.1 a.3)

@@ -11,7 +11,7 @@ use Rattle.cpm_machine.specs.declared.reply.Granted.{Granted}
 use Rattle.cpm_machine.specs.MachineState.{MachineState}
 use Rattle.cpm_machine.specs.Step.{after}
 use Rattle.cpm_machine.specs.Serve.{takes_key}
-use Rattle.cpm_machine.specs.Calls.{Key, Bytes, Grants, Served, served_key, serve}
+use Rattle.cpm_machine.specs.Calls.{Key, Bytes, Grants, ServedCall, served_key, serve}
 use Rattle.cpm_slots.specs.declared.event.Reply.TheVariants as reply
 use Rattle.cpm_slots.specs.declared.event.Refusal.{Refusal}
 use Rattle.cpm_slots.specs.declared.event.Refusal.TheVariants as refusal
@@ -49,7 +49,7 @@ taken_from on room s =
 -- bytes that were taken into some room
 pub serve-take : (system : Disk) (on : Device) (room : ℕ) (s : MachineState) →
     let waits = waiting_on on s.session.console in
-    let served : Served = record { answer = Bytes (take (min room (length waits)) waits); state = taken_from on room s } in
+    let served : ServedCall = record { answer = Bytes (take (min room (length waits)) waits); state = taken_from on room s } in
     serve system (take_call on room) s ≡ served
 unfolding serve
 serve-take system device.Console room s = refl
@@ -62,15 +62,15 @@ takes system on room k out rest s now e h is =
     let waits = waiting_on on s.session.console in
     record {
       replied = ap (λ bytes. reply.Bytes (record { items = bytes })) (ap (take k) h ∙ taken-front room k waits rest e)
-          ∙ ap (λ (x : Served). reply_of x.answer) (sym (serve-take system on room s));
+          ∙ ap (λ (x : ServedCall). reply_of x.answer) (sym (serve-take system on room s));
       state = ap (λ con. record s { session = record s.session { console = con } }) (is ∙ ap (λ n. with_waiting on (drop n waits) s.session.console) e)
-          ∙ ap (λ (x : Served). x.state) (sym (serve-take system on room s));
+          ∙ ap (λ (x : ServedCall). x.state) (sym (serve-take system on room s));
     }
 
 -- steps that were executed
 serve-grant : (system : Disk) (stop : Option ℕ) (steps : ℕ) (s : MachineState) →
     let k = executed_to system stop steps s in
-    let made : Served = record { answer = Grants (record { executed = k; why = why_to stop steps k (after system k s) }); state = after system k s } in
+    let made : ServedCall = record { answer = Grants (record { executed = k; why = why_to stop steps k (after system k s) }); state = after system k s } in
     serve system (grant_call stop steps) s ≡ made
 unfolding serve
 serve-grant system None steps s = refl
@@ -84,6 +84,6 @@ grants system stop steps g s now e is w =
     let reason : g.why ≡ why_to stop steps k (after system k s) = w ∙ ap (λ n. why_to stop steps n now) e ∙ ap (why_to stop steps k) state in
     record {
       replied = ap (λ (x : Granted). reply.Granted x) (ap (λ n. let x : Granted = record { executed = n; why = g.why } in x) e ∙ ap (λ r. let x : Granted = record { executed = k; why = r } in x) reason)
-          ∙ ap (λ (x : Served). reply_of x.answer) (sym (serve-grant system stop steps s));
-      state = state ∙ ap (λ (x : Served). x.state) (sym (serve-grant system stop steps s));
+          ∙ ap (λ (x : ServedCall). reply_of x.answer) (sym (serve-grant system stop steps s));
+      state = state ∙ ap (λ (x : ServedCall). x.state) (sym (serve-grant system stop steps s));
     }

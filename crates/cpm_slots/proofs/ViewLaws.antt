@@ -15,7 +15,7 @@ use Rattle.cpm_slots.specs.Slots.{contents_at, ChangesAt}
 use Rattle.cpm_slots.proofs.TableLaws.{taken-within, contents-set}
 
 -- A table of a store was lent, and this is what both are when the loan ends.
-pub record Lent (store s s' : Frames) (table t t' : ℕ) : Type 0 where
+pub record IsLoan (store s s' : Frames) (table t t' : ℕ) : Type 0 where
   pub whole : s ≡ store
   pub number : t ≡ table
   pub memory : get_or (memories store) table None ≡ Some (memory_of s t)
@@ -32,7 +32,7 @@ memories-left loan loan' s s' t t' taken within e =
     ∙ ap (λ n. set (memories s) n (Some (memory_of s' t'))) same
 
 pub lent-view : (v w : View) (store : Frames) (table : ℕ) → view.store_of v ≡ store → view.view_table v ≡ table → get_or (memories store) table None ≡ Some (view.contents_of v) → view.surroundings_of w ≡ view.surroundings_of v →
-    Lent store (view.store_of v) (view.store_of w) table (view.view_table v) (view.view_table w)
+    IsLoan store (view.store_of v) (view.store_of w) table (view.view_table v) (view.view_table w)
 lent-view v w store table e f g around = record {
   whole = e;
   number = f;
@@ -55,7 +55,7 @@ pub record Leaves (store new : Frames) (table : ℕ) (lent left : Contents) : Ty
   pub memories : memories new ≡ set (memories store) table (Some left)
   pub frames : new.private ≡ store.private
 
-pub leaves : (store s s' : Frames) (table t t' : ℕ) → Lent store s s' table t t' → Leaves store s' table (memory_of s t) (memory_of s' t')
+pub leaves : (store s s' : Frames) (table t t' : ℕ) → IsLoan store s s' table t t' → Leaves store s' table (memory_of s t) (memory_of s' t')
 leaves store s s' table t t' h =
     let all : memories s' ≡ set (memories store) table (Some (memory_of s' t')) = h.left ∙ ap (λ x. set (memories x) t (Some (memory_of s' t'))) h.whole ∙ ap (λ n. set (memories store) n (Some (memory_of s' t'))) h.number in
     record {
@@ -86,7 +86,7 @@ right-lent store s table t cache e f g right =
     (subst (λ x. IsRightFor (contents_at (memories store) table) x cache) stamps right)
 
 -- and back, when the loan ends
-pub right-left : (store s s' : Frames) (table t t' : ℕ) (cache : DecodeCache) → Lent store s s' table t t' → IsRightFor (memory_of s' t') (stamps_at s' t') cache → IsRightFor (contents_at (memories s') table) (stamps_at s' table) cache
+pub right-left : (store s s' : Frames) (table t t' : ℕ) (cache : DecodeCache) → IsLoan store s s' table t t' → IsRightFor (memory_of s' t') (stamps_at s' t') cache → IsRightFor (contents_at (memories s') table) (stamps_at s' table) cache
 right-left store s s' table t t' cache h right =
     subst (λ c. IsRightFor c (stamps_at s' table) cache) (sym (leaves store s s' table t t' h).now)
     (subst (λ n. IsRightFor (memory_of s' t') (stamps_at s' n) cache) (h.same ∙ h.number) right)

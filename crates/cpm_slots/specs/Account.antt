@@ -3,13 +3,13 @@ use Rattle.std.specs.Prelude.{◌≡◌, List, [], ◌∷◌, Option, IfSome}
 use Rattle.cpm_geom.specs.Disk.{Disk}
 use Rattle.cpm_machine.specs.MachineState.{MachineState}
 use Rattle.cpm_machine.specs.Alone.{alone}
-use Rattle.cpm_machine.specs.Calls.{Answer, Accepted, KeysFull, Grants, Bytes, Looked, Peeked, Account, entered, state_behind}
+use Rattle.cpm_machine.specs.Calls.{CallAnswer, Accepted, KeysFull, Grants, Bytes, Looked, Peeked, Account, entered, state_behind}
 use Rattle.cpm_slots.specs.declared.event.Reply.{Reply}
 use Rattle.cpm_slots.specs.declared.event.Reply.TheVariants as reply
 use Rattle.cpm_slots.specs.Serving.{Ask, Calls, Closes, serve_slot}
 
 -- a reply as the machine's answer; no refusal enters an account (own)
-abbrev pub answer_of : Reply → Answer
+abbrev pub answer_of : Reply → CallAnswer
 answer_of reply.Done = Accepted
 answer_of (reply.Granted granted) = Grants granted
 answer_of (reply.Bytes bytes) = Bytes bytes.items

@@ -67,7 +67,7 @@ lacks_frames h quota = nat_lt h.frames (quotas_of h.slots + quota)
 abbrev pub room_fault : Host → ℕ → Option OpenError
 room_fault h quota = if lacks_slot h then Some NoSlot else if lacks_frames h quota then Some NoFrames else None
 
--- why an opening is refused, want of memory aside: by its quota, its drives, for want of a slot, or of frames (own)
+-- why an opening is refused, memory aside: by its quota, its drives, no free slot, or too few frames (own)
 abbrev pub refusal_of : Host → Opening → Option OpenError
 refusal_of h o = fault_else (opening_fault o) (room_fault h o.quota)
 
@@ -82,12 +82,12 @@ abbrev pub opened_if : Option OpenError → Host → Opening → Host
 opened_if None h o = with_opened h o
 opened_if (Some fault) h o = h
 
--- why a fork of a slot is refused, want of memory aside: it is not open, for want of a slot, or of as many frames as it has reserved (own)
+-- why a fork of a slot is refused, memory aside: it is not open, no slot is free, or there are fewer frames than it has reserved (own)
 abbrev pub fork_fault : Host → Option MachineState → Option ForkError
 fork_fault h None = Some fork.NoSuchSlot
 fork_fault h (Some s) = if lacks_slot h then Some fork.NoSlot else if lacks_frames h s.quota then Some fork.NoFrames else None
 
--- a refusal names the fault, and where there is none the want of memory (own)
+-- a refusal names the fault, and where there is none it is out of memory (own)
 abbrev pub IsForkRefusal : Option ForkError → ForkError → Type 0
 IsForkRefusal None error = error ≡ fork.OutOfMemory
 IsForkRefusal (Some fault) error = error ≡ fault

@@ -57,7 +57,7 @@ pub record GoesOn (h : Host) (events : List Happening) (id : ℕ) (from : Machin
 
 -- A fork that is not refused adds a slot whose whole state is that of the other one, and changes no slot.
 -- Whatever happens afterwards, each of the two goes on from there by its own events: neither's replies or state depend on the other's.
-pub record Parts (h : Host) (id : ℕ) (s : MachineState) (events : List Happening) : Type 0 where
+pub record PartsSlot (h : Host) (id : ℕ) (s : MachineState) (events : List Happening) : Type 0 where
   pub number : (after_one h (Forks id)).openings ≡ h.openings + 1
   pub child : slot_at h.openings (after_one h (Forks id)).slots ≡ Some s
   pub others : (other : ℕ) → other < h.openings → slot_at other (after_one h (Forks id)).slots ≡ slot_at other h.slots
@@ -66,7 +66,7 @@ pub record Parts (h : Host) (id : ℕ) (s : MachineState) (events : List Happeni
 
 abbrev pub Parting : Type 0
 Parting = (h : Host) (id : ℕ) (s : MachineState) (events : List Happening) → IsHost h →
-    slot_at id h.slots ≡ Some s → fork_fault h (Some s) ≡ None → Parts h id s events
+    slot_at id h.slots ≡ Some s → fork_fault h (Some s) ≡ None → PartsSlot h id s events
 
 -- one that is refused changes nothing
 abbrev pub NoParting : Type 0

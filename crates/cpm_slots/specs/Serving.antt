@@ -8,7 +8,7 @@ use Rattle.cpm_machine.specs.MachineState.{MachineState}
 use Rattle.cpm_machine.specs.Serve.{executed, why}
 use Rattle.cpm_machine.specs.Until.{executed_until, why_until}
 use Rattle.cpm_machine.specs.Calls.{Call, Key, Grant, GrantUntil, Take, TakeList, LookAt, Peek}
-use Rattle.cpm_machine.specs.Calls.{Answer, Accepted, KeysFull, Grants, Bytes, Looked, Peeked, serve}
+use Rattle.cpm_machine.specs.Calls.{CallAnswer, Accepted, KeysFull, Grants, Bytes, Looked, Peeked, serve}
 use Rattle.cpm_slots.specs.declared.event.Request.{Request}
 use Rattle.cpm_slots.specs.declared.event.Request.TheVariants as asks
 use Rattle.cpm_slots.specs.declared.event.Reply.{Reply}
@@ -51,7 +51,7 @@ ask_of (asks.Peek address) = Calls (Peek address)
 ask_of asks.Close = Closes
 
 -- the machine's answer as a reply (own)
-abbrev pub reply_of : Answer → Reply
+abbrev pub reply_of : CallAnswer → Reply
 reply_of Accepted = reply.Done
 reply_of KeysFull = reply.Refused refusal.KeysFull
 reply_of (Grants granted) = reply.Granted granted
@@ -60,16 +60,16 @@ reply_of (Looked look) = reply.Looked look
 reply_of (Peeked byte) = reply.Peeked byte
 
 -- the reply, and the slot after it, if it is still open (own)
-pub record Replied : Type 0 where
+pub record ServedSlot : Type 0 where
   pub reply : Reply
   pub slot : Option MachineState
 
 -- an open slot is served as its machine alone; closing it drops what was not taken (own)
-abbrev pub serve_open : Disk → Ask → MachineState → Replied
+abbrev pub serve_open : Disk → Ask → MachineState → ServedSlot
 serve_open system (Calls call) s = record { reply = reply_of (serve system call s).answer; slot = Some (serve system call s).state }
 serve_open system Closes s = record { reply = reply.Done; slot = None }
 
 -- a slot that is not open refuses all that is asked of it (own)
-unfoldable pub serve_slot : Disk → Ask → Option MachineState → Replied
+unfoldable pub serve_slot : Disk → Ask → Option MachineState → ServedSlot
 serve_slot system ask None = record { reply = reply.Refused refusal.NoSuchSlot; slot = None }
 serve_slot system ask (Some s) = serve_open system ask s

@@ -15,7 +15,7 @@ impl Host {
     /// Opens a slot whose whole state is that of an open one, and gives its number: its registers, memory, drives, pending keys and the bytes that
     /// wait. No page is copied: those that were written are shared until one of the two writes them. It is refused where no slot of that
     /// number is open, then where 64 slots are open or no number is left, then where the quotas of all open slots and this one exceed the
-    /// frames, then for want of memory. Nothing is changed then.
+    /// frames, then if out of memory. Nothing is changed then.
     pub fn fork(&mut self, alloc: Global, id: SlotId) -> Result<SlotId, ForkError>
         ensures forked { IfOk result (λ child. self.new.host ≡ with_forked self.old.host (slot_at id.0 self.old.host.slots)) }
         ensures number { IfOk result (λ child. child.0 ≡ self.old.host.openings) }

@@ -28,7 +28,7 @@ use cpm_decode::DecodeCache;
 use cpm_geom::Image;
 use cpm_machine::steps::Runner;
 use cpm_machine::{Closed, End, Granted, Look, OpenError, Opening};
-use cpm_memory::{FlatMemory, FrameStore, TableId};
+use cpm_memory::{FlatMemory, FrameStore, MOST_FRAMES, TableId};
 use std::alloc::{AllocError, Global};
 use std::marker::Model;
 
@@ -37,9 +37,6 @@ pub const MOST_SLOTS: usize = 64;
 
 /// The fewest frames that a host may have: the least quota of one slot.
 pub const LEAST_FRAMES: u16 = 16;
-
-/// The most frames that a host may have: all pages of 64 slots.
-pub const MOST_FRAMES: u16 = 16_384;
 
 /// Up to 64 sessions over one system drive. Their memories are made of frames of one store.
 #[derive(Drop)]
@@ -71,7 +68,7 @@ impl Model for Host {
 
 /// What a host takes memory for: its frames, its places and the copy that it works on.
 fn allocate(alloc: Global, frames: u16) -> Result<(FrameStore, Vec<Slot>, FlatMemory), AllocError>
-    requires { frames ≤ 16384 }
+    requires { frames ≤ MOST_FRAMES }
     ensures frames { IfOk result (λ r. r.0.private ≡ frames) }
     ensures sound { IfOk result (λ r. IsStoreSound r.0) }
     ensures memories { IfOk result (λ r. memories r.0 ≡ tabulated 64 (λ _. None)) }
@@ -88,10 +85,10 @@ impl Host {
     ghost use Rattle.cpm_slots.specs.Host.{IsHost, key_reply, grant_reply, take_reply, look_reply, peek_reply, close_reply};
     ghost use Rattle.cpm_slots.specs.HostWithStore.{table_of, table_reply, IsInTable, IsHostWithStore};
 
-    /// A host with this system drive and so many frames, and no slot open. Want of memory hands the drive back.
+    /// A host with this system drive and so many frames, and no slot open. Out of memory, it hands the drive back.
     pub fn new(alloc: Global, system: Image, frames: u16) -> Result<Host, (Image, OpenError)>
-        requires least { 16 ≤ frames }
-        requires most { frames ≤ 16384 }
+        requires least { LEAST_FRAMES ≤ frames }
+        requires most { frames ≤ MOST_FRAMES }
         ensures made { IfOk result (λ h. h.host ≡ new_host system frames) }
         ensures refused { IfErr result (λ r. (r.0 ≡ system) × (r.1 ≡ OpenError.OutOfMemory)) }
     {
@@ -108,7 +105,7 @@ impl Host {
         }
     }
 
-    /// Why an opening is refused, want of memory aside.
+    /// Why an opening is refused, memory aside.
     fn refusal(&self, opening: &Opening) -> Option<OpenError>
         ensures refusal { result ≡ refusal_of self.now.host opening.now }
         ensures room { IfNone result (length self.now.host.slots < MOST_SLOTS) }
@@ -141,7 +138,7 @@ impl Host {
 
     /// Opens a slot, and gives its number. What is refused comes back with the reason: a quota that is not 16 to 256 pages, then no drive
     /// or more than four, then 64 slots open or no number left, then quotas of all open slots and this one that exceed the frames, then
-    /// want of memory. Nothing is changed then.
+    /// if out of memory. Nothing is changed then.
     pub fn open(&mut self, alloc: Global, opening: Opening) -> Result<SlotId, (Opening, OpenError)>
         ensures opened { IfOk result (λ id. self.new.host ≡ with_opened self.old.host opening) }
         ensures number { IfOk result (λ id. id.0 ≡ self.old.host.openings) }

@@ -9,5 +9,6 @@ mod run;
 mod slots;
 
 pub use cpm_machine::{Closed, End, Granted, KeysFull, Look, Machine, OpenError, Opening, Why};
+pub use cpm_memory::MOST_FRAMES;
 pub use event::{Event, ForkError, Refusal, Reply, Request, SlotId};
-pub use host::{Host, LEAST_FRAMES, MOST_FRAMES, MOST_SLOTS};
+pub use host::{Host, LEAST_FRAMES, MOST_SLOTS};

@@ -1,9 +1,9 @@
 -- A store over memory. All of it is own.
 use Rattle.std.specs.Prelude.{ℕ, zero, suc, Bool, true, false, Option, Some, None}
-use Rattle.cpm_store.specs.Files.{Files, file_at}
+use Rattle.cpm_store.specs.Files.{StoreFiles, file_at}
 use Rattle.cpm_store.specs.declared.memory.MemoryStore.{MemoryStore}
 
-abbrev pub files_in : MemoryStore → Files
+abbrev pub files_in : MemoryStore → StoreFiles
 files_in s = file_at s.files
 
 abbrev pub failures_of : MemoryStore → ℕ

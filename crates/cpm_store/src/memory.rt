@@ -1,7 +1,7 @@
 //! A store over memory, of which one call can be made to fail.
 ghost use Rattle.std.specs.Prelude.{◌≡◌, ◌+◌, ◌≤◌, ◌⊎◌, Some, None, Ok, Err, IfErr, IfOk, IfSome, IsErrOf, IsSome, OnErr, OnOk, option_map, true};
 ghost use Rattle.cpm_store.specs.Files.{CountsFailure, Finds, WhereTold, KeepsOthers, Writes, file_at};
-ghost use Rattle.cpm_store.specs.Log.{Access, Does, Gave, Missed, Wrote};
+ghost use Rattle.cpm_store.specs.Log.{StoreAccess, Does, Gave, Missed, Wrote};
 ghost use Rattle.cpm_store.specs.Memory.{calls_left, failures_of, files_in, is_failing_call, one_call_less};
 
 use crate::store::{Store, StoreError};
@@ -153,7 +153,7 @@ impl Store for MemoryStore {
         ensures uncounted { OnOk result (failures_of self.new ≡ failures_of self.old) }
         ensures memory { IsErrOf result StoreError.OutOfMemory → failures_of self.new ≡ failures_of self.old }
         ensures counted { failures_of self.old ≤ failures_of self.new }
-        // It fails exactly at the call that is to fail, but for want of memory, and then changes no file.
+        // It fails exactly at the call that is to fail, memory aside, and then changes no file.
         ensures calls { calls_left self.new ≡ one_call_less (calls_left self.old) }
         ensures failing { is_failing_call (calls_left self.old) ≡ true → result ≡ Err StoreError.Device }
         ensures refused { IsErrOf result StoreError.Device → is_failing_call (calls_left self.old) ≡ true }

@@ -1,7 +1,7 @@
 //! What a store of named files offers.
 ghost use Rattle.std.specs.Prelude.{◌≡◌, ◌≤◌, ℕ, Option, IfOk, OnOk, OnErr, IsErrOf};
-ghost use Rattle.cpm_store.specs.Files.{CountsFailure, Files, Finds, KeepsOthers, WhereTold, Writes};
-ghost use Rattle.cpm_store.specs.Log.{Access, Gave, Missed, Wrote};
+ghost use Rattle.cpm_store.specs.Files.{CountsFailure, StoreFiles, Finds, KeepsOthers, WhereTold, Writes};
+ghost use Rattle.cpm_store.specs.Log.{StoreAccess, Gave, Missed, Wrote};
 
 use std::alloc::Global;
 use thiserror::Error;
@@ -20,14 +20,14 @@ pub enum StoreError {
 /// Files by their names.
 pub trait Store {
     // What the files hold, where the store tells it. A store over files that others can write does not.
-    ghost files: { Self → Option Files };
+    ghost files: { Self → Option StoreFiles };
 
     // The number of calls that failed.
     ghost failed: { Self → ℕ };
 
     // From this state, by this call, to that state. Every store has it, and a body that is proved for each of
     // them can know no step but those that its own calls made.
-    ghost does: { Self → Access → Self → Type 0 };
+    ghost does: { Self → StoreAccess → Self → Type 0 };
 
     /// The bytes of a file. `Device` where it can't be read, which counts a failure; no other answer counts one.
     fn read(&mut self, alloc: Global, name: &str) -> Result<Vec<u8>, StoreError>

@@ -1,7 +1,7 @@
 //! The writes of a run, one after another.
 ghost use Rattle.std.specs.Prelude.{◌≡◌, ◌<◌, ◌≤◌, IfErr, OnOk, length, map};
 ghost use Rattle.cpm_store.specs.Files.{CountsFailure, WhereTold};
-ghost use Rattle.cpm_store.specs.Log.{AreWrites, RanBy, StopsAfter};
+ghost use Rattle.cpm_store.specs.Log.{AreWrites, LogLeadsBy, StopsAfter};
 ghost use Rattle.cpm_store.specs.Writes.{StopsAt, WritesAll, named_output};
 
 use crate::store::{Store, StoreError};
@@ -30,8 +30,8 @@ pub fn write_all<S: Store>(outputs: &[Output<'_>], store: &mut S) -> Result<(), 
     ensures stopped { IfErr result (λ e.
         WhereTold (S.files store.old) (S.files store.new) (StopsAt (map named_output outputs.now) e.place)) }
     // The calls were these writes and no others, up to the one that failed, of whichever store.
-    ensures log { OnOk result (RanBy S.does (AreWrites (map named_output outputs.now)) store.old store.new) }
-    ensures stopped_log { IfErr result (λ e. RanBy S.does (StopsAfter (map named_output outputs.now) e.place) store.old store.new) }
+    ensures log { OnOk result (LogLeadsBy S.does (AreWrites (map named_output outputs.now)) store.old store.new) }
+    ensures stopped_log { IfErr result (λ e. LogLeadsBy S.does (StopsAfter (map named_output outputs.now) e.place) store.old store.new) }
     ensures place { IfErr result (λ e. e.place < length outputs.now) }
     ensures device { IfErr result (λ e.
         e.cause ≡ StoreError.Device → CountsFailure (S.failed store.old) (S.failed store.new)) }

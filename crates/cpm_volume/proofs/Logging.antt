@@ -10,7 +10,7 @@ use Rattle.cpm_geom.specs.declared.dpb.Dpb.{Dpb}
 use Rattle.cpm_volume.specs.declared.extent.Extent.{Extent}
 use Rattle.cpm_volume.specs.declared.extent.Entry.{Entry}
 use Rattle.cpm_volume.specs.Files.{extent_number, group_of, entry_place_of, block_number, entry_at, first_match, first_free, Volume, DiskWrite, entry_put, record_put}
-use Rattle.cpm_volume.specs.Operations.{Answer, no_record, no_extent, no_entry_free, fault, bad_sector, read_only, Outcome, ends, gives, with_entry, merged, agree, has_bad_block, closed_entry, is_unchanged, Close, refused, close_fault, closed, close_extent, open_extent, open_to_read, made_extent, make_extent, close_file_on_volume, make_file_on_volume, Purpose, reading, writing, Target, Place, stopped, standing, opened_in, made_in, opened_or_made, have_extent, closed_in, cross, next_target, target_of, next_place, place_at, record_in_block, get_record, Found, no_such_block, none_free, old_block, new_block, block_to_write, cleared_records, taken_records, taken_writes, put_found, put_record, read_in, write_in, read_next_on_volume, write_next_on_volume, read_random_on_volume, write_random_on_volume, write_random_cleared_on_volume}
+use Rattle.cpm_volume.specs.Operations.{Answer, no_record, no_extent, no_entry_free, fault, bad_sector, read_only, VolumeOutcome, ends, gives, with_entry, merged, agree, has_bad_block, closed_entry, is_unchanged, Close, refused, close_fault, closed, close_extent, open_extent, open_to_read, made_extent, make_extent, close_file_on_volume, make_file_on_volume, Purpose, reading, writing, Target, Place, stopped, standing, opened_in, made_in, opened_or_made, have_extent, closed_in, cross, next_target, target_of, next_place, place_at, record_in_block, get_record, BlockChoice, no_such_block, none_free, old_block, new_block, block_to_write, cleared_records, taken_records, taken_writes, put_found, put_record, read_in, write_in, read_next_on_volume, write_next_on_volume, read_random_on_volume, write_random_on_volume, write_random_cleared_on_volume}
 use Rattle.cpm_volume.specs.Names.{is_named, first_named, change_named, named_writes, NameOutcome, none_named, file_read_only, named, protects, deletion, renaming, marking, reserved_after, erase_files_on_volume, rename_files_on_volume, set_attributes_on_volume}
 use Rattle.cpm_volume.specs.LogLaws.{logged, logged_all, IsLogged, CallsLog, NamedCallsLog}
 use Rattle.cpm_volume.proofs.Entries.{entry_at-set_same}
@@ -154,7 +154,7 @@ at_any d purpose protected v user x t =
     cond_both (eqb t.number (extent_number x)) (standing v x t.current) (cross d purpose protected v user x t) (PlaceLogged v) (λ _. stands v x t.current) (λ _. crosses d purpose protected v user x t)
 
 -- ---- at the record
-OutcomeLogged : Volume → Outcome → Type 0
+OutcomeLogged : Volume → VolumeOutcome → Type 0
 OutcomeLogged v o = IsLogged v o.volume
 
 gets : (d : Dpb) (v v' : Volume) (x : Extent) (current next : ℕ) → IsLogged v v' → OutcomeLogged v (get_record d v' x current next)
@@ -206,7 +206,7 @@ log_old : (n : ℕ) (bytes : List ℕ) (v v' : Volume) → v'.written ≡ v.writ
 unfolding logged_all logged
 log_old n bytes v v' w e r = record { writes = record_put n bytes ∷ []; log = w; entries = e; records = r }
 
-puts_found : (d : Dpb) (clears : Bool) (v v' : Volume) (x : Extent) (current next : ℕ) (bytes : List ℕ) (found : Found) → IsLogged v v' → OutcomeLogged v (put_found d clears v' x current next bytes found)
+puts_found : (d : Dpb) (clears : Bool) (v v' : Volume) (x : Extent) (current next : ℕ) (bytes : List ℕ) (found : BlockChoice) → IsLogged v v' → OutcomeLogged v (put_found d clears v' x current next bytes found)
 unfolding put_found ends OutcomeLogged
 puts_found d clears v v' x current next bytes no_such_block log = log
 puts_found d clears v v' x current next bytes none_free log = log

@@ -6,7 +6,7 @@ use Rattle.cpm_geom.specs.declared.dpb.Dpb.{Dpb}
 use Rattle.cpm_volume.specs.declared.extent.Extent.{Extent}
 use Rattle.cpm_volume.specs.declared.extent.Entry.{Entry}
 use Rattle.cpm_volume.specs.Files.{extent_number, group_of, map_place, deleted, entry_at, is_of, first_of, record_count_of, block_number, block_if, open_record_count, open_block, entry_block, file_block, open_file_block, directory_records, drive_record, record_in, open_file_record, Volume, IsSound}
-use Rattle.cpm_volume.specs.Operations.{Answer, done, no_record, no_extent, read_only, fault, Outcome, ends, gives, opened_extent, open_to_read, reading, Target, stopped, standing, opened_in, have_extent, cross, next_target, target_of, next_place, place_at, get_record, read_in, read_next_on_volume, read_random_on_volume}
+use Rattle.cpm_volume.specs.Operations.{Answer, done, no_record, no_extent, read_only, fault, VolumeOutcome, ends, gives, opened_extent, open_to_read, reading, Target, stopped, standing, opened_in, have_extent, cross, next_target, target_of, next_place, place_at, get_record, read_in, read_next_on_volume, read_random_on_volume}
 use Rattle.cpm_volume.specs.Laws.{OthersStay, FileStays, position, StaysSound, HasReadRecord, HasNone, IsProtected, ReadsNext, ReadsRandom}
 use Rattle.cpm_volume.proofs.Entries.{first_of_passes}
 use Rattle.cpm_volume.proofs.NameLemmas.{first_match_plain}
@@ -99,7 +99,7 @@ same_there d user v x number sound e = record {
 }
 
 -- what is said of a read that came to its record
-abbrev Reads : Dpb → ℕ → Volume → Extent → ℕ → ℕ → Outcome → Type 0
+abbrev Reads : Dpb → ℕ → Volume → Extent → ℕ → ℕ → VolumeOutcome → Type 0
 Reads d user v x n after o =
     StaysSound d user v x o × FileStays d user v x o.volume o.extent × (((o.answer ≡ done) × HasReadRecord d user v x n o × (position o.extent o.current ≡ after)) ⊎ ((o.answer ≡ no_record) × HasNone d user v x n o × (position o.extent o.current ≡ n)))
 
@@ -254,7 +254,7 @@ module _ (d : Dpb) (user : ℕ) (v : Volume) (x : Extent) (user_ok : user ≢ de
       ]
 
 -- ---- a read that did not come to its record
-abbrev Misses : Dpb → ℕ → Volume → Extent → ℕ → ℕ → Answer → Outcome → Type 0
+abbrev Misses : Dpb → ℕ → Volume → Extent → ℕ → ℕ → Answer → VolumeOutcome → Type 0
 Misses d user v x current n answer o =
     StaysSound d user v x o × FileStays d user v x o.volume o.extent × (o.answer ≡ answer) × HasNone d user v x n o × (o.extent ≡ x) × (o.current ≡ current)
 
@@ -269,7 +269,7 @@ misses_last d user v x current n small sound past =
     (record { sound = sound; current = small; reserved = λ b h. h; others = record { stay = λ other name m ok apart. refl } }, record { stay = λ m. refl }, refl, record { none = no_file d v user x n (past_file d v.entries user x n past); given = refl }, refl, refl)
 
 -- ---- a read that a protected drive refused
-abbrev Refuses : Dpb → ℕ → Bool → Volume → Extent → ℕ → Outcome → Type 0
+abbrev Refuses : Dpb → ℕ → Bool → Volume → Extent → ℕ → VolumeOutcome → Type 0
 Refuses d user protected v x current o =
     StaysSound d user v x o × FileStays d user v x o.volume o.extent × IsProtected protected v x current o
 
@@ -279,14 +279,14 @@ refuses d user protected v x current small sound is_protected =
     (record { sound = sound; current = small; reserved = λ b h. h; others = record { stay = λ other name m ok apart. refl } }, record { stay = λ m. refl }, record { answer = refl; protected_is = is_protected; untouched = record { volume = refl; extent = refl; current_is = refl; read = refl } })
 
 -- ---- a random read
-at_from : (d : Dpb) (user : ℕ) (protected : Bool) (v : Volume) (x : Extent) (current n : ℕ) (o : Outcome) → Reads d user v x n n o → ReadsRandom d user protected v x current n o
+at_from : (d : Dpb) (user : ℕ) (protected : Bool) (v : Volume) (x : Extent) (current n : ℕ) (o : VolumeOutcome) → Reads d user v x n n o → ReadsRandom d user protected v x current n o
 at_from d user protected v x current n o r =
     elim r.2 [ inl h ↦ (r.0, r.1, inl h) | inr h ↦ (r.0, r.1, inr (inl h)) ]
 
-at_miss : (d : Dpb) (user : ℕ) (protected : Bool) (v : Volume) (x : Extent) (current n : ℕ) (o : Outcome) → Misses d user v x current n no_extent o → ReadsRandom d user protected v x current n o
+at_miss : (d : Dpb) (user : ℕ) (protected : Bool) (v : Volume) (x : Extent) (current n : ℕ) (o : VolumeOutcome) → Misses d user v x current n no_extent o → ReadsRandom d user protected v x current n o
 at_miss d user protected v x current n o m = (m.0, m.1, inr (inr (inl (m.2, m.3, m.4, m.5))))
 
-at_refused : (d : Dpb) (user : ℕ) (protected : Bool) (v : Volume) (x : Extent) (current n : ℕ) (o : Outcome) → Refuses d user protected v x current o → ReadsRandom d user protected v x current n o
+at_refused : (d : Dpb) (user : ℕ) (protected : Bool) (v : Volume) (x : Extent) (current n : ℕ) (o : VolumeOutcome) → Refuses d user protected v x current o → ReadsRandom d user protected v x current n o
 at_refused d user protected v x current n o r = (r.0, r.1, inr (inr (inr r.2)))
 
 pub reads_at : (d : Dpb) (user : ℕ) (protected : Bool) (v : Volume) (x : Extent) (current n : ℕ) → user ≢ deleted → IsSound d v user x → current ≤ 128 → n < 65536 → ReadsRandom d user protected v x current n (read_random_on_volume d protected v user x current n)
@@ -306,15 +306,15 @@ reads_at d user protected v x current n user_ok sound small h =
     ]
 
 -- ---- a sequential read
-next_from : (d : Dpb) (user : ℕ) (protected : Bool) (v : Volume) (x : Extent) (current : ℕ) (o : Outcome) → Reads d user v x (position x current) (position x current + 1) o → ReadsNext d user protected v x current o
+next_from : (d : Dpb) (user : ℕ) (protected : Bool) (v : Volume) (x : Extent) (current : ℕ) (o : VolumeOutcome) → Reads d user v x (position x current) (position x current + 1) o → ReadsNext d user protected v x current o
 next_from d user protected v x current o r =
     elim r.2 [ inl h ↦ (r.0, r.1, inl h) | inr h ↦ (r.0, r.1, inr (inl h)) ]
 
-next_miss : (d : Dpb) (user : ℕ) (protected : Bool) (v : Volume) (x : Extent) (current : ℕ) (o : Outcome) → Misses d user v x current (position x current) no_record o → ReadsNext d user protected v x current o
+next_miss : (d : Dpb) (user : ℕ) (protected : Bool) (v : Volume) (x : Extent) (current : ℕ) (o : VolumeOutcome) → Misses d user v x current (position x current) no_record o → ReadsNext d user protected v x current o
 next_miss d user protected v x current o m =
     (m.0, m.1, inr (inl (m.2, m.3, rw (m.4, m.5) refl)))
 
-next_refused : (d : Dpb) (user : ℕ) (protected : Bool) (v : Volume) (x : Extent) (current : ℕ) (o : Outcome) → Refuses d user protected v x current o → ReadsNext d user protected v x current o
+next_refused : (d : Dpb) (user : ℕ) (protected : Bool) (v : Volume) (x : Extent) (current : ℕ) (o : VolumeOutcome) → Refuses d user protected v x current o → ReadsNext d user protected v x current o
 next_refused d user protected v x current o r = (r.0, r.1, inr (inr r.2))
 
 pub reads_next : (d : Dpb) (user : ℕ) (protected : Bool) (v : Volume) (x : Extent) (current : ℕ) → user ≢ deleted → IsSound d v user x → current ≤ 128 → ReadsNext d user protected v x current (read_next_on_volume d protected v user x current)

@@ -14,7 +14,7 @@ use Rattle.cpm_volume.proofs.Writing as writing
 use Rattle.cpm_volume.proofs.Clearing.{length-taken, taken_other, cleared_inside}
 
 -- record n has these bytes; each other that the file had is as it was
-pub record Written (d : Dpb) (user : ℕ) (v : Volume) (x : Extent) (n : ℕ) (bytes : List ℕ) (v' : Volume) (x' : Extent) : Type 0 where
+pub record IsRecordWritten (d : Dpb) (user : ℕ) (v : Volume) (x : Extent) (n : ℕ) (bytes : List ℕ) (v' : Volume) (x' : Extent) : Type 0 where
   pub there : open_file_record d v'.entries v'.records user x' n ≡ Some bytes
   pub others : (m : ℕ) → m ≢ n → open_file_block d v.entries user x m ≢ 0 → open_file_record d v'.entries v'.records user x' m ≡ open_file_record d v.entries v.records user x m
 
@@ -22,7 +22,7 @@ pub record Written (d : Dpb) (user : ℕ) (v : Volume) (x : Extent) (n : ℕ) (b
 pub record Puts (d : Dpb) (user : ℕ) (v : Volume) (x : Extent) (n : ℕ) (bytes : List ℕ) (clears : Bool) (next : ℕ) (v' : Volume) (x' : Extent) : Type 0 where
   pub answer : put_record d clears v x (n % 128) next bytes ≡ ends done v' x' next
   pub number : extent_number x' ≡ extent_number x
-  pub written : Written d user v x n bytes v' x'
+  pub written : IsRecordWritten d user v x n bytes v' x'
   pub others : OthersStay d user x.name v v'
   pub sound : IsSound d v' user x'
   pub reserved : (b : ℕ) → is_reserved v.reserved b ≡ true → is_reserved v'.reserved b ≡ true
@@ -82,7 +82,7 @@ module _ (d : Dpb) (user : ℕ) (v : Volume) (x : Extent) (n : ℕ) (bytes : Lis
   put_answer clears next =
       rw (place_back d x n inside, le-ltb _ _ (sound.kept.stored (map_place d n) there).within, ne_eqb _ _ there, record_back d (block_number x (map_place d n)) n) refl
 
-  pub put_written : Written d user v x n bytes volume_after (counting x (n % 128))
+  pub put_written : IsRecordWritten d user v x n bytes volume_after (counting x (n % 128))
   unfolding volume_after
   put_written = record {
     there = writing.written_record d v.entries v.reserved user x n user_ok format sound.well_formed sound.kept inside there v.records bytes within;
@@ -223,7 +223,7 @@ module _ (d : Dpb) (user : ℕ) (v : Volume) (x : Extent) (n : ℕ) (bytes : Lis
   old_record m h =
       rw (kept_block m h) (taken_other d clears v.records (least_free v.reserved) (open_file_block d v.entries user x m) m (not_fresh _ (stored_block m h)))
 
-  new_written : Written d user v x n bytes volume_last counted
+  new_written : IsRecordWritten d user v x n bytes volume_last counted
   unfolding volume_last volume_new counted
   new_written =
       let w = put_written d user volume_new with_new n bytes user_ok format sound_new inside_new own_there in

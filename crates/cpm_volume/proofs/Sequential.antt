@@ -4,10 +4,10 @@ use Rattle.std.proofs.lemmas.Bool.{false≢true, eq-eqb, ne_eqb, cases_eq, cases
 use Rattle.cpm_geom.specs.declared.dpb.Dpb.{Dpb}
 use Rattle.cpm_volume.specs.declared.extent.Extent.{Extent}
 use Rattle.cpm_volume.specs.Files.{extent_number, same_name, deleted, open_file_block, open_file_record, file_record, IsFormat, Volume, IsSound}
-use Rattle.cpm_volume.specs.Operations.{Answer, done, no_block, no_record, cannot_close, no_extent, no_entry_free, fault, Outcome, ends, writing, next_target, target_of, next_place, place_at, put_record, write_in, write_next_on_volume, write_random_on_volume, write_random_cleared_on_volume}
+use Rattle.cpm_volume.specs.Operations.{Answer, done, no_block, no_record, cannot_close, no_extent, no_entry_free, fault, VolumeOutcome, ends, writing, next_target, target_of, next_place, place_at, put_record, write_in, write_next_on_volume, write_random_on_volume, write_random_cleared_on_volume}
 use Rattle.cpm_volume.specs.Laws.{OthersStay, FileStays, LosesNone, HasWritten, HasCleared, position, StaysSound, IsFull, HasNoExtent, HasNoBlock, HasDone, WritesNext, WritesRandom, ClearsBlock}
 use Rattle.cpm_volume.proofs.NameLemmas.{same_name-trans, same_name-sym}
-use Rattle.cpm_volume.proofs.Records.{Written, Puts, LacksBlock, puts}
+use Rattle.cpm_volume.proofs.Records.{IsRecordWritten, Puts, LacksBlock, puts}
 use Rattle.cpm_volume.proofs.Moving.{MovesOn, LacksExtent, stays_there, no_file, closed_volume, closes_free, goes_on, number_below}
 use Rattle.cpm_volume.proofs.Making.{no_blocks}
 use Rattle.cpm_volume.proofs.Reading.{own_block, past_file}
@@ -42,7 +42,7 @@ module _ (d : Dpb) (user : ℕ) (v : Volume) (x : Extent) (number : ℕ) (v1 : V
         stay.stay other name m ok (λ u s. apart u (same_name-trans _ _ _ s (same_name-sym _ _ move.name_is))) ∙ same_directory other name m ok apart;
   }
 
-  written_after : (n : ℕ) (bytes : List ℕ) (v' : Volume) (x' : Extent) → Written d user v1 x1 n bytes v' x' → HasWritten d user v x n bytes v' x'
+  written_after : (n : ℕ) (bytes : List ℕ) (v' : Volume) (x' : Extent) → IsRecordWritten d user v1 x1 n bytes v' x' → HasWritten d user v x n bytes v' x'
   written_after n bytes v' x' written = record {
     there = written.there;
     others = λ m other h.
@@ -54,7 +54,7 @@ module _ (d : Dpb) (user : ℕ) (v : Volume) (x : Extent) (number : ℕ) (v1 : V
   cleared_after n v' x' cleared = record { zeros = λ m other free. cleared.zeros m other (rw move.reserved free) }
 
 -- what is said of a call that came to its record
-abbrev Writes : Dpb → ℕ → Volume → Extent → ℕ → List ℕ → Bool → ℕ → Outcome → Type 0
+abbrev Writes : Dpb → ℕ → Volume → Extent → ℕ → List ℕ → Bool → ℕ → VolumeOutcome → Type 0
 Writes d user v x n bytes clears after o =
     StaysSound d user v x o × ((HasDone d user v x n bytes after o × (clears ≡ true → HasCleared d user v n o.volume o.extent)) ⊎ ((o.answer ≡ no_block) × HasNoBlock d user v x n o))
 
@@ -102,7 +102,7 @@ writes_there d user v x n here bytes clears next after v1 x1 user_ok format move
     ]
 
 -- ---- a call that did not come to its record
-abbrev Misses : Dpb → ℕ → Volume → Extent → ℕ → ℕ → Answer → Outcome → Type 0
+abbrev Misses : Dpb → ℕ → Volume → Extent → ℕ → ℕ → Answer → VolumeOutcome → Type 0
 Misses d user v x current n answer o =
     StaysSound d user v x o × (o.answer ≡ answer) × HasNoExtent d user v x current n o
 
@@ -123,11 +123,11 @@ misses_last d user v x current n small sound past = (
 )
 
 -- ---- a random write, clearing or not
-random : Dpb → Bool → Volume → ℕ → Extent → ℕ → ℕ → List ℕ → Outcome
+random : Dpb → Bool → Volume → ℕ → Extent → ℕ → ℕ → List ℕ → VolumeOutcome
 random d clears v user x current n bytes =
     write_in d clears current 0 bytes (place_at d writing false v user x (target_of no_entry_free n))
 
-abbrev WritesAtPlace : Dpb → Bool → ℕ → Volume → Extent → ℕ → ℕ → List ℕ → Outcome → Type 0
+abbrev WritesAtPlace : Dpb → Bool → ℕ → Volume → Extent → ℕ → ℕ → List ℕ → VolumeOutcome → Type 0
 WritesAtPlace d clears user v x current n bytes o =
     WritesRandom d user v x current n bytes o × (clears ≡ true → ClearsBlock d user v n o)
 
@@ -140,7 +140,7 @@ is_done no_extent = false
 is_done no_entry_free = false
 is_done (fault which) = false
 
-from_there : (d : Dpb) (clears : Bool) (user : ℕ) (v : Volume) (x : Extent) (current n : ℕ) (bytes : List ℕ) (o : Outcome) → Writes d user v x n bytes clears n o → WritesAtPlace d clears user v x current n bytes o
+from_there : (d : Dpb) (clears : Bool) (user : ℕ) (v : Volume) (x : Extent) (current n : ℕ) (bytes : List ℕ) (o : VolumeOutcome) → Writes d user v x n bytes clears n o → WritesAtPlace d clears user v x current n bytes o
 unfolding is_done
 from_there d clears user v x current n bytes o w =
     elim w.1 [
@@ -148,7 +148,7 @@ from_there d clears user v x current n bytes o w =
       | inr h ↦ ((w.0, inr (inr h)), λ clear e. absurd (false≢true (ap is_done (sym h.0 ∙ e))))
     ]
 
-from_miss : (d : Dpb) (clears : Bool) (user : ℕ) (v : Volume) (x : Extent) (current n : ℕ) (bytes : List ℕ) (o : Outcome) → IsFull v.entries → Misses d user v x current n no_entry_free o → WritesAtPlace d clears user v x current n bytes o
+from_miss : (d : Dpb) (clears : Bool) (user : ℕ) (v : Volume) (x : Extent) (current n : ℕ) (bytes : List ℕ) (o : VolumeOutcome) → IsFull v.entries → Misses d user v x current n no_entry_free o → WritesAtPlace d clears user v x current n bytes o
 unfolding is_done
 from_miss d clears user v x current n bytes o full m =
     ((m.0, inr (inl (m.1, m.2, full))), λ clear e. absurd (false≢true (ap is_done (sym m.1 ∙ e))))
@@ -178,7 +178,7 @@ writes_at_cleared d user v x current n bytes user_ok format sound small h =
     let w = writes_random d true user v x current n bytes user_ok format sound small h in (w.0, w.1 refl)
 
 -- ---- a sequential write
-next_from : (d : Dpb) (user : ℕ) (v : Volume) (x : Extent) (current : ℕ) (bytes : List ℕ) (o : Outcome) → Writes d user v x (position x current) bytes false (position x current + 1) o → WritesNext d user v x current bytes o
+next_from : (d : Dpb) (user : ℕ) (v : Volume) (x : Extent) (current : ℕ) (bytes : List ℕ) (o : VolumeOutcome) → Writes d user v x (position x current) bytes false (position x current + 1) o → WritesNext d user v x current bytes o
 next_from d user v x current bytes o w = elim w.1 [ inl h ↦ (w.0, inl h.0) | inr h ↦ (w.0, inr (inr h)) ]
 
 pub writes_next : (d : Dpb) (user : ℕ) (v : Volume) (x : Extent) (current : ℕ) (bytes : List ℕ) → user ≢ deleted → IsFormat d → IsSound d v user x → current ≤ 128 → WritesNext d user v x current bytes (write_next_on_volume d v user x current bytes)

@@ -8,7 +8,7 @@ use Rattle.cpm_volume.specs.declared.extent.Entry.{Entry}
 use Rattle.cpm_volume.specs.Files.{extent_number, group_of, is_of, entry_at, InUse, same_name, deleted, is_reserved}
 use Rattle.cpm_volume.specs.Files.{first_free, file_block, open_file_block, directory_records, file_record, open_file_record}
 use Rattle.cpm_volume.specs.Files.{IsWellFormed, IsFcbKept, IsFormat, IsVolume, IsSound, IsSoundDrive, Volume, has_wildcard}
-use Rattle.cpm_volume.specs.Operations.{read_only, done, no_record, no_block, no_extent, no_entry_free, fault, Outcome, with_entry, closed}
+use Rattle.cpm_volume.specs.Operations.{read_only, done, no_record, no_block, no_extent, no_entry_free, fault, VolumeOutcome, with_entry, closed}
 use Rattle.cpm_volume.specs.Operations.{close_fault, close_file_on_volume, open_file_on_volume, make_file_on_volume, read_next_on_volume}
 use Rattle.cpm_volume.specs.Operations.{write_next_on_volume, read_random_on_volume, write_random_on_volume, write_random_cleared_on_volume}
 
@@ -44,14 +44,14 @@ unfoldable pub position : Extent → ℕ → ℕ
 position x current = 128 * extent_number x + current
 
 -- whatever a call answers, the drive and the file control block agree, no block became free, and the other files are as they were
-pub record StaysSound (d : Dpb) (user : ℕ) (v : Volume) (x : Extent) (o : Outcome) : Type 0 where
+pub record StaysSound (d : Dpb) (user : ℕ) (v : Volume) (x : Extent) (o : VolumeOutcome) : Type 0 where
   pub sound : IsSound d o.volume user o.extent
   pub current : o.current ≤ 128
   pub reserved : (b : ℕ) → is_reserved v.reserved b ≡ true → is_reserved o.volume.reserved b ≡ true
   pub others : OthersStay d user x.name v o.volume
 
 -- nothing has changed
-pub record IsUntouched (v : Volume) (x : Extent) (current : ℕ) (o : Outcome) : Type 0 where
+pub record IsUntouched (v : Volume) (x : Extent) (current : ℕ) (o : VolumeOutcome) : Type 0 where
   pub volume : o.volume ≡ v
   pub extent : o.extent ≡ x
   pub current_is : o.current ≡ current
@@ -60,25 +60,25 @@ pub record IsUntouched (v : Volume) (x : Extent) (current : ℕ) (o : Outcome) :
 -- ---- reads
 
 -- record n was read: the drive's record of a number, none of the directory's
-pub record HasReadRecord (d : Dpb) (user : ℕ) (v : Volume) (x : Extent) (n : ℕ) (o : Outcome) : Type 0 where
+pub record HasReadRecord (d : Dpb) (user : ℕ) (v : Volume) (x : Extent) (n : ℕ) (o : VolumeOutcome) : Type 0 where
   pub number : ℕ
   pub given : o.read ≡ Some number
   pub there : open_file_record d v.entries v.records user x n ≡ Some (slice_index_or v.records number [])
   pub outside : directory_records d ≤ number
 
 -- the file has no record n
-pub record HasNone (d : Dpb) (user : ℕ) (v : Volume) (x : Extent) (n : ℕ) (o : Outcome) : Type 0 where
+pub record HasNone (d : Dpb) (user : ℕ) (v : Volume) (x : Extent) (n : ℕ) (o : VolumeOutcome) : Type 0 where
   pub none : open_file_record d v.entries v.records user x n ≡ None
   pub given : o.read ≡ None
 
 -- a close was refused since the drive is protected
-pub record IsProtected (protected : Bool) (v : Volume) (x : Extent) (current : ℕ) (o : Outcome) : Type 0 where
+pub record IsProtected (protected : Bool) (v : Volume) (x : Extent) (current : ℕ) (o : VolumeOutcome) : Type 0 where
   pub answer : o.answer ≡ fault read_only
   pub protected_is : protected ≡ true
   pub untouched : IsUntouched v x current o
 
 -- a sequential read answers the file's record at the position, or 01 where it has none
-abbrev pub ReadsNext : Dpb → ℕ → Bool → Volume → Extent → ℕ → Outcome → Type 0
+abbrev pub ReadsNext : Dpb → ℕ → Bool → Volume → Extent → ℕ → VolumeOutcome → Type 0
 ReadsNext d user protected v x current o =
     StaysSound d user v x o × FileStays d user v x o.volume o.extent
     × (((o.answer ≡ done) × HasReadRecord d user v x (position x current) o × (position o.extent o.current ≡ position x current + 1))
@@ -86,7 +86,7 @@ ReadsNext d user protected v x current o =
     ⊎ IsProtected protected v x current o))
 
 -- a random read answers the file's record n, or 01 or 04 where it has none; with 04 it stays where it was
-abbrev pub ReadsRandom : Dpb → ℕ → Bool → Volume → Extent → ℕ → ℕ → Outcome → Type 0
+abbrev pub ReadsRandom : Dpb → ℕ → Bool → Volume → Extent → ℕ → ℕ → VolumeOutcome → Type 0
 ReadsRandom d user protected v x current n o =
     StaysSound d user v x o × FileStays d user v x o.volume o.extent
     × (((o.answer ≡ done) × HasReadRecord d user v x n o × (position o.extent o.current ≡ n))
@@ -100,7 +100,7 @@ pub record IsFull (es : List Entry) : Type 0 where
   pub used : (i : ℕ) → i < length es → InUse es i
 
 -- 01, 05: the file control block stays, and the file has no record n
-pub record HasNoExtent (d : Dpb) (user : ℕ) (v : Volume) (x : Extent) (current n : ℕ) (o : Outcome) : Type 0 where
+pub record HasNoExtent (d : Dpb) (user : ℕ) (v : Volume) (x : Extent) (current n : ℕ) (o : VolumeOutcome) : Type 0 where
   pub file : FileStays d user v x o.volume o.extent
   pub extent : o.extent ≡ x
   pub current_is : o.current ≡ current
@@ -108,7 +108,7 @@ pub record HasNoExtent (d : Dpb) (user : ℕ) (v : Volume) (x : Extent) (current
   pub none : open_file_record d v.entries v.records user x n ≡ None
 
 -- 02: all blocks are reserved, and the file has no record n; where extents share no entry the file is as it was
-pub record HasNoBlock (d : Dpb) (user : ℕ) (v : Volume) (x : Extent) (n : ℕ) (o : Outcome) : Type 0 where
+pub record HasNoBlock (d : Dpb) (user : ℕ) (v : Volume) (x : Extent) (n : ℕ) (o : VolumeOutcome) : Type 0 where
   pub file : LosesNone d user v x o.volume o.extent
   pub exact : d.extent_mask ≡ 0 → FileStays d user v x o.volume o.extent
   pub position_is : position o.extent o.current ≡ n
@@ -117,14 +117,14 @@ pub record HasNoBlock (d : Dpb) (user : ℕ) (v : Volume) (x : Extent) (n : ℕ)
   pub full : (b : ℕ) → is_reserved v.reserved b ≡ true
 
 -- 00: record n is written, and the file control block stands at a record afterwards
-pub record HasDone (d : Dpb) (user : ℕ) (v : Volume) (x : Extent) (n : ℕ) (bytes : List ℕ) (after : ℕ) (o : Outcome) : Type 0 where
+pub record HasDone (d : Dpb) (user : ℕ) (v : Volume) (x : Extent) (n : ℕ) (bytes : List ℕ) (after : ℕ) (o : VolumeOutcome) : Type 0 where
   pub answer : o.answer ≡ done
   pub written : HasWritten d user v x n bytes o.volume o.extent
   pub position_is : position o.extent o.current ≡ after
   pub none_read : o.read ≡ None
 
 -- a sequential write writes the record at the position; 01 where the file has its last extent or the directory is full
-abbrev pub WritesNext : Dpb → ℕ → Volume → Extent → ℕ → List ℕ → Outcome → Type 0
+abbrev pub WritesNext : Dpb → ℕ → Volume → Extent → ℕ → List ℕ → VolumeOutcome → Type 0
 WritesNext d user v x current bytes o =
     StaysSound d user v x o
     × (HasDone d user v x (position x current) bytes (position x current + 1) o
@@ -132,14 +132,14 @@ WritesNext d user v x current bytes o =
     ⊎ ((o.answer ≡ no_block) × HasNoBlock d user v x (position x current) o)))
 
 -- a random write writes record n; 05 where the directory is full
-abbrev pub WritesRandom : Dpb → ℕ → Volume → Extent → ℕ → ℕ → List ℕ → Outcome → Type 0
+abbrev pub WritesRandom : Dpb → ℕ → Volume → Extent → ℕ → ℕ → List ℕ → VolumeOutcome → Type 0
 WritesRandom d user v x current n bytes o =
     StaysSound d user v x o
     × (HasDone d user v x n bytes n o
     ⊎ (((o.answer ≡ no_entry_free) × HasNoExtent d user v x current n o × IsFull v.entries) ⊎ ((o.answer ≡ no_block) × HasNoBlock d user v x n o)))
 
 -- a block that the call took is zeros but for record n
-abbrev pub ClearsBlock : Dpb → ℕ → Volume → ℕ → Outcome → Type 0
+abbrev pub ClearsBlock : Dpb → ℕ → Volume → ℕ → VolumeOutcome → Type 0
 ClearsBlock d user v n o = (o.answer ≡ done) → HasCleared d user v n o.volume o.extent
 
 -- ---- close, open, make

@@ -2,7 +2,7 @@
 use Rattle.std.specs.Prelude.{◌≡◌, ℕ, true, List, [], ◌∷◌, replicate, map}
 use Rattle.cpm_volume.specs.declared.extent.Entry.{Entry}
 use Rattle.cpm_volume.specs.Files.{Volume}
-use Rattle.cpm_volume.specs.Operations.{Outcome, make_file_on_volume}
+use Rattle.cpm_volume.specs.Operations.{VolumeOutcome, make_file_on_volume}
 use Rattle.cpm_volume.specs.Names.{NameOutcome, none_named, file_read_only, named, erase_files_on_volume, rename_files_on_volume, set_attributes_on_volume}
 use Rattle.cpm_volume.specs.Rows.{standard, t_dat, two_extents, from_make, more}
 
@@ -37,10 +37,10 @@ names_in file_read_only = []
 names_in (named first v) = map (λ (e : Entry). e.extent.name) v.entries
 
 -- U.DAT is made on a drive, and one record written
-unfoldable pub u_started : Volume → Outcome
+unfoldable pub u_started : Volume → VolumeOutcome
 u_started v = from_make v (make_file_on_volume v.entries 0 (record t_dat { name = u_dat }))
 
-unfoldable pub held : Outcome → List (List ℕ)
+unfoldable pub held : VolumeOutcome → List (List ℕ)
 held o = o.extent.blocks ∷ map (λ (e : Entry). e.user ∷ e.extent.name) o.volume.entries
 
 unfoldable pub u_made : NameOutcome → List (List ℕ)

@@ -26,7 +26,7 @@ code_of no_entry_free = Some 5
 code_of (fault which) = None
 
 -- what a call on a record leaves: its answer, the drive, the file control block with its current record, and the number of the record that was read
-pub record Outcome : Type 0 where
+pub record VolumeOutcome : Type 0 where
   pub answer : Answer
   pub volume : Volume
   pub extent : Extent
@@ -34,12 +34,12 @@ pub record Outcome : Type 0 where
   pub read : Option ℕ
 
 -- no record was read
-unfoldable pub ends : Answer → Volume → Extent → ℕ → Outcome
+unfoldable pub ends : Answer → Volume → Extent → ℕ → VolumeOutcome
 ends answer v x current =
     record { answer = answer; volume = v; extent = x; current = current; read = None }
 
 -- a record was read
-unfoldable pub gives : Volume → Extent → ℕ → ℕ → Outcome
+unfoldable pub gives : Volume → Extent → ℕ → ℕ → VolumeOutcome
 gives v x current number =
     record { answer = done; volume = v; extent = x; current = current; read = Some number }
 
@@ -225,7 +225,7 @@ unfoldable pub record_in_block : Dpb → ℕ → ℕ → ℕ
 record_in_block d b current = b * (d.block_mask + 1) + current % (d.block_mask + 1)
 
 -- read the current record; the next is then current
-unfoldable pub get_record : Dpb → Volume → Extent → ℕ → ℕ → Outcome
+unfoldable pub get_record : Dpb → Volume → Extent → ℕ → ℕ → VolumeOutcome
 get_record d v x current next =
     let b = block_number x (entry_place_of d x current) in
     if not (nat_lt current x.record_count) then ends no_record v x current
@@ -234,14 +234,14 @@ get_record d v x current next =
     else gives v x next (record_in_block d b current)))
 
 -- the block that a write is into
-pub data Found : Type 0 where
-  no_such_block : Found
-  none_free : Found
-  old_block : (block : ℕ) → Found
-  new_block : (block : ℕ) → Found
+pub data BlockChoice : Type 0 where
+  no_such_block : BlockChoice
+  none_free : BlockChoice
+  old_block : (block : ℕ) → BlockChoice
+  new_block : (block : ℕ) → BlockChoice
 
 -- a number of the map, for none the least block that is not reserved, if it is one of the drive's
-unfoldable pub block_to_write : Dpb → List Bool → ℕ → Found
+unfoldable pub block_to_write : Dpb → List Bool → ℕ → BlockChoice
 block_to_write d reserved b =
     if nat_lt d.last_block b then no_such_block
     else (if not (b == 0) then old_block b
@@ -272,7 +272,7 @@ taken_writes d false b = []
 taken_writes d true b =
     map (λ place. record_put (b * (d.block_mask + 1) + place) (replicate 128 0)) (range_with_len 0 (d.block_mask + 1))
 
-unfoldable pub put_found : Dpb → Bool → Volume → Extent → ℕ → ℕ → List ℕ → Found → Outcome
+unfoldable pub put_found : Dpb → Bool → Volume → Extent → ℕ → ℕ → List ℕ → BlockChoice → VolumeOutcome
 put_found d clears v x current next bytes no_such_block = ends (fault bad_sector) v x current
 put_found d clears v x current next bytes none_free = ends no_block v x current
 put_found d clears v x current next bytes (old_block b) =
@@ -289,42 +289,42 @@ put_found d clears v x current next bytes (new_block b) =
     (counting (with_block x (entry_place_of d x current) b) current) next
 
 -- write the current record; the next is then current
-unfoldable pub put_record : Dpb → Bool → Volume → Extent → ℕ → ℕ → List ℕ → Outcome
+unfoldable pub put_record : Dpb → Bool → Volume → Extent → ℕ → ℕ → List ℕ → VolumeOutcome
 put_record d clears v x current next bytes =
     put_found d clears v x current next bytes (block_to_write d v.reserved (block_number x (entry_place_of d x current)))
 
 -- ---- the functions
 
 -- a call at its record, `step` records on afterwards; one that stops before keeps the current record
-unfoldable pub read_in : Dpb → ℕ → ℕ → Place → Outcome
+unfoldable pub read_in : Dpb → ℕ → ℕ → Place → VolumeOutcome
 read_in d current step (stopped answer v x) = ends answer v x current
 read_in d current step (standing v x here) = get_record d v x here (here + step)
 
-unfoldable pub write_in : Dpb → Bool → ℕ → ℕ → List ℕ → Place → Outcome
+unfoldable pub write_in : Dpb → Bool → ℕ → ℕ → List ℕ → Place → VolumeOutcome
 write_in d clears current step bytes (stopped answer v x) = ends answer v x current
 write_in d clears current step bytes (standing v x here) = put_record d clears v x here (here + step) bytes
 
 -- READ SEQUENTIAL
-unfoldable pub read_next_on_volume : Dpb → Bool → Volume → ℕ → Extent → ℕ → Outcome
+unfoldable pub read_next_on_volume : Dpb → Bool → Volume → ℕ → Extent → ℕ → VolumeOutcome
 read_next_on_volume d protected v user x current =
     read_in d current 1 (next_place d reading protected v user x current)
 
 -- WRITE SEQUENTIAL, to a drive that is not protected
-unfoldable pub write_next_on_volume : Dpb → Volume → ℕ → Extent → ℕ → List ℕ → Outcome
+unfoldable pub write_next_on_volume : Dpb → Volume → ℕ → Extent → ℕ → List ℕ → VolumeOutcome
 write_next_on_volume d v user x current bytes =
     write_in d false current 1 bytes (next_place d writing false v user x current)
 
 -- READ RANDOM, record n
-unfoldable pub read_random_on_volume : Dpb → Bool → Volume → ℕ → Extent → ℕ → ℕ → Outcome
+unfoldable pub read_random_on_volume : Dpb → Bool → Volume → ℕ → Extent → ℕ → ℕ → VolumeOutcome
 read_random_on_volume d protected v user x current n =
     read_in d current 0 (place_at d reading protected v user x (target_of no_extent n))
 
 -- WRITE RANDOM, record n, to a drive that is not protected
-unfoldable pub write_random_on_volume : Dpb → Volume → ℕ → Extent → ℕ → ℕ → List ℕ → Outcome
+unfoldable pub write_random_on_volume : Dpb → Volume → ℕ → Extent → ℕ → ℕ → List ℕ → VolumeOutcome
 write_random_on_volume d v user x current n bytes =
     write_in d false current 0 bytes (place_at d writing false v user x (target_of no_entry_free n))
 
 -- WRITE RANDOM WITH ZERO FILL, record n, to a drive that is not protected
-unfoldable pub write_random_cleared_on_volume : Dpb → Volume → ℕ → Extent → ℕ → ℕ → List ℕ → Outcome
+unfoldable pub write_random_cleared_on_volume : Dpb → Volume → ℕ → Extent → ℕ → ℕ → List ℕ → VolumeOutcome
 write_random_cleared_on_volume d v user x current n bytes =
     write_in d true current 0 bytes (place_at d writing false v user x (target_of no_entry_free n))

@@ -9,7 +9,7 @@ use Rattle.cpm_volume.specs.declared.extent.Extent.{Extent}
 use Rattle.cpm_volume.specs.declared.extent.Entry.{Entry}
 use Rattle.cpm_volume.specs.Files.{Volume, no_entry}
 use Rattle.cpm_volume.specs.Operations.{Answer, done, no_record, no_block, no_extent, no_entry_free, fault, bad_sector}
-use Rattle.cpm_volume.specs.Operations.{read_only, Outcome, ends, Close, refused, close_fault, closed, close_file_on_volume}
+use Rattle.cpm_volume.specs.Operations.{read_only, VolumeOutcome, ends, Close, refused, close_fault, closed, close_file_on_volume}
 use Rattle.cpm_volume.specs.Operations.{open_file_on_volume, make_file_on_volume, read_next_on_volume, write_next_on_volume}
 use Rattle.cpm_volume.specs.Operations.{read_random_on_volume, write_random_on_volume, write_random_cleared_on_volume}
 
@@ -39,21 +39,21 @@ t_dat =
     }
 
 -- the file is made; the outcome is one from which writes go on
-unfoldable pub from_make : Volume → Option (List Entry × Extent) → Outcome
+unfoldable pub from_make : Volume → Option (List Entry × Extent) → VolumeOutcome
 from_make v None = ends no_entry_free v t_dat 0
 from_make v (Some made) =
     ends done (record v { entries = made.0 }) made.1 0
 
-unfoldable pub made_on : Volume → Outcome
+unfoldable pub made_on : Volume → VolumeOutcome
 made_on v = from_make v (make_file_on_volume v.entries 0 t_dat)
 
 -- a sequential write after a call that was done
-unfoldable pub more : Dpb → Outcome → Answer → Outcome
+unfoldable pub more : Dpb → VolumeOutcome → Answer → VolumeOutcome
 more d o done = write_next_on_volume d (record o.volume { written = [] }) 0 o.extent o.current []
 more d o other = o
 
 -- so many sequential writes, up to the first that is refused
-unfoldable pub writes : Dpb → ℕ → Outcome → Outcome
+unfoldable pub writes : Dpb → ℕ → VolumeOutcome → VolumeOutcome
 writes d zero o = o
 writes d (suc count) o = writes d count (more d o o.answer)
 
@@ -67,12 +67,12 @@ entries_closed refused = []
 entries_closed (close_fault which) = []
 
 -- the first entries after a close
-unfoldable pub directory_bytes : Dpb → ℕ → Outcome → List (List ℕ)
+unfoldable pub directory_bytes : Dpb → ℕ → VolumeOutcome → List (List ℕ)
 directory_bytes d count o =
     take count (map entry_seen (entries_closed (close_file_on_volume d false o.volume.entries 0 o.extent)))
 
 -- 129 records, by sequential writes
-unfoldable pub file_of_129 : Outcome
+unfoldable pub file_of_129 : VolumeOutcome
 file_of_129 = writes standard 129 (made_on (blank_volume 64 241 []))
 
 -- they fill one entry, blocks 02h to 11h, and begin another, block 12h
@@ -166,7 +166,7 @@ RowProtected =
     × (close_file_on_volume standard true two_extents 0 (second_extent 2 0x12) ≡ close_fault read_only)
 
 -- with one entry alone 129 records do not fit: the first extent was closed, and the file control block stays at its end
-unfoldable pub crowded : Outcome
+unfoldable pub crowded : VolumeOutcome
 crowded = writes standard 129 (made_on (blank_volume 1 241 []))
 
 abbrev pub RowCrowded : Type 0
@@ -177,13 +177,13 @@ RowCrowded =
     ∷ [])
 
 -- record 3 written into a new block of records of E5h
-unfoldable pub record_written : Outcome → Outcome
+unfoldable pub record_written : VolumeOutcome → VolumeOutcome
 record_written o = write_random_on_volume standard o.volume 0 o.extent 0 3 (0x41 ∷ [])
 
-unfoldable pub written_cleared : Outcome → Outcome
+unfoldable pub written_cleared : VolumeOutcome → VolumeOutcome
 written_cleared o = write_random_cleared_on_volume standard o.volume 0 o.extent 0 3 (0x41 ∷ [])
 
-unfoldable pub new_file : Outcome
+unfoldable pub new_file : VolumeOutcome
 new_file = made_on (blank_volume 64 241 (replicate 25 (0xE5 ∷ [])))
 
 -- a random write leaves the block's other records, one with zero fill clears them
@@ -210,21 +210,21 @@ two_records =
       written = [];
     }
 
-unfoldable pub opened_on : Volume → Option Extent → Outcome
+unfoldable pub opened_on : Volume → Option Extent → VolumeOutcome
 opened_on v None = ends no_extent v t_dat 0
 opened_on v (Some it) = ends done v it 0
 
-unfoldable pub two_opened : Outcome
+unfoldable pub two_opened : VolumeOutcome
 two_opened = opened_on two_records (open_file_on_volume standard two_records.entries 0 t_dat)
 
-unfoldable pub next_read : Outcome → Outcome
+unfoldable pub next_read : VolumeOutcome → VolumeOutcome
 next_read o = read_next_on_volume standard false o.volume 0 o.extent o.current
 
-unfoldable pub any_read : ℕ → Outcome
+unfoldable pub any_read : ℕ → VolumeOutcome
 any_read n = read_random_on_volume standard false two_opened.volume 0 two_opened.extent 0 n
 
 -- the bytes that were read
-abbrev pub bytes_read : Outcome → Option (List ℕ)
+abbrev pub bytes_read : VolumeOutcome → Option (List ℕ)
 bytes_read o = option_map (λ n. slice_index_or o.volume.records n []) o.read
 
 -- sequential reads give both records and then none; random reads give record 1, no record 2, and no extent for record 256

@@ -5,7 +5,7 @@ ghost use Rattle.std.specs.Prelude.{◌≡◌};
 use crate::files::unreadable;
 use crate::output::{is_open_already, target_of};
 use crate::place::script_paths;
-use crate::refused::{Behind, Refused};
+use crate::refused::{CommandRefusal, RefusalDetail};
 use cpm_host::{Config, HostError, Origin, ReadError, RunError, RunTask, SessionConfig, shown};
 use std::alloc::{AllocError, Global};
 use std::io::ErrorKind;
@@ -38,37 +38,37 @@ pub struct Bounds {
 
 /// A name that is checked, and whether its file is written.
 #[derive(Clone, Copy, Drop)]
-struct Named<'a> {
+struct CheckedName<'a> {
     name: &'a str,
     is_output: bool,
 }
 
-impl<'a> Named<'a> {
+impl<'a> CheckedName<'a> {
     /// That of a file that is read.
-    fn input(name: &'a str) -> Named<'a> {
-        Named {
+    fn input(name: &'a str) -> CheckedName<'a> {
+        CheckedName {
             name,
             is_output: false,
         }
     }
 
     /// That of a file that is written.
-    fn output(name: &'a str) -> Named<'a> {
-        Named {
+    fn output(name: &'a str) -> CheckedName<'a> {
+        CheckedName {
             name,
             is_output: true,
         }
     }
 
     /// The refusal of the file, with what is said of it.
-    fn refused(&self, behind: Behind) -> Refused {
+    fn refused(&self, behind: RefusalDetail) -> CommandRefusal {
         let name = shown(self.name);
         let error = if self.is_output {
             RunError::WriteFault(name)
         } else {
             RunError::FileRefused(ReadError::File(name))
         };
-        Refused {
+        CommandRefusal {
             error: HostError::from(error),
             behind,
         }
@@ -102,12 +102,12 @@ fn folder_at(rt: &(impl Files + AllocGlobal), name: &str) -> io::Result<PathBuf>
 
 impl Bounds {
     /// Those of the folders of these names; where there is no name there are none.
-    fn new(rt: &(impl Files + AllocGlobal), names: &[&str]) -> Result<Bounds, Refused> {
+    fn new(rt: &(impl Files + AllocGlobal), names: &[&str]) -> Result<Bounds, CommandRefusal> {
         let mut folders = Vec::new(rt.alloc());
         for name in names {
             match folder_at(rt, name) {
                 Ok(folder) => folders.push(folder)?,
-                Err(reason) => return Err(Refused::from(unreadable(name, reason))),
+                Err(reason) => return Err(CommandRefusal::from(unreadable(name, reason))),
             }
         }
         Ok(Bounds { folders })
@@ -185,12 +185,16 @@ impl Bounds {
     }
 
     /// Refuses a file that doesn't lie in one of the folders.
-    fn check(&self, rt: &(impl Files + AllocGlobal), named: Named<'_>) -> Result<(), Refused> {
+    fn check(
+        &self,
+        rt: &(impl Files + AllocGlobal),
+        named: CheckedName<'_>,
+    ) -> Result<(), CommandRefusal> {
         match self.locate(rt, named.name)? {
             Location::Inside => Ok(()),
-            Location::Outside => Err(named.refused(Behind::Outside)),
-            Location::NotRegular => Err(named.refused(Behind::NotRegular)),
-            Location::Lost(reason) => Err(named.refused(Behind::Reason(reason))),
+            Location::Outside => Err(named.refused(RefusalDetail::Outside)),
+            Location::NotRegular => Err(named.refused(RefusalDetail::NotRegular)),
+            Location::Lost(reason) => Err(named.refused(RefusalDetail::Reason(reason))),
         }
     }
 
@@ -200,7 +204,7 @@ impl Bounds {
         rt: &(impl Files + AllocGlobal),
         config: &Config,
         task: &RunTask<'_>,
-    ) -> Result<(), Refused> {
+    ) -> Result<(), CommandRefusal> {
         for named in &inputs_of(rt.alloc(), config)? {
             self.check(rt, *named)?;
         }
@@ -216,9 +220,9 @@ impl Bounds {
         rt: &(impl Files + AllocGlobal),
         config: &Config,
         folder: Option<&str>,
-    ) -> Result<(), Refused> {
+    ) -> Result<(), CommandRefusal> {
         for script in &script_paths(rt.alloc(), config, folder)? {
-            self.check(rt, Named::output(script.as_str()))?;
+            self.check(rt, CheckedName::output(script.as_str()))?;
         }
         Ok(())
     }
@@ -236,22 +240,25 @@ impl Bounds {
 }
 
 /// Adds the files that a session reads.
-fn add_inputs<'a>(all: &mut Vec<Named<'a>>, session: &'a SessionConfig) -> Result<(), AllocError> {
+fn add_inputs<'a>(
+    all: &mut Vec<CheckedName<'a>>,
+    session: &'a SessionConfig,
+) -> Result<(), AllocError> {
     if let Origin::Opened { drives, .. } = &session.origin {
         for drive in drives {
-            all.push(Named::input(drive.as_str()))?;
+            all.push(CheckedName::input(drive.as_str()))?;
         }
     }
     if let Some(keys) = &session.keys {
-        all.push(Named::input(keys.as_str()))?;
+        all.push(CheckedName::input(keys.as_str()))?;
     }
     Ok(())
 }
 
 /// The files that a run reads.
-fn inputs_of(alloc: Global, config: &Config) -> Result<Vec<Named<'_>>, AllocError> {
+fn inputs_of(alloc: Global, config: &Config) -> Result<Vec<CheckedName<'_>>, AllocError> {
     let mut all = Vec::new(alloc);
-    all.push(Named::input(config.system.as_str()))?;
+    all.push(CheckedName::input(config.system.as_str()))?;
     for session in &config.sessions {
         add_inputs(&mut all, session)?;
     }
@@ -259,14 +266,17 @@ fn inputs_of(alloc: Global, config: &Config) -> Result<Vec<Named<'_>>, AllocErro
 }
 
 /// Adds the files that a session writes.
-fn add_outputs<'a>(all: &mut Vec<Named<'a>>, session: &'a SessionConfig) -> Result<(), AllocError> {
-    all.push(Named::output(session.console.as_str()))?;
+fn add_outputs<'a>(
+    all: &mut Vec<CheckedName<'a>>,
+    session: &'a SessionConfig,
+) -> Result<(), AllocError> {
+    all.push(CheckedName::output(session.console.as_str()))?;
     if let Some(list) = &session.list {
-        all.push(Named::output(list.as_str()))?;
+        all.push(CheckedName::output(list.as_str()))?;
     }
     if let Some(images) = &session.out {
         for image in images {
-            all.push(Named::output(image.as_str()))?;
+            all.push(CheckedName::output(image.as_str()))?;
         }
     }
     Ok(())
@@ -277,13 +287,13 @@ fn outputs_of<'a>(
     alloc: Global,
     config: &'a Config,
     record: Option<&'a str>,
-) -> Result<Vec<Named<'a>>, AllocError> {
+) -> Result<Vec<CheckedName<'a>>, AllocError> {
     let mut all = Vec::new(alloc);
     for session in &config.sessions {
         add_outputs(&mut all, session)?;
     }
     if let Some(record) = record {
-        all.push(Named::output(record))?;
+        all.push(CheckedName::output(record))?;
     }
     Ok(all)
 }
@@ -294,14 +304,16 @@ fn is_plain(name: &str) -> bool {
 }
 
 /// Refuses a run that would write by a name that is not plain, or its scripts to another folder than the current one.
-fn check_plain(alloc: Global, config: &Config, task: &RunTask<'_>) -> Result<(), Refused> {
+fn check_plain(alloc: Global, config: &Config, task: &RunTask<'_>) -> Result<(), CommandRefusal> {
     for named in &outputs_of(alloc, config, task.record)? {
         if !is_plain(named.name) {
-            return Err(named.refused(Behind::NotPlain));
+            return Err(named.refused(RefusalDetail::NotPlain));
         }
     }
     match task.scripts {
-        Some(folder) if folder != "." => Err(Named::output(folder).refused(Behind::NotPlain)),
+        Some(folder) if folder != "." => Err(CheckedName::output(folder).refused(
+            RefusalDetail::NotPlain,
+        )),
         _ => Ok(()),
     }
 }
@@ -311,7 +323,7 @@ pub fn check_bounds(
     rt: &(impl Files + AllocGlobal),
     config: &Config,
     task: &RunTask<'_>,
-) -> Result<Bounds, Refused> {
+) -> Result<Bounds, CommandRefusal> {
     if task.has_outputs_here {
         check_plain(rt.alloc(), config, task)?;
     }

@@ -2,17 +2,18 @@
 
 ghost use Rattle.cpm_host.specs.Cued.{AreFit};
 
+use crate::batch::Batch;
 use crate::disk::read_image;
-use crate::files::{check_file, read_file, write_held};
-use crate::held::{HeldFiles, Machine, hold};
+use crate::files::{add_held, check_file, read_file};
+use crate::held::{HeldFiles, LockableFiles, hold};
 use crate::output::Outputs;
-use crate::patient::{PatientInput, PatientOutput};
+use crate::patient::{PatientError, PatientInput, PatientOutput, StandardError};
 use crate::place::check_com;
 use crate::progress::{Audience, Form, Teller};
 use crate::record::record_in;
-use crate::refused::Refused;
+use crate::refused::CommandRefusal;
 use crate::rehearse::waits_in;
-use crate::screen::Screen;
+use crate::screen::{Lines, Screen};
 use crate::typing::{Terminals, tell_full, tell_quit};
 use crate::waiting_word;
 use cpm_geom::Image;
@@ -20,6 +21,7 @@ use cpm_host::{
     ComTask, CuedKeys, Ending, HostError, LiveResult, ProgramResult, ProgramStart, Script, Tail,
     cues_of, run_com, run_live, run_waiting, tail_of,
 };
+use std::cell::Cell;
 use std::io::{BufReader, Write};
 use std::rt::{Clock, Files};
 
@@ -28,28 +30,31 @@ const STEPS: u64 = 1_000_000;
 
 /// Runs the program in a file, prints what it shows, writes its drives where that is asked, and prints how it ended.
 pub fn com(
-    rt: &(impl Machine + Input + Print + Eprint),
+    rt: &(impl LockableFiles + Input),
     outputs: Outputs,
     task: &ComTask<'_>,
     terminals: Terminals,
-) -> Result<(), Refused> {
+) -> Result<(), CommandRefusal> {
     let held = hold(rt, &task.drives, &task.outs)?;
     let start = start_of(rt, task)?;
     check_com(rt, task)?;
     check_outs(rt, outputs, &task.outs)?;
     // (before a key is recorded)
     start.check()?;
-    let mut screen = Screen::new(
+    let is_at_line_start = Cell::new(true);
+    let screen = Screen::new(
         PatientOutput::new(rt),
         terminals.shows_controls(task.is_raw),
     );
+    let mut lines = Lines::new(screen, &is_at_line_start);
+    let mut teller = teller_of(rt, task, terminals, &is_at_line_start);
     let (ran, waits) = if task.is_live {
-        play_keyboard(rt, outputs, task, start, &mut screen)?
+        play_keyboard(rt, outputs, task, start, &mut lines)?
     } else {
-        play_script(rt, outputs, task, start, &mut screen, terminals)?
+        play_script(rt, outputs, task, start, &mut lines, &mut teller)?
     };
-    if terminals.are_one() && !screen.is_at_line_start() {
-        let _ = eprintln!(rt);
+    if terminals.are_one() && !is_at_line_start.get() {
+        let _ = eprintln!(PatientError::new(rt));
     }
     let ending = ran.ending;
     write_drives(rt, outputs, &held, &task.outs, ran.drives)?;
@@ -58,11 +63,7 @@ pub fn com(
 }
 
 /// Fails where one of the files of these names can't be written.
-fn check_outs(
-    rt: &(impl Files + AllocGlobal),
-    outputs: Outputs,
-    outs: &[&str],
-) -> Result<(), HostError> {
+fn check_outs(rt: &impl LockableFiles, outputs: Outputs, outs: &[&str]) -> Result<(), HostError> {
     for out in outs {
         check_file(rt, outputs, out)?;
     }
@@ -70,7 +71,10 @@ fn check_outs(
 }
 
 /// What the program runs with.
-fn start_of(rt: &(impl Files + AllocGlobal), task: &ComTask<'_>) -> Result<ProgramStart, Refused> {
+fn start_of(
+    rt: &(impl Files + AllocGlobal),
+    task: &ComTask<'_>,
+) -> Result<ProgramStart, CommandRefusal> {
     let program = read_file(rt, task.file)?;
     let tail = tail_if_any(rt, task)?;
     let drives = drives_of(rt, &task.drives)?;
@@ -91,7 +95,10 @@ fn tail_if_any(rt: &impl AllocGlobal, task: &ComTask<'_>) -> Result<Option<Tail>
 }
 
 /// The images in the files of these names.
-fn drives_of(rt: &(impl Files + AllocGlobal), names: &[&str]) -> Result<Vec<Image>, Refused> {
+fn drives_of(
+    rt: &(impl Files + AllocGlobal),
+    names: &[&str],
+) -> Result<Vec<Image>, CommandRefusal> {
     let mut drives = Vec::new(rt.alloc());
     for name in names {
         drives.push(read_image(rt, name)?)?;
@@ -100,14 +107,14 @@ fn drives_of(rt: &(impl Files + AllocGlobal), names: &[&str]) -> Result<Vec<Imag
 }
 
 /// Runs a program by the keys of the script in a file, if there is one, and says whether it then waits for a key, where that is known.
-fn play_script<W: Write>(
-    rt: &(impl Files + Eprint + AllocGlobal),
+fn play_script<W: Write, E: StandardError>(
+    rt: &impl LockableFiles,
     outputs: Outputs,
     task: &ComTask<'_>,
     start: ProgramStart,
     out: &mut W,
-    terminals: Terminals,
-) -> Result<(ProgramResult, bool), Refused> {
+    teller: &mut Teller<'_, E>,
+) -> Result<(ProgramResult, bool), CommandRefusal> {
     let text = match task.keys {
         Some(name) => read_file(rt, name)?,
         None => Vec::new(rt.alloc()),
@@ -117,96 +124,96 @@ fn play_script<W: Write>(
         text: text.as_slice(),
     };
     if task.stops_idle || task.record.is_some() || waits_in(script.text) {
-        play_waiting(rt, outputs, task, start, script, out, terminals)
+        play_waiting(rt, outputs, task, start, script, out, teller)
     } else {
-        Ok((play(rt, task, start, script, out, terminals)?, false))
+        Ok((play(rt, task, start, script, out, teller)?, false))
     }
 }
 
 /// Runs a program by a script that may wait for it, records its keys if that is asked, and says whether it then waits for a key. With `--stop-idle` it stops
 /// where it waits and no key comes.
-fn play_waiting<W: Write>(
-    rt: &(impl Files + Eprint + AllocGlobal),
+fn play_waiting<W: Write, E: StandardError>(
+    rt: &impl LockableFiles,
     outputs: Outputs,
     task: &ComTask<'_>,
     start: ProgramStart,
     script: Script<'_>,
     out: &mut W,
-    terminals: Terminals,
-) -> Result<(ProgramResult, bool), Refused> {
+    teller: &mut Teller<'_, E>,
+) -> Result<(ProgramResult, bool), CommandRefusal> {
     let cues = cues_of(rt.alloc(), script)?;
     let cued = CuedKeys {
         cues: cues.as_slice(),
         waits_from: 0,
         stops_idle: task.stops_idle,
     };
-    let typed = play_cued(rt, outputs, task, start, cued, out, terminals)?;
+    let typed = play_cued(rt, outputs, task, start, cued, out, teller)?;
     Ok((typed.ran, typed.waits))
 }
 
 /// Runs a program by what its script says, and records its keys if that is asked.
-fn play_cued<W: Write>(
-    rt: &(impl Files + Eprint + AllocGlobal),
+fn play_cued<W: Write, E: StandardError>(
+    rt: &impl LockableFiles,
     outputs: Outputs,
     task: &ComTask<'_>,
     start: ProgramStart,
     cued: CuedKeys<'_>,
     out: &mut W,
-    terminals: Terminals,
-) -> Result<LiveResult, Refused>
+    teller: &mut Teller<'_, E>,
+) -> Result<LiveResult, CommandRefusal>
     requires { AreFit cued.cues.now }
 {
     let mut record = record_in(rt, outputs, task.record)?;
     let steps = task.steps.unwrap_or(STEPS);
-    let mut teller = teller_of(rt, task, terminals);
-    let played = run_waiting(
-        rt.alloc(),
-        start,
-        steps,
-        cued,
-        out,
-        &mut record,
-        &mut teller,
-    );
+    let played = run_waiting(rt.alloc(), start, steps, cued, out, &mut record, teller);
     teller.end();
-    record.end(rt, played)
+    record.end(played)
 }
 
-/// Tells how far a program is, if that is asked.
-fn teller_of<'a, R: Eprint>(rt: &'a R, task: &ComTask<'_>, terminals: Terminals) -> Teller<'a, R> {
+/// Tells how far a program is, if that is asked. Where its text goes to the same terminal, both note whether what comes next begins a line.
+fn teller_of<'a, R: StandardError>(
+    rt: &'a R,
+    task: &ComTask<'_>,
+    terminals: Terminals,
+    is_at_line_start: &'a Cell<bool>,
+) -> Teller<'a, R> {
     let form = Form::of(task.has_progress, terminals.is_error_terminal);
-    Teller::new(rt, Audience::Program, form)
+    let teller = Teller::new(rt, Audience::Program, form);
+    if terminals.are_one() {
+        teller.beside(is_at_line_start)
+    } else {
+        teller
+    }
 }
 
 /// Runs a program by the keys of a script, and writes what it shows.
-fn play<W: Write>(
-    rt: &(impl Eprint + AllocGlobal),
+fn play<W: Write, E: StandardError>(
+    rt: &impl AllocGlobal,
     task: &ComTask<'_>,
     start: ProgramStart,
     script: Script<'_>,
     out: &mut W,
-    terminals: Terminals,
+    teller: &mut Teller<'_, E>,
 ) -> Result<ProgramResult, HostError> {
     let steps = task.steps.unwrap_or(STEPS);
-    let mut teller = teller_of(rt, task, terminals);
-    let ran = run_com(rt.alloc(), start, Some(script), steps, out, &mut teller);
+    let ran = run_com(rt.alloc(), start, Some(script), steps, out, teller);
     teller.end();
     ran
 }
 
 /// Runs a program by the keys of standard input, records them if that is asked, and says whether it then waits for a key.
 fn play_keyboard<W: Write>(
-    rt: &(impl Machine + Input + Eprint),
+    rt: &(impl LockableFiles + Input),
     outputs: Outputs,
     task: &ComTask<'_>,
     start: ProgramStart,
     out: &mut W,
-) -> Result<(ProgramResult, bool), Refused> {
+) -> Result<(ProgramResult, bool), CommandRefusal> {
     let mut record = record_in(rt, outputs, task.record)?;
     let most_keys = record.most_keys();
     tell_quit(rt);
     let played = play_live(rt, task, start, most_keys, out, &mut record);
-    let typed = record.end(rt, played)?;
+    let typed = record.end(played)?;
     tell_full(rt, typed.keys.len(), most_keys);
     Ok((typed.ran, typed.waits))
 }
@@ -229,28 +236,29 @@ fn play_live<W: Write, S: Write>(
 
 /// Writes the first drives to files, as many as these are, where those that were read are still what they were then.
 fn write_drives(
-    rt: &(impl Files + AllocGlobal),
+    rt: &impl LockableFiles,
     outputs: Outputs,
     held: &HeldFiles,
     outs: &[&str],
     drives: [Option<Image>; 4],
-) -> Result<(), Refused> {
+) -> Result<(), CommandRefusal> {
     held.check(rt)?;
+    let mut batch = Batch::new(rt, outputs);
     for (out, image) in outs.iter().zip(drives) {
         if let Some(image) = image {
-            write_held(rt, outputs, held, out, &image.into_bytes())?;
+            add_held(rt, &mut batch, held, out, &image.into_bytes())?;
         }
     }
-    Ok(())
+    batch.take_names(rt)
 }
 
 /// Prints how a program ended, the last line only where it isn't quiet. It ran and its text is out, even where nobody reads that.
-fn tell(rt: &impl Eprint, ending: Ending, waits: bool, is_quiet: bool) {
+fn tell(rt: &impl StandardError, ending: Ending, waits: bool, is_quiet: bool) {
     if let Some(illegal) = ending.illegal() {
-        let _ = eprintln!(rt; "{illegal}");
+        let _ = eprintln!(PatientError::new(rt); "{illegal}");
     }
     if !is_quiet {
         let word = waiting_word(waits);
-        let _ = eprintln!(rt; "{ending}{word}");
+        let _ = eprintln!(PatientError::new(rt); "{ending}{word}");
     }
 }

@@ -3,15 +3,16 @@
 ghost use Rattle.std.specs.Prelude.{◌≡◌, ◌<◌};
 ghost use Rattle.cpm_command_line.specs.DiskLine.{HasUser};
 
+use crate::batch::{Batch, Taking};
 use crate::files::{read_file, unwritable, write_held};
-use crate::get::{Getting, get};
-use crate::held::{Machine, hold};
+use crate::get::{GetOptions, get};
+use crate::held::{LockableFiles, hold};
 use crate::output::Outputs;
 use crate::patient::PatientOutput;
-use crate::refused::Refused;
+use crate::refused::CommandRefusal;
 use cpm_disk_commands::{
-    FilingError, base_name, check_new, file_name, image_of, list_files, matching_files, new_image,
-    put_file, remove_file, rename_file, split_pair, write_list,
+    DiskCommandError, base_name, check_new, file_name, image_of, list_files, matching_files,
+    new_image, put_file, remove_file, rename_file, split_pair, write_list,
 };
 use cpm_geom::Image;
 use cpm_host::{DiskTask, HostError, shown};
@@ -23,10 +24,10 @@ use std::{fs, io};
 
 /// Does what a command on disk images asks for.
 pub fn do_disk(
-    rt: &(impl Machine + Print),
+    rt: &impl LockableFiles,
     outputs: Outputs,
     task: &DiskTask<'_>,
-) -> Result<(), Refused>
+) -> Result<(), CommandRefusal>
     requires { HasUser task.now }
 {
     match task {
@@ -44,7 +45,11 @@ pub fn do_disk(
 }
 
 /// Puts files into an image, if the command asks for that.
-fn do_put(rt: &(impl Machine + Print), outputs: Outputs, task: &DiskTask<'_>) -> Result<(), Refused>
+fn do_put(
+    rt: &impl LockableFiles,
+    outputs: Outputs,
+    task: &DiskTask<'_>,
+) -> Result<(), CommandRefusal>
     requires { HasUser task.now }
 {
     let DiskTask::Put {
@@ -58,7 +63,7 @@ fn do_put(rt: &(impl Machine + Print), outputs: Outputs, task: &DiskTask<'_>) ->
     else {
         return Ok(());
     };
-    let how = Putting {
+    let how = PutOptions {
         is_text: *is_text,
         is_read_only: *is_read_only,
         is_system: *is_system,
@@ -67,7 +72,11 @@ fn do_put(rt: &(impl Machine + Print), outputs: Outputs, task: &DiskTask<'_>) ->
 }
 
 /// Takes files out of an image, if the command asks for that.
-fn do_get(rt: &(impl Machine + Print), outputs: Outputs, task: &DiskTask<'_>) -> Result<(), Refused>
+fn do_get(
+    rt: &impl LockableFiles,
+    outputs: Outputs,
+    task: &DiskTask<'_>,
+) -> Result<(), CommandRefusal>
     requires { HasUser task.now }
 {
     let DiskTask::Get {
@@ -82,7 +91,7 @@ fn do_get(rt: &(impl Machine + Print), outputs: Outputs, task: &DiskTask<'_>) ->
     else {
         return Ok(());
     };
-    let how = Getting {
+    let how = GetOptions {
         is_text: *is_text,
         to: *to,
         is_forced: *is_forced,
@@ -92,39 +101,40 @@ fn do_get(rt: &(impl Machine + Print), outputs: Outputs, task: &DiskTask<'_>) ->
 }
 
 /// The image in a file.
-pub fn read_image(rt: &(impl Files + AllocGlobal), name: &str) -> Result<Image, Refused> {
+pub fn read_image(rt: &(impl Files + AllocGlobal), name: &str) -> Result<Image, CommandRefusal> {
     let bytes = read_file(rt, name)?;
     Ok(image_of(name, bytes)?)
 }
 
 /// Writes a blank image to a file that isn't there yet.
 fn new(
-    rt: &(impl Files + AllocGlobal),
+    rt: &impl LockableFiles,
     outputs: Outputs,
     name: &str,
     is_large: bool,
-) -> Result<(), Refused> {
+) -> Result<(), CommandRefusal> {
     if fs::symlink_metadata(rt, name).is_ok() {
-        return Err(Refused::from(HostError::FileUnwritable {
+        return Err(CommandRefusal::from(HostError::FileUnwritable {
             name: shown(name),
             reason: io::Error::from(ErrorKind::AlreadyExists),
         }));
     }
     let image = new_image(rt.alloc(), is_large)?;
-    outputs
-        .write_new(rt, name, &image.into_bytes())
+    let mut batch = Batch::new(rt, outputs);
+    batch
+        .add(rt, name, Taking::New, &image.into_bytes())
         .map_err(|reason| unwritable(name, reason))?;
-    Ok(())
+    batch.take_names(rt)
 }
 
 /// Lists the files in an image.
-fn list(rt: &(impl Machine + Print), name: &str, user: Option<u8>) -> Result<(), Refused> {
+fn list(rt: &impl LockableFiles, name: &str, user: Option<u8>) -> Result<(), CommandRefusal> {
     let image = read_image(rt, name)?;
-    let shelf = list_files(rt.alloc(), &image, name)?;
+    let listing = list_files(rt.alloc(), &image, name)?;
     write_list(
         rt.alloc(),
         image.format(),
-        &shelf,
+        &listing,
         user,
         &mut PatientOutput::new(rt),
     )?;
@@ -133,7 +143,7 @@ fn list(rt: &(impl Machine + Print), name: &str, user: Option<u8>) -> Result<(),
 
 /// How files are put into an image.
 #[derive(Clone, Copy, Drop)]
-struct Putting {
+struct PutOptions {
     is_text: bool,
     is_read_only: bool,
     is_system: bool,
@@ -141,13 +151,13 @@ struct Putting {
 
 /// Puts files into an image, each FILE or FILE=NAME.TYP; all of them or none.
 fn put(
-    rt: &impl Machine,
+    rt: &impl LockableFiles,
     outputs: Outputs,
     name: &str,
     words: &[&str],
     user: u8,
-    how: Putting,
-) -> Result<(), Refused>
+    how: PutOptions,
+) -> Result<(), CommandRefusal>
     requires { user < 16 }
 {
     let held = hold(rt, &[name], &[name])?;
@@ -156,8 +166,7 @@ fn put(
     for word in words {
         image = put_word(rt, &image, name, &mut files, word, user, how)?;
     }
-    write_held(rt, outputs, &held, name, &image.into_bytes())?;
-    Ok(())
+    write_held(rt, outputs, &held, name, &image.into_bytes())
 }
 
 /// An image with one more file, which is none of those that were put before it.
@@ -168,8 +177,8 @@ fn put_word(
     files: &mut Vec<FileName>,
     word: &str,
     user: u8,
-    how: Putting,
-) -> Result<Image, Refused>
+    how: PutOptions,
+) -> Result<Image, CommandRefusal>
     requires { user < 16 }
 {
     let (path, inside) = split_pair(word).unwrap_or((word, base_name(word)));
@@ -188,7 +197,7 @@ fn put_path(
     file: &FileName,
     path: &str,
     is_text: bool,
-) -> Result<Image, Refused> {
+) -> Result<Image, CommandRefusal> {
     let bytes = read_file(rt, path)?;
     Ok(put_file(rt.alloc(), image, name, file, is_text, &bytes)?)
 }
@@ -200,13 +209,13 @@ pub fn files_named(
     name: &str,
     patterns: &[&str],
     user: u8,
-) -> Result<Vec<FileName>, Refused>
+) -> Result<Vec<FileName>, CommandRefusal>
     requires { user < 16 }
 {
-    let shelf = list_files(rt.alloc(), image, name)?;
+    let listing = list_files(rt.alloc(), image, name)?;
     let mut files: Vec<FileName> = Vec::new(rt.alloc());
     for pattern in patterns {
-        let matching = matching_files(rt.alloc(), &shelf.files, name, user, pattern)?;
+        let matching = matching_files(rt.alloc(), &listing.files, name, user, pattern)?;
         add_new(&mut files, &matching)?;
     }
     Ok(files)
@@ -224,12 +233,12 @@ fn add_new(files: &mut Vec<FileName>, others: &[FileName]) -> Result<(), AllocEr
 
 /// Removes files from an image; all of them or none.
 fn remove(
-    rt: &impl Machine,
+    rt: &impl LockableFiles,
     outputs: Outputs,
     name: &str,
     patterns: &[&str],
     user: u8,
-) -> Result<(), Refused>
+) -> Result<(), CommandRefusal>
     requires { user < 16 }
 {
     let held = hold(rt, &[name], &[name])?;
@@ -237,28 +246,26 @@ fn remove(
     for file in &files_named(rt, &image, name, patterns, user)? {
         image = remove_file(rt.alloc(), &image, name, file)?;
     }
-    write_held(rt, outputs, &held, name, &image.into_bytes())?;
-    Ok(())
+    write_held(rt, outputs, &held, name, &image.into_bytes())
 }
 
 /// Gives a file in an image another name, as NEW=OLD says.
 fn rename(
-    rt: &impl Machine,
+    rt: &impl LockableFiles,
     outputs: Outputs,
     name: &str,
     change: &str,
     user: u8,
-) -> Result<(), Refused>
+) -> Result<(), CommandRefusal>
     requires { user < 16 }
 {
     let Some((new, old)) = split_pair(change) else {
-        return Err(Refused::from(HostError::from(FilingError::NotPair(shown(change)))));
+        return Err(CommandRefusal::from(HostError::from(DiskCommandError::NotPair(shown(change)))));
     };
     let new = file_name(new, user, false, false)?;
     let old = file_name(old, user, false, false)?;
     let held = hold(rt, &[name], &[name])?;
     let image = read_image(rt, name)?;
     let image = rename_file(rt.alloc(), &image, name, &old, &new)?;
-    write_held(rt, outputs, &held, name, &image.into_bytes())?;
-    Ok(())
+    write_held(rt, outputs, &held, name, &image.into_bytes())
 }

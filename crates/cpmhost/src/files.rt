@@ -3,11 +3,12 @@ ghost use Rattle.std.specs.Prelude.{⊤, ◌≡◌, ◌≤◌, ◌⊎◌, None, 
 ghost use Rattle.cpm_host.specs.Refusals.{IsFileRefusal, IsOutRefusal};
 ghost use Rattle.cpm_store.specs.Files.{CountsFailure};
 
+use crate::batch::{Batch, Taking};
 use crate::guard::Guard;
-use crate::held::HeldFiles;
+use crate::held::{HeldFiles, LockableFiles};
 use crate::output::Outputs;
 use crate::place::script_paths;
-use crate::refused::{Behind, Refused};
+use crate::refused::{CommandRefusal, RefusalDetail};
 use crate::rehearsals::Rehearsals;
 use cpm_host::{
     Config, HostError, RunError, SessionConfig, ShownWord, Store, StoreError, read_whole, shown,
@@ -26,7 +27,7 @@ pub fn whole_file(rt: &impl Files, alloc: Global, name: &str) -> io::Result<Vec<
 }
 
 /// All bytes of a file. It fails where the file can't be read, or has more than 16,777,216 bytes, and
-/// for want of memory.
+/// if out of memory.
 pub fn read_file(rt: &(impl Files + AllocGlobal), name: &str) -> Result<Vec<u8>, HostError>
     ensures small { IfOk result (λ bytes. vec_len bytes ≤ 16777216) }
     ensures refusal { IfErr result IsFileRefusal }
@@ -34,41 +35,50 @@ pub fn read_file(rt: &(impl Files + AllocGlobal), name: &str) -> Result<Vec<u8>,
     whole_file(rt, rt.alloc(), name).map_err(|reason| unreadable(name, reason))
 }
 
-/// Makes a file hold these bytes, which replace all that it held; where it fails it is as it was.
-pub fn write_file(
-    rt: &(impl Files + AllocGlobal),
-    outputs: Outputs,
+/// Makes a file of these bytes in a batch: they replace all that the file of the name held.
+pub fn add_file(
+    rt: &impl LockableFiles,
+    batch: &mut Batch,
     name: &str,
     bytes: &[u8],
 ) -> Result<(), HostError>
     ensures refusal { IfErr result (λ e. IsOutRefusal e ⊎ (e ≡ HostError.OutOfMemory)) }
 {
-    outputs
-        .write(rt, name, bytes)
+    batch
+        .add(rt, name, Taking::Replacing(None), bytes)
         .map_err(|reason| unwritable(name, reason))
 }
 
-/// Makes a file hold these bytes, as `write_file` does. Where it is held, it must still be what it was when it was read.
-pub fn write_held(
-    rt: &(impl Files + AllocGlobal),
-    outputs: Outputs,
+/// Makes a file of these bytes in a batch, as `add_file` does. Where the file of the name is held, it must still be what it was when it was read.
+pub fn add_held(
+    rt: &impl LockableFiles,
+    batch: &mut Batch,
     held: &HeldFiles,
     name: &str,
     bytes: &[u8],
 ) -> Result<(), HostError>
     ensures refusal { IfErr result (λ e. IsOutRefusal e ⊎ (e ≡ HostError.OutOfMemory)) }
 {
-    outputs
-        .replace(rt, name, held.mark_of(name), bytes)
+    batch
+        .add(rt, name, Taking::Replacing(held.mark_of(name)), bytes)
         .map_err(|reason| unwritable(name, reason))
 }
 
-/// Fails where a file of this name can't be written.
-pub fn check_file(
-    rt: &(impl Files + AllocGlobal),
+/// Makes the image of a file that is held hold these bytes, which replace all that it held. It must still be what it was when it was read.
+pub fn write_held(
+    rt: &impl LockableFiles,
     outputs: Outputs,
+    held: &HeldFiles,
     name: &str,
-) -> Result<(), HostError>
+    bytes: &[u8],
+) -> Result<(), CommandRefusal> {
+    let mut batch = Batch::new(rt, outputs);
+    add_held(rt, &mut batch, held, name, bytes)?;
+    batch.take_names(rt)
+}
+
+/// Fails where a file of this name can't be written.
+pub fn check_file(rt: &impl LockableFiles, outputs: Outputs, name: &str) -> Result<(), HostError>
     ensures refusal { IfErr result (λ e. IsOutRefusal e ⊎ (e ≡ HostError.OutOfMemory)) }
 {
     outputs
@@ -79,7 +89,7 @@ pub fn check_file(
 /// Fails where one of the files that a run is to write can't be written, before it reads anything: the first of them, in the order in
 /// which they are written.
 pub fn check_outputs(
-    rt: &(impl Files + AllocGlobal),
+    rt: &impl LockableFiles,
     outputs: Outputs,
     config: &Config,
 ) -> Result<(), HostError>
@@ -93,7 +103,7 @@ pub fn check_outputs(
 
 /// Fails where one of the files that a session is to write can't be written.
 fn check_session(
-    rt: &(impl Files + AllocGlobal),
+    rt: &impl LockableFiles,
     outputs: Outputs,
     session: &SessionConfig,
 ) -> Result<(), HostError>
@@ -110,11 +120,7 @@ fn check_session(
 }
 
 /// Fails where one of the files of these names can't be written.
-fn check_files(
-    rt: &(impl Files + AllocGlobal),
-    outputs: Outputs,
-    names: &[String],
-) -> Result<(), HostError>
+fn check_files(rt: &impl LockableFiles, outputs: Outputs, names: &[String]) -> Result<(), HostError>
     ensures refusal { IfErr result (λ e. IsOutRefusal e ⊎ (e ≡ HostError.OutOfMemory)) }
 {
     for name in names {
@@ -125,7 +131,7 @@ fn check_files(
 
 /// Fails where one of the scripts that a run is to write to a folder can't be written.
 pub fn check_scripts(
-    rt: &(impl Files + AllocGlobal),
+    rt: &impl LockableFiles,
     outputs: Outputs,
     config: &Config,
     folder: Option<&str>,
@@ -143,19 +149,19 @@ pub fn check_scripts(
     check_files(rt, outputs, &scripts)
 }
 
-/// Writes for each session a script by which it does the same, if that is asked: that by which it was played by itself, or else its own.
-pub fn write_scripts(
-    rt: &(impl Files + AllocGlobal),
-    outputs: Outputs,
+/// Makes in a batch for each session a script by which it does the same, if that is asked: that by which it was played by itself, or else its own.
+pub fn add_scripts(
+    rt: &impl LockableFiles,
+    batch: &mut Batch,
     config: &Config,
     rehearsals: &Rehearsals,
     folder: Option<&str>,
 ) -> Result<(), HostError> {
     let scripts = script_paths(rt.alloc(), config, folder)?;
     for (place, (session, script)) in config.sessions.iter().zip(&scripts).enumerate() {
-        write_script(
+        add_script(
             rt,
-            outputs,
+            batch,
             rehearsals.script_at(place),
             session,
             script.as_str(),
@@ -164,21 +170,21 @@ pub fn write_scripts(
     Ok(())
 }
 
-/// Writes to a file the script by which a session was played by itself, or else its own.
-fn write_script(
-    rt: &(impl Files + AllocGlobal),
-    outputs: Outputs,
+/// Makes in a batch a file of the script by which a session was played by itself, or else its own.
+fn add_script(
+    rt: &impl LockableFiles,
+    batch: &mut Batch,
     rehearsed: Option<&[u8]>,
     session: &SessionConfig,
     to: &str,
 ) -> Result<(), HostError> {
     match (rehearsed, &session.keys) {
-        (Some(text), _) => write_file(rt, outputs, to, text),
+        (Some(text), _) => add_file(rt, batch, to, text),
         (None, Some(name)) => {
             let text = read_file(rt, name.as_str())?;
-            write_file(rt, outputs, to, text.as_slice())
+            add_file(rt, batch, to, text.as_slice())
         }
-        (None, None) => write_file(rt, outputs, to, &[]),
+        (None, None) => add_file(rt, batch, to, &[]),
     }
 }
 
@@ -217,11 +223,12 @@ pub fn copied(alloc: Global, bytes: &[u8]) -> Result<Vec<u8>, AllocError> {
     Ok(copy)
 }
 
-/// The files of the machine as a store. It doesn't tell what they hold, since others can write them.
+/// The files of the machine as a store. It doesn't tell what they hold, since others can write them. What is written has its name once the batch of it has
+/// taken its names.
 #[derive(Drop)]
-pub struct MachineFiles<'a, R: Files + AllocGlobal> {
+pub struct MachineFiles<'a, R: LockableFiles> {
     rt: &'a R,
-    outputs: Outputs,
+    batch: Batch,
     /// The scripts of the sessions that were played by themselves.
     rehearsals: &'a Rehearsals,
     guard: Guard<'a>,
@@ -233,7 +240,7 @@ pub struct MachineFiles<'a, R: Files + AllocGlobal> {
     changed: Option<ShownWord>,
 }
 
-impl<'a, R: Files + AllocGlobal> MachineFiles<'a, R> {
+impl<'a, R: LockableFiles> MachineFiles<'a, R> {
     /// The files, of which no call has failed yet, and the scripts of the sessions that were played by themselves.
     pub fn new(
         rt: &'a R,
@@ -245,7 +252,7 @@ impl<'a, R: Files + AllocGlobal> MachineFiles<'a, R> {
     {
         MachineFiles {
             rt,
-            outputs,
+            batch: Batch::new(rt, outputs),
             rehearsals,
             guard,
             has_written: false,
@@ -255,17 +262,22 @@ impl<'a, R: Files + AllocGlobal> MachineFiles<'a, R> {
         }
     }
 
+    /// What was written.
+    pub fn into_batch(self) -> Batch {
+        self.batch
+    }
+
     /// The refusal of a run that the last call ended, and why that failed, if it did.
-    pub fn refused(&self, error: RunError) -> Refused {
+    pub fn refused(&self, error: RunError) -> CommandRefusal {
         let error = match (error, self.changed) {
             (RunError::WriteFault(_), Some(name)) => RunError::WriteFault(name),
             (error, _) => error,
         };
-        Refused {
+        CommandRefusal {
             error: HostError::from(error),
             behind: match self.reason {
-                Some(reason) => Behind::Reason(reason),
-                None => Behind::Nothing,
+                Some(reason) => RefusalDetail::Reason(reason),
+                None => RefusalDetail::Nothing,
             },
         }
     }
@@ -281,10 +293,10 @@ impl<'a, R: Files + AllocGlobal> MachineFiles<'a, R> {
                 return Err(reason);
             }
         }
-        self.guard.write(self.rt, self.outputs, name, bytes)
+        self.guard.write(self.rt, &mut self.batch, name, bytes)
     }
 
-    /// What a call answers that failed so, which is counted but for want of memory.
+    /// What a call answers that failed so. That is counted unless it is out of memory.
     fn fault(&mut self, reason: io::Error) -> StoreError
         ensures device { result ≡ StoreError.Device → CountsFailure self.old.failures self.new.failures }
         ensures memory { result ≡ StoreError.OutOfMemory → self.new.failures ≡ self.old.failures }
@@ -299,7 +311,7 @@ impl<'a, R: Files + AllocGlobal> MachineFiles<'a, R> {
     }
 }
 
-impl<R: Files + AllocGlobal> Store for MachineFiles<'_, R> {
+impl<R: LockableFiles> Store for MachineFiles<'_, R> {
     ghost files = { λ _. None };
 
     ghost failed = { λ s. s.failures };

@@ -2,26 +2,27 @@
 
 ghost use Rattle.std.specs.Prelude.{◌<◌};
 
+use crate::batch::{Batch, Taking};
 use crate::disk::{files_named, read_image};
 use crate::files::{check_file, unwritable};
-use crate::held::Machine;
+use crate::held::LockableFiles;
 use crate::output::{Outputs, is_open_already, target_of};
 use crate::patient::PatientOutput;
 use crate::place::check_taken;
-use crate::refused::{Behind, Refused};
+use crate::refused::{CommandRefusal, PathLine, RefusalDetail};
 use cpm_disk_commands::{get_file, host_name};
 use cpm_geom::Image;
 use cpm_host::{HostError, RunError, shown};
 use cpm_image_files::FileName;
 use std::alloc::AllocError;
+use std::fs;
 use std::io::{ErrorKind, Write};
 use std::path::Path;
-use std::rt::{Clock, Files};
-use std::{fmt, fs};
+use std::rt::Files;
 
 /// How files are taken out of an image.
 #[derive(Clone, Copy, Drop)]
-pub struct Getting<'a> {
+pub struct GetOptions<'a> {
     pub is_text: bool,
     /// The folder that they go to, or the file that the one goes to.
     pub to: Option<&'a str>,
@@ -41,13 +42,13 @@ pub struct Extraction {
 /// Takes files out of an image: into a folder, by their names in small letters, or the one file to a file. Nothing is written before all
 /// of them were read and each of them can be written.
 pub fn get(
-    rt: &(impl Machine + Print),
+    rt: &impl LockableFiles,
     outputs: Outputs,
     name: &str,
     patterns: &[&str],
     user: u8,
-    how: Getting<'_>,
-) -> Result<(), Refused>
+    how: GetOptions<'_>,
+) -> Result<(), CommandRefusal>
     requires { user < 16 }
 {
     let image = read_image(rt, name)?;
@@ -68,11 +69,11 @@ fn take_all(
     image: &Image,
     name: &str,
     files: &[FileName],
-    how: Getting<'_>,
-) -> Result<Vec<Extraction>, Refused> {
+    how: GetOptions<'_>,
+) -> Result<Vec<Extraction>, CommandRefusal> {
     let is_to_file = how.to.is_some_and(|path| !Path::new(path).is_dir(rt));
     if is_to_file && files.len() > 1 {
-        return Err(Refused::from(HostError::NotAFolder(shown(how.to.unwrap_or("")))));
+        return Err(CommandRefusal::from(HostError::NotAFolder(shown(how.to.unwrap_or("")))));
     }
     let mut all = Vec::new(rt.alloc());
     for file in files {
@@ -85,17 +86,17 @@ fn take_all(
 
 /// Refuses files of which one can't be written, or is there and is not to be replaced.
 fn check_all(
-    rt: &(impl Files + AllocGlobal),
+    rt: &impl LockableFiles,
     outputs: Outputs,
     all: &[Extraction],
     is_forced: bool,
-) -> Result<(), Refused> {
+) -> Result<(), CommandRefusal> {
     for taken in all {
         let path = taken.path.as_str();
         if !is_forced && is_there(rt, path)? {
-            return Err(Refused {
+            return Err(CommandRefusal {
                 error: HostError::from(RunError::WriteFault(shown(path))),
-                behind: Behind::Present,
+                behind: RefusalDetail::Present,
             });
         }
         check_file(rt, outputs, path)?;
@@ -119,23 +120,8 @@ fn is_there(rt: &(impl Files + AllocGlobal), path: &str) -> Result<bool, AllocEr
     }
 }
 
-/// A path as it stands on a line: `?` for what a refusal doesn't show either.
-#[derive(Drop)]
-struct PathLine<'a>(&'a str);
-
-impl fmt::Display for PathLine<'_> {
-    fn fmt<W: fmt::Write>(&self, f: &mut fmt::Formatter<W>) -> fmt::Result {
-        for c in self.0.chars() {
-            let mut room = [0; 4];
-            let character = shown(c.encode_utf8(&mut room));
-            write!(f, "{character}")?;
-        }
-        Ok(())
-    }
-}
-
 /// Prints the paths to which files would be written.
-fn tell_all(rt: &(impl Print + Clock), all: &[Extraction]) -> Result<(), Refused> {
+fn tell_all(rt: &impl LockableFiles, all: &[Extraction]) -> Result<(), CommandRefusal> {
     for taken in all {
         let line = PathLine(taken.path.as_str());
         writeln!(PatientOutput::new(rt), "{line}").map_err(HostError::OutputUnwritable)?;
@@ -146,21 +132,24 @@ fn tell_all(rt: &(impl Print + Clock), all: &[Extraction]) -> Result<(), Refused
 /// Writes files that were taken out of an image, which nobody can execute then: they are programs of another machine. Only if that is forced they replace what
 /// is there by then.
 fn write_all(
-    rt: &(impl Files + AllocGlobal),
+    rt: &impl LockableFiles,
     outputs: Outputs,
     all: &[Extraction],
     is_forced: bool,
-) -> Result<(), Refused> {
+) -> Result<(), CommandRefusal> {
+    let taking = if is_forced {
+        Taking::ReplacingPlain
+    } else {
+        Taking::New
+    };
+    let mut batch = Batch::new(rt, outputs);
     for taken in all {
         let path = taken.path.as_str();
-        let written = if is_forced {
-            outputs.write_plain(rt, path, &taken.bytes)
-        } else {
-            outputs.write_new(rt, path, &taken.bytes)
-        };
-        written.map_err(|reason| unwritable(path, reason))?;
+        batch
+            .add(rt, path, taking, &taken.bytes)
+            .map_err(|reason| unwritable(path, reason))?;
     }
-    Ok(())
+    batch.take_names(rt)
 }
 
 /// Where a file goes that is taken out of an image: to the file of this path, or by its own name into the folder.
@@ -170,7 +159,7 @@ fn path_of(
     file: &FileName,
     to: Option<&str>,
     is_to_file: bool,
-) -> Result<String, Refused> {
+) -> Result<String, CommandRefusal> {
     match to {
         Some(path) if is_to_file => Ok(String::from_str(rt.alloc(), path)?),
         folder => {

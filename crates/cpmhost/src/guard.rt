@@ -2,10 +2,10 @@
 
 ghost use Rattle.std.specs.Prelude.{◌≤◌, IfOk, vec_len};
 
+use crate::batch::{Batch, Taking};
 use crate::bounds::Bounds;
 use crate::files::whole_file;
-use crate::held::HeldFiles;
-use crate::output::Outputs;
+use crate::held::{HeldFiles, LockableFiles};
 use crate::screen::{is_own_terminal, write_shown};
 use std::alloc::Global;
 use std::io;
@@ -35,11 +35,11 @@ impl Guard<'_> {
         whole_file(rt, alloc, name)
     }
 
-    /// Makes a file hold these bytes, which is looked at once more. The terminal gets control bytes as text, if that is asked.
+    /// Makes a file of these bytes in a batch, whose name is looked at once more. The terminal gets control bytes as text, if that is asked.
     pub fn write(
         self,
-        rt: &(impl Files + AllocGlobal),
-        outputs: Outputs,
+        rt: &impl LockableFiles,
+        batch: &mut Batch,
         name: &str,
         bytes: &[u8],
     ) -> io::Result<()> {
@@ -47,6 +47,6 @@ impl Guard<'_> {
         if self.shows_controls && is_own_terminal(rt, name) {
             return write_shown(rt, name, bytes);
         }
-        outputs.replace(rt, name, self.held.mark_of(name), bytes)
+        batch.add(rt, name, Taking::Replacing(self.held.mark_of(name)), bytes)
     }
 }

@@ -3,7 +3,8 @@
 
 use crate::files::unreadable;
 use crate::output::{is_open_already, target_of};
-use crate::refused::Refused;
+use crate::patient::StandardError;
+use crate::refused::CommandRefusal;
 use cpm_host::{Config, HostError, Origin, ShownWord, shown};
 use std::alloc::AllocError;
 use std::fs::{File, Metadata, OpenOptions, TryLockError};
@@ -19,10 +20,10 @@ const MOST_PAUSES: u32 = 1000;
 
 const PAUSE: u64 = 10;
 
-/// What a command needs of the machine: files that can be held, a clock to wait by, and memory.
-pub trait Machine: Files<File = File> + Clock + AllocGlobal {}
+/// What holding files asks of the system: files that can be locked, a clock to wait by, standard output and error, and memory.
+pub trait LockableFiles: Files<File = File> + Clock + Print + StandardError + AllocGlobal {}
 
-impl Machine for HostRuntime {}
+impl LockableFiles for HostRuntime {}
 
 /// What a file was when it was read: which file, how long, and when it was changed last.
 #[derive(Clone, Copy, Debug, PartialEq, Eq, Drop)]
@@ -60,7 +61,7 @@ impl Mark {
 
 /// A file that is held.
 #[derive(Drop)]
-struct Held {
+struct HeldFile {
     /// The name by which it is written.
     name: String,
     mark: Mark,
@@ -71,7 +72,7 @@ struct Held {
 /// The files that a command holds. They are let go when this is dropped.
 #[derive(Drop)]
 pub struct HeldFiles {
-    all: Vec<Held>,
+    all: Vec<HeldFile>,
 }
 
 impl HeldFiles {
@@ -112,23 +113,27 @@ fn check_name(rt: &(impl Files + AllocGlobal), name: &str, mark: Mark) -> io::Re
 
 /// A file that is read and written, by its numbers, and by its place among the names that are written.
 #[derive(Clone, Copy, Debug, PartialEq, Eq, PartialOrd, Ord, Drop)]
-struct Both {
+struct RewrittenFile {
     device: u64,
     node: u64,
     place: usize,
 }
 
-/// What came of an attempt to hold files.
+/// The outcome of an attempt to hold files.
 #[derive(Drop)]
 enum Attempt {
-    Held(Vec<Held>),
+    Held(Vec<HeldFile>),
     /// Another command holds the file of this name.
     Busy(ShownWord),
 }
 
 /// Holds those of the files that are written that are also read, and waits for them where others hold them. It holds all or none of them, so that no two
 /// commands wait for each other.
-pub fn hold(rt: &impl Machine, reads: &[&str], outs: &[&str]) -> Result<HeldFiles, Refused> {
+pub fn hold(
+    rt: &impl LockableFiles,
+    reads: &[&str],
+    outs: &[&str],
+) -> Result<HeldFiles, CommandRefusal> {
     let mut attempt = try_hold(rt, reads, outs)?;
     for _pause in 0..MOST_PAUSES {
         if let Attempt::Held(_) = &attempt {
@@ -139,7 +144,7 @@ pub fn hold(rt: &impl Machine, reads: &[&str], outs: &[&str]) -> Result<HeldFile
     }
     match attempt {
         Attempt::Held(all) => Ok(HeldFiles { all }),
-        Attempt::Busy(name) => Err(Refused::from(HostError::FileUnwritable {
+        Attempt::Busy(name) => Err(CommandRefusal::from(HostError::FileUnwritable {
             name,
             reason: io::Error::new(
                 ErrorKind::ResourceBusy,
@@ -150,7 +155,7 @@ pub fn hold(rt: &impl Machine, reads: &[&str], outs: &[&str]) -> Result<HeldFile
 }
 
 /// Holds the images that a run of a configuration reads and writes.
-pub fn hold_images(rt: &impl Machine, config: &Config) -> Result<HeldFiles, Refused> {
+pub fn hold_images(rt: &impl LockableFiles, config: &Config) -> Result<HeldFiles, CommandRefusal> {
     let mut reads = Vec::new(rt.alloc());
     let mut outs = Vec::new(rt.alloc());
     reads.push(config.system.as_str())?;
@@ -174,7 +179,11 @@ fn add_names<'a>(all: &mut Vec<&'a str>, names: &'a [String]) -> Result<(), Allo
 }
 
 /// Holds all of the files that are read and written, or none where another command holds one of them.
-fn try_hold(rt: &impl Machine, reads: &[&str], outs: &[&str]) -> Result<Attempt, Refused> {
+fn try_hold(
+    rt: &impl LockableFiles,
+    reads: &[&str],
+    outs: &[&str],
+) -> Result<Attempt, CommandRefusal> {
     let mut all = Vec::new(rt.alloc());
     for both in &both_of(rt, reads, outs)? {
         let Some(name) = outs.get(both.place) else {
@@ -193,20 +202,20 @@ fn both_of(
     rt: &(impl Files + AllocGlobal),
     reads: &[&str],
     outs: &[&str],
-) -> Result<Vec<Both>, AllocError> {
+) -> Result<Vec<RewrittenFile>, AllocError> {
     let mut inputs: Vec<Spot> = Vec::new(rt.alloc());
     for name in reads {
         if let Some(spot) = spot_of(rt, name)? {
             inputs.push(spot)?;
         }
     }
-    let mut all: Vec<Both> = Vec::new(rt.alloc());
+    let mut all: Vec<RewrittenFile> = Vec::new(rt.alloc());
     for (place, name) in outs.iter().enumerate() {
         if let Some(spot) = spot_of(rt, name)?
             && inputs.iter().any(|input| input.is_one_with(&spot))
         {
             let Spot { device, node, .. } = spot;
-            all.push(Both {
+            all.push(RewrittenFile {
                 device,
                 node,
                 place,
@@ -265,22 +274,22 @@ fn spot_at(rt: &(impl Files + AllocGlobal), name: &str) -> io::Result<Option<Spo
 }
 
 /// The file of a name, held; none where another command holds it, or has just replaced it.
-fn held_at(rt: &impl Machine, name: &str) -> Result<Option<Held>, Refused> {
+fn held_at(rt: &impl LockableFiles, name: &str) -> Result<Option<HeldFile>, CommandRefusal> {
     match locked(rt, name) {
-        Ok(Some((mark, lock))) => Ok(Some(Held {
+        Ok(Some((mark, lock))) => Ok(Some(HeldFile {
             name: String::from_str(rt.alloc(), name)?,
             mark,
             lock,
         })),
         Ok(None) => Ok(None),
         Err(error) if error.kind() == ErrorKind::NotFound => Ok(None),
-        Err(error) => Err(Refused::from(unreadable(name, error))),
+        Err(error) => Err(CommandRefusal::from(unreadable(name, error))),
     }
 }
 
 /// The file of a name, locked where the system can lock it, and what it is. None where another command has the lock, or where the name is of another file by
 /// now, since a command has replaced this one.
-fn locked(rt: &impl Machine, name: &str) -> io::Result<Option<(Mark, File)>> {
+fn locked(rt: &impl LockableFiles, name: &str) -> io::Result<Option<(Mark, File)>> {
     let target = target_of(rt, name)?;
     let file = opened(rt, target.as_path())?;
     if let Err(TryLockError::WouldBlock) = file.try_lock() {
@@ -296,7 +305,7 @@ fn locked(rt: &impl Machine, name: &str) -> io::Result<Option<(Mark, File)>> {
 }
 
 /// The file of a path, opened for writing too where that may be: some file systems lock no other.
-fn opened(rt: &impl Machine, path: Path<'_>) -> io::Result<File> {
+fn opened(rt: &impl LockableFiles, path: Path<'_>) -> io::Result<File> {
     match OpenOptions::new().read(true).write(true).open(rt, path) {
         Ok(file) => Ok(file),
         Err(_) => fs::open(rt, path),

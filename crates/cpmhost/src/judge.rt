@@ -2,8 +2,9 @@
 
 use crate::files::{MachineFiles, read_file};
 use crate::guard::Guard;
+use crate::held::LockableFiles;
 use crate::output::Outputs;
-use crate::refused::Refused;
+use crate::refused::CommandRefusal;
 use crate::rehearsals::Rehearsals;
 use crate::rehearse::{place_of, waits_in};
 use cpm_host::{
@@ -15,12 +16,12 @@ use std::rt::Files;
 /// Refuses a configuration that would be refused once the session of this name was typed at: all is read and judged but what is typed, and whether there are
 /// frames for all sessions, forked ones too.
 pub fn judge(
-    rt: &(impl Files + AllocGlobal),
+    rt: &impl LockableFiles,
     outputs: Outputs,
     config: &mut Config,
     name: &str,
     guard: Guard<'_>,
-) -> Result<(), Refused> {
+) -> Result<(), CommandRefusal> {
     let aside = set_aside(rt, config, name)?;
     let rehearsals = Rehearsals::new(rt);
     let mut files = MachineFiles::new(rt, outputs, &rehearsals, guard);
@@ -65,12 +66,16 @@ fn quotas_of(config: &Config) -> u128 {
     quotas
 }
 
-/// Refuses a configuration that has too few frames for all sessions, by the first that is forked and finds none: all that are opened have theirs before.
-fn check_frames(config: &Config) -> Result<(), HostError> {
+/// Refuses a configuration that has too few frames for all sessions, by the first that is forked and finds none: all that are opened have theirs before. Where
+/// these find too few themselves, that is for the run to say.
+pub fn check_frames(config: &Config) -> Result<(), HostError> {
     let quotas = quotas_of(config);
     let mut wanted: u128 = 0;
     for session in &config.sessions {
         wanted = wanted.saturating_add(u128::from(own_quota(session)));
+    }
+    if wanted > u128::from(config.frames) {
+        return Ok(());
     }
     for session in &config.sessions {
         let quota = forked_quota(config, session);
@@ -91,7 +96,7 @@ fn set_aside(
     rt: &(impl Files + AllocGlobal),
     config: &mut Config,
     name: &str,
-) -> Result<Vec<Option<String>>, Refused> {
+) -> Result<Vec<Option<String>>, CommandRefusal> {
     let mut aside: Vec<Option<String>> = Vec::new(rt.alloc());
     for session in config.sessions.iter_mut() {
         let is_aside = session.name.as_str() == name || judge_waiting(rt, session)?;
@@ -104,7 +109,7 @@ fn set_aside(
 fn judge_waiting(
     rt: &(impl Files + AllocGlobal),
     session: &SessionConfig,
-) -> Result<bool, Refused> {
+) -> Result<bool, CommandRefusal> {
     let Some(keys) = &session.keys else {
         return Ok(false);
     };

@@ -5,6 +5,9 @@ ghost use Rattle.std.specs.Prelude.{IfErr};
 ghost use Rattle.cpm_command_line.specs.Line.{HasUsers};
 ghost use Rattle.cpm_host.specs.Refusals.{IsWordRefusal};
 
+mod asm;
+mod batch;
+mod beside;
 mod bounds;
 mod com;
 mod disk;
@@ -22,27 +25,28 @@ mod refused;
 mod rehearsals;
 mod rehearse;
 mod screen;
+mod stream;
 mod typing;
 
-use bounds::check_bounds;
+use asm::asm;
+use batch::Batch;
+use bounds::{Bounds, check_bounds};
 use com::com;
 use cpm_flags::Cpu;
 use cpm_host::{
-    Config, HostError, RunTask, SessionReport, Task, VERSION, asks_version, command, help, run_asm,
-    run_asm_listed, run_check, run_debug, run_host, run_list,
+    Config, HostError, Report, RunTask, SessionReport, Task, VERSION, asks_version, command,
+    page_text, run_check, run_debug, run_host, run_list,
 };
 use disk::do_disk;
-use files::{
-    MachineFiles, check_file, check_outputs, check_scripts, read_file, write_file, write_scripts,
-};
+use files::{MachineFiles, add_scripts, check_outputs, check_scripts, read_file};
 use guard::Guard;
-use held::{Machine, hold_images};
-use judge::judge;
+use held::{LockableFiles, hold_images};
+use judge::{check_frames, judge};
 use output::Outputs;
-use patient::{PatientInput, PatientOutput};
-use place::{check_apart, check_asm};
+use patient::{PatientError, PatientInput, PatientOutput, StandardError};
+use place::check_apart;
 use progress::{Audience, Form, Teller};
-use refused::{Behind, Refused};
+use refused::{CommandRefusal, RefusalDetail};
 use rehearsals::Rehearsals;
 use rehearse::rehearse_all;
 use screen::Screen;
@@ -72,11 +76,11 @@ fn arguments(rt: &(impl Env + AllocGlobal)) -> Result<Vec<String>, HostError>
 
 /// Runs the sessions of the configuration in a file, one of them by the keys of standard input if that is asked.
 fn run_sessions(
-    rt: &(impl Machine + Input + Print + Eprint),
+    rt: &(impl LockableFiles + Input),
     outputs: Outputs,
     task: &RunTask<'_>,
     terminals: Terminals,
-) -> Result<(), Refused> {
+) -> Result<(), CommandRefusal> {
     let mut config = read_config(rt, task.config)?;
     let mut rehearsals = Rehearsals::new(rt);
     run_config(rt, outputs, &mut config, &mut rehearsals, task, terminals)
@@ -90,13 +94,13 @@ fn read_config(rt: &(impl Files + AllocGlobal), file: &str) -> Result<Config, Ho
 
 /// Runs the sessions of a configuration, of which none was played yet.
 fn run_config(
-    rt: &(impl Machine + Input + Print + Eprint),
+    rt: &(impl LockableFiles + Input),
     outputs: Outputs,
     config: &mut Config,
     rehearsals: &mut Rehearsals,
     task: &RunTask<'_>,
     terminals: Terminals,
-) -> Result<(), Refused> {
+) -> Result<(), CommandRefusal> {
     let bounds = check_bounds(rt, config, task)?;
     check_outputs(rt, outputs, config)?;
     check_scripts(rt, outputs, config, task.scripts)?;
@@ -109,47 +113,56 @@ fn run_config(
     };
     if let Some(name) = task.keyboard {
         judge(rt, outputs, config, name, guard)?;
-        type_in(
-            rt,
-            outputs,
-            config,
-            rehearsals,
-            name,
-            task.record,
-            task.stops_idle,
-            guard.shows_controls,
-        )?;
+        type_in(rt, outputs, config, rehearsals, name, task, terminals)?;
     }
+    check_frames(config)?;
     let form = Form::of(task.has_progress, terminals.is_error_terminal);
     rehearse_all(rt, config, rehearsals, task.stops_idle, form)?;
-    play_sessions(rt, outputs, config, rehearsals, form, guard)?;
-    bounds.check_scripts(rt, config, task.scripts)?;
-    write_scripts(rt, outputs, config, rehearsals, task.scripts)?;
-    Ok(())
+    let (report, mut batch) = play_sessions(rt, outputs, config, rehearsals, form, guard)?;
+    if let Err(refused) = make_scripts(rt, &mut batch, config, rehearsals, task, &bounds) {
+        batch.remove(rt);
+        return Err(refused);
+    }
+    batch.take_names(rt)?;
+    Ok(print_report(rt, rehearsals, &report)?)
 }
 
-/// Runs the sessions of a configuration, and prints how each ended, and the bytes at which one ended that are no instruction.
+/// Runs the sessions of a configuration, and gives how each ended, and the files that they write.
 fn play_sessions(
-    rt: &(impl Machine + Print + Eprint),
+    rt: &impl LockableFiles,
     outputs: Outputs,
     config: &Config,
     rehearsals: &Rehearsals,
     form: Form,
     guard: Guard<'_>,
-) -> Result<(), Refused> {
+) -> Result<(Report, Batch), CommandRefusal> {
     let mut files = MachineFiles::new(rt, outputs, rehearsals, guard);
     let mut teller = Teller::new(rt, Audience::Sessions(config), form);
     let ran = run_host(rt.alloc(), config, &mut files, &mut teller);
     teller.end();
     match ran {
-        Ok(report) => Ok(print_report(rt, rehearsals, &report)?),
+        Ok(report) => Ok((report, files.into_batch())),
         Err(error) => Err(files.refused(error)),
     }
 }
 
-/// Prints how each session ended.
+/// Makes the scripts of a run that are asked for, whose names are looked at once more.
+fn make_scripts(
+    rt: &impl LockableFiles,
+    batch: &mut Batch,
+    config: &Config,
+    rehearsals: &Rehearsals,
+    task: &RunTask<'_>,
+    bounds: &Bounds,
+) -> Result<(), CommandRefusal> {
+    bounds.check_scripts(rt, config, task.scripts)?;
+    add_scripts(rt, batch, config, rehearsals, task.scripts)?;
+    Ok(())
+}
+
+/// Prints how each session ended, and the bytes at which one ended that are no instruction.
 fn print_report(
-    rt: &(impl Print + Eprint + Clock + AllocGlobal),
+    rt: &impl LockableFiles,
     rehearsals: &Rehearsals,
     report: &[SessionReport],
 ) -> Result<(), HostError> {
@@ -165,7 +178,7 @@ fn print_report(
 
 /// Prints how a session ended, with a last word, on one line at a time.
 fn print_session<W: Write>(
-    rt: &impl Eprint,
+    rt: &impl StandardError,
     out: &mut W,
     session: &SessionReport,
     word: &str,
@@ -174,7 +187,7 @@ fn print_session<W: Write>(
     out.flush().map_err(HostError::OutputUnwritable)?;
     if let Some(illegal) = session.illegal() {
         let name = session.name.as_str();
-        let _ = eprintln!(rt; "{name} {illegal}");
+        let _ = eprintln!(PatientError::new(rt); "{name} {illegal}");
     }
     Ok(())
 }
@@ -184,50 +197,8 @@ pub fn waiting_word(waits: bool) -> &'static str {
     if waits { " waiting" } else { "" }
 }
 
-/// Assembles the source in a file, and writes its image to another, and a listing if that is asked.
-fn asm(
-    rt: &(impl Files + AllocGlobal),
-    outputs: Outputs,
-    source: &str,
-    out: &str,
-    list: Option<&str>,
-) -> Result<(), Refused> {
-    let text = read_file(rt, source)?;
-    check_asm(rt, source, out, list)?;
-    match list {
-        Some(list) => asm_listed(rt, outputs, text.as_slice(), out, list)?,
-        None => asm_alone(rt, outputs, text.as_slice(), out)?,
-    }
-    Ok(())
-}
-
-/// Assembles a source, and writes its image to a file.
-fn asm_alone(
-    rt: &(impl Files + AllocGlobal),
-    outputs: Outputs,
-    text: &[u8],
-    out: &str,
-) -> Result<(), HostError> {
-    let image = run_asm(rt.alloc(), text)?;
-    write_file(rt, outputs, out, image.as_slice())
-}
-
-/// Assembles a source, and writes its image and its listing to files.
-fn asm_listed(
-    rt: &(impl Files + AllocGlobal),
-    outputs: Outputs,
-    text: &[u8],
-    out: &str,
-    list: &str,
-) -> Result<(), HostError> {
-    check_file(rt, outputs, list)?;
-    let listed = run_asm_listed(rt.alloc(), text)?;
-    write_file(rt, outputs, out, listed.image.as_slice())?;
-    write_file(rt, outputs, list, listed.listing.as_slice())
-}
-
 /// Prints the program in a file as instructions of a processor.
-fn list(rt: &(impl Machine + Print), file: &str, cpu: Cpu) -> Result<(), HostError> {
+fn list(rt: &impl LockableFiles, file: &str, cpu: Cpu) -> Result<(), HostError> {
     let program = read_file(rt, file)?;
     match BufWriter::new(rt.alloc(), PatientOutput::new(rt)) {
         Ok(mut out) => run_list(cpu, program.as_slice(), &mut out),
@@ -236,7 +207,7 @@ fn list(rt: &(impl Machine + Print), file: &str, cpu: Cpu) -> Result<(), HostErr
 }
 
 /// Prints that the image in a file is in order.
-fn check(rt: &(impl Machine + Print), file: &str) -> Result<(), HostError> {
+fn check(rt: &impl LockableFiles, file: &str) -> Result<(), HostError> {
     let bytes = read_file(rt, file)?;
     run_check(file, bytes, &mut PatientOutput::new(rt))?;
     Ok(())
@@ -244,7 +215,7 @@ fn check(rt: &(impl Machine + Print), file: &str) -> Result<(), HostError> {
 
 /// Runs the program in a file as the lines of standard input say, and prints what is answered.
 fn debug(
-    rt: &(impl Machine + Input + Print),
+    rt: &(impl LockableFiles + Input + Print),
     file: &str,
     cpu: Cpu,
     list: Option<&str>,
@@ -275,16 +246,14 @@ fn debug_to<W: Write>(
 
 /// Does what words ask for, which begin with the program's own name.
 fn do_words(
-    rt: &(impl Machine + Input + Print + Eprint),
+    rt: &(impl LockableFiles + Input),
     outputs: Outputs,
     words: &[&str],
     terminals: Terminals,
-) -> Result<ExitCode, Refused> {
+) -> Result<ExitCode, CommandRefusal> {
     if asks_version(words) {
-        return Ok(print(rt, VERSION)?);
-    }
-    if let Some(text) = help(words) {
-        return Ok(print(rt, text)?);
+        print(rt, VERSION)?;
+        return Ok(ExitCode::SUCCESS);
     }
     if let [_, "typed-at", line @ ..] = words {
         return Ok(tell_typed_at(rt, line)?);
@@ -295,11 +264,10 @@ fn do_words(
 }
 
 /// Prints a text of the program's own.
-fn print(rt: &(impl Print + Clock), text: &str) -> Result<ExitCode, HostError> {
+fn print(rt: &(impl Print + Clock), text: &str) -> Result<(), HostError> {
     PatientOutput::new(rt)
         .write_all(text.as_bytes())
-        .map_err(HostError::OutputUnwritable)?;
-    Ok(ExitCode::SUCCESS)
+        .map_err(HostError::OutputUnwritable)
 }
 
 /// Whether the keys of standard input are typed at a task as they come.
@@ -311,7 +279,7 @@ fn is_typed_at(task: &Task<'_>) -> bool {
     }
 }
 
-/// Says by its status whether a line, which begins behind the program's own name, is typed at: 0 where it is. The launcher asks for that.
+/// Says by its status whether a line, which begins after the program's own name, is typed at: 0 where it is. The launcher asks for that.
 fn tell_typed_at(rt: &impl AllocGlobal, line: &[&str]) -> Result<ExitCode, HostError> {
     let mut words = Vec::new(rt.alloc());
     words.push("cpmhost")?;
@@ -324,11 +292,11 @@ fn tell_typed_at(rt: &impl AllocGlobal, line: &[&str]) -> Result<ExitCode, HostE
 
 /// Does a task.
 fn do_task(
-    rt: &(impl Machine + Input + Print + Eprint),
+    rt: &(impl LockableFiles + Input),
     outputs: Outputs,
     task: &Task<'_>,
     terminals: Terminals,
-) -> Result<(), Refused>
+) -> Result<(), CommandRefusal>
     requires { HasUsers task.now }
 {
     match task {
@@ -339,15 +307,16 @@ fn do_task(
         Task::Run(task) => run_sessions(rt, outputs, task, terminals),
         Task::Debug { file, cpu, list } => Ok(debug(rt, file, *cpu, *list, terminals)?),
         Task::Disk(task) => do_disk(rt, outputs, task),
+        Task::Help(page) => Ok(print(rt, page_text(*page))?),
     }
 }
 
 /// Does what the words of the command line ask for.
 fn run(
-    rt: &(impl Machine + Env + Input + Print + Eprint),
+    rt: &(impl LockableFiles + Env + Input),
     outputs: Outputs,
     terminals: Terminals,
-) -> Result<ExitCode, Refused> {
+) -> Result<ExitCode, CommandRefusal> {
     let words = arguments(rt)?;
     let mut texts = Vec::new(rt.alloc());
     for word in &words {
@@ -357,7 +326,7 @@ fn run(
 }
 
 /// The device that takes all and has nothing.
-fn null_device(rt: &impl Machine) -> io::Result<File> {
+fn null_device(rt: &impl LockableFiles) -> io::Result<File> {
     let file = OpenOptions::new()
         .read(true)
         .write(true)
@@ -371,7 +340,7 @@ fn null_device(rt: &impl Machine) -> io::Result<File> {
 
 /// A file that has the place of a standard stream that is closed, so that no file that is opened later has it. Where the machine has no such device, it is
 /// the root folder, to which nothing can be written.
-fn stand_in(rt: &impl Machine) -> Option<File> {
+fn stand_in(rt: &impl LockableFiles) -> Option<File> {
     let found = match null_device(rt) {
         Ok(file) => Ok(file),
         Err(_) => fs::open(rt, "/"),
@@ -392,7 +361,7 @@ fn main(rt: HostRuntime) -> ExitCode {
     match run(&rt, outputs, terminals) {
         Ok(code) => code,
         Err(refused) => {
-            let _ = eprintln!(rt; "cpmhost: {refused}");
+            let _ = eprintln!(PatientError::new(&rt); "cpmhost: {refused}");
             ExitCode::from(refused.error.status())
         }
     }

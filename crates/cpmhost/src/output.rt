@@ -1,9 +1,11 @@
 //! Files of the machine that are written whole: what is new is written to a file beside the old one, which then takes its name. So a full
 //! device, a limit on the size of files or a kill leaves the old bytes.
 
-use crate::held::Mark;
+use crate::beside::Replacement;
+use crate::held::LockableFiles;
+use crate::stream::{Stream, real_path, stream_of};
 use std::alloc::{AllocError, Global};
-use std::fs::{OpenFile, OpenOptions, Permissions};
+use std::fs::{File, OpenOptions, Permissions};
 use std::io::{ErrorKind, Write};
 use std::os::unix::fs::{MetadataExt, PermissionsExt, chown};
 use std::path::{Path, PathBuf};
@@ -48,6 +50,14 @@ fn is_number(text: &str) -> bool {
     !text.is_empty() && text.bytes().all(|byte| byte.is_ascii_digit())
 }
 
+/// Whether a folder below `/proc` is of a process, or of one of its threads.
+fn is_process(name: &str) -> bool {
+    match name.split_once("/task/") {
+        Some((process, thread)) => (process == "self" || is_number(process)) && is_number(thread),
+        None => name == "self" || name == "thread-self" || is_number(name),
+    }
+}
+
 /// Whether a folder has what a process has open, each under its number.
 fn is_folder_of_open_files(folder: &str) -> bool {
     if folder == "/dev/fd" {
@@ -57,7 +67,7 @@ fn is_folder_of_open_files(folder: &str) -> bool {
         return false;
     };
     match process.strip_suffix("/fd") {
-        Some(process) => process == "self" || process == "thread-self" || is_number(process),
+        Some(process) => is_process(process),
         None => false,
     }
 }
@@ -70,12 +80,34 @@ pub fn is_open_already(path: &str) -> bool {
     }
 }
 
+/// The path of something that a process has open, by the true name of its folder, where a path leads there by another one.
+fn open_file_at(
+    rt: &(impl Files + AllocGlobal),
+    path: Path<'_>,
+) -> Result<Option<PathBuf>, AllocError> {
+    let (Some(folder), Some(number)) = (path.parent(), path.file_name()) else {
+        return Ok(None);
+    };
+    if !is_number(number) {
+        return Ok(None);
+    }
+    match real_path(rt, folder.as_str())? {
+        Some(folder) if is_folder_of_open_files(folder.as_path().as_str()) => {
+            Ok(Some(folder.as_path().join(rt.alloc(), number)?))
+        }
+        _ => Ok(None),
+    }
+}
+
 /// Where the file of a name lies, once its links are followed.
 pub fn target_of(rt: &(impl Files + AllocGlobal), name: &str) -> io::Result<PathBuf> {
     let mut path = Path::new(name).to_path_buf(rt.alloc())?;
     for _link in 0..MOST_LINKS {
         if is_open_already(path.as_path().as_str()) {
             return Ok(path);
+        }
+        if let Some(found) = open_file_at(rt, path.as_path())? {
+            return Ok(found);
         }
         match fs::read_link(rt, path.as_path()) {
             Ok(to) => path = path_beside(
@@ -97,9 +129,9 @@ const NEXT_NAME: u64 = 0x9E37_79B9_7F4A_7C15;
 
 /// All permissions that a file keeps which is replaced, and those of a file that nobody can execute. Set-user-ID, set-group-ID and the sticky bit are not
 /// among them: they were given to the old bytes.
-const PERMISSIONS: u32 = 0o777;
+pub const PERMISSIONS: u32 = 0o777;
 
-const PLAIN_PERMISSIONS: u32 = 0o666;
+pub const PLAIN_PERMISSIONS: u32 = 0o666;
 
 /// The outputs of this process. A file that is being written has a name of a number that was drawn, so that no two processes have one.
 #[derive(Clone, Copy, Drop)]
@@ -107,89 +139,90 @@ pub struct Outputs {
     drawn: u64,
 }
 
-/// A file that is being written: beside the one whose name it takes in the end, or where that is a pipe or a device, that itself.
+/// What a file is written by.
 #[derive(Drop)]
-pub struct Begun<F: OpenFile + Drop> {
-    pub file: F,
-    beside: Option<Beside>,
+enum Sink {
+    File(File),
+    Stream(Stream),
 }
 
-/// Where a file is that is being written, and the one that it is to replace.
+/// A file that is being written: beside the one whose name it takes in the end, or where that is a pipe, a device or a standard stream, that itself.
 #[derive(Drop)]
-struct Beside {
-    path: PathBuf,
-    target: PathBuf,
+pub struct OutputFile<'a, R: LockableFiles> {
+    rt: &'a R,
+    sink: Sink,
+    beside: Option<Replacement>,
 }
 
-impl<F: OpenFile + Drop> Begun<F> {
-    /// Where it lies beside another one.
-    pub fn path(&self) -> Option<Path<'_>> {
-        let beside = self.beside.as_ref()?;
-        Some(beside.path.as_path())
-    }
-
+impl<R: LockableFiles> OutputFile<'_, R> {
     /// Whether there is a file that it is to replace.
-    pub fn is_to_replace(&self, rt: &impl Files) -> bool {
+    pub fn is_to_replace(&self) -> bool {
         match &self.beside {
-            Some(beside) => fs::metadata(rt, beside.target.as_path()).is_ok(),
+            Some(beside) => fs::metadata(self.rt, beside.target()).is_ok(),
             None => false,
         }
     }
 
-    /// Takes the file away where it lies beside another one.
-    pub fn remove(&self, rt: &impl Files) -> io::Result<()> {
+    /// Puts all that was written to the file on the device, where it lies beside another one.
+    fn sync(&self) -> io::Result<()> {
+        match (&self.sink, &self.beside) {
+            (Sink::File(file), Some(_)) => file.sync_all(),
+            _ => Ok(()),
+        }
+    }
+
+    /// Gives it the name of the file that it is to replace, once it is on the device.
+    pub fn take_name(&self) -> io::Result<()> {
+        self.sync()?;
         match &self.beside {
-            Some(beside) => fs::remove_file(rt, beside.path.as_path()),
+            Some(beside) => beside.take_name(self.rt),
             None => Ok(()),
         }
     }
 
-    /// Gives it the name of the file that it is to replace, once it is on the device. Where that was read, it must still be what it was then.
-    pub fn take_name(&self, rt: &impl Files, read: Option<Mark>) -> io::Result<()> {
-        let Some(beside) = &self.beside else {
-            return Ok(());
-        };
-        self.file.sync_all()?;
-        let target = beside.target.as_path();
-        if let Some(mark) = read {
-            mark.check(rt, target)?;
+    /// Takes the file away where it lies beside another one.
+    pub fn remove(&self) -> io::Result<()> {
+        match &self.beside {
+            Some(beside) => beside.remove(self.rt),
+            None => Ok(()),
         }
-        fs::rename(rt, beside.path.as_path(), target)
     }
 
-    /// Gives it its name, once it is on the device, if nothing has that name by then: by a link, since a renaming would replace what has it.
-    fn take_new_name(&self, rt: &impl Files) -> io::Result<()> {
-        let Some(beside) = &self.beside else {
-            return Ok(());
-        };
-        self.file.sync_all()?;
-        let (path, target) = (beside.path.as_path(), beside.target.as_path());
-        match fs::hard_link(rt, path, target) {
-            Ok(()) => Ok(()),
-            Err(error) if error.kind() == ErrorKind::AlreadyExists => Err(error),
-            // (a file system that has no second names)
-            Err(_) if fs::symlink_metadata(rt, target).is_err() => fs::rename(rt, path, target),
-            Err(error) => Err(error),
-        }
+    /// Closes it, and says where it lies beside another one.
+    pub fn close(self) -> Option<Replacement> {
+        self.beside
     }
 
     /// Gives it those of the permissions of the file that it is to replace that are in a mask. Where that is another user's, it has those of a new file.
-    fn keep_permissions(&self, rt: &impl Files, mask: u32) -> io::Result<()> {
-        let Some(beside) = &self.beside else {
+    fn keep_permissions(&self, mask: u32) -> io::Result<()> {
+        let (Sink::File(file), Some(beside)) = (&self.sink, &self.beside) else {
             return Ok(());
         };
-        let Ok(old) = fs::metadata(rt, beside.target.as_path()) else {
+        let Ok(old) = fs::metadata(self.rt, beside.target()) else {
             return Ok(());
         };
-        let new = self.file.metadata()?;
+        let new = file.metadata()?;
         if old.uid() != new.uid() {
             return Ok(());
         }
         let mode = old.permissions().mode() & mask;
         let has_group = old.gid() == new.gid()
-            || chown(rt, beside.path.as_path(), None, Some(old.gid())).is_ok();
+            || chown(self.rt, beside.path(), None, Some(old.gid())).is_ok();
         let mode = if has_group { mode } else { narrowed(mode) };
-        self.file.set_permissions(Permissions::from_mode(mode))
+        file.set_permissions(Permissions::from_mode(mode))
+    }
+}
+
+impl<R: LockableFiles> Write for OutputFile<'_, R> {
+    fn write(&mut self, buf: &[u8]) -> io::Result<usize> {
+        match &mut self.sink {
+            Sink::File(file) => file.write(buf),
+            Sink::Stream(stream) => stream.write(self.rt, buf),
+        }
+    }
+
+    fn flush(&mut self) -> io::Result<()> {
+        Ok(())
     }
 }
 
@@ -210,20 +243,31 @@ impl Outputs {
         Outputs { drawn }
     }
 
+    /// Those for one of several files that are beside others at a time: no two of them try the same names.
+    pub fn nth(self, place: usize) -> Outputs {
+        let names = (place as u64).wrapping_mul(MOST_NAMES);
+        Outputs {
+            drawn: self.drawn.wrapping_add(names.wrapping_mul(NEXT_NAME)),
+        }
+    }
+
     /// A new file beside the one that it is to replace. A file that is there is left alone.
-    fn create_beside<R: Files + AllocGlobal>(
+    fn create_beside<'a, R: LockableFiles>(
         self,
-        rt: &R,
+        rt: &'a R,
         target: PathBuf,
-    ) -> io::Result<Begun<R::File>> {
+    ) -> io::Result<OutputFile<'a, R>> {
         for place in 0..MOST_NAMES {
             let number = self.drawn.wrapping_add(place.wrapping_mul(NEXT_NAME));
             let name = format!(in rt.alloc(); ".cpmhost-{number:016x}")?;
             let path = path_beside(rt.alloc(), target.as_path().as_str(), name.as_str())?;
             match fs::File::create_new(rt, path.as_path()) {
                 Ok(file) => {
-                    let beside = Some(Beside { path, target });
-                    return Ok(Begun { file, beside });
+                    return Ok(OutputFile {
+                        rt,
+                        sink: Sink::File(file),
+                        beside: Some(Replacement::new(path, target)),
+                    });
                 }
                 Err(error) if error.kind() == ErrorKind::AlreadyExists => {}
                 Err(error) => return Err(error),
@@ -232,109 +276,84 @@ impl Outputs {
         Err(io::Error::from(ErrorKind::AlreadyExists))
     }
 
-    /// Begins to write a file, which stays as it is meanwhile, or a pipe or a device. Of the permissions that the file has it keeps those of a mask.
-    fn begin_with<R: Files + AllocGlobal>(
+    /// Begins to write what is no file of its own: where a standard stream stands, or behind all that a pipe or a device has.
+    fn begin_at<'a, R: LockableFiles>(
         self,
-        rt: &R,
+        rt: &'a R,
+        target: PathBuf,
+    ) -> io::Result<OutputFile<'a, R>> {
+        let sink = match stream_of(rt, target.as_path().as_str())? {
+            Some(stream) => Sink::Stream(stream),
+            None => Sink::File(OpenOptions::new().append(true).open(rt, target.as_path())?),
+        };
+        Ok(OutputFile {
+            rt,
+            sink,
+            beside: None,
+        })
+    }
+
+    /// Begins to write a file, which stays as it is meanwhile, or a pipe or a device. Of the permissions that the file has it keeps those of a mask.
+    fn begin_with<'a, R: LockableFiles>(
+        self,
+        rt: &'a R,
         name: &str,
         mask: u32,
-    ) -> io::Result<Begun<R::File>> {
+    ) -> io::Result<OutputFile<'a, R>> {
         let target = target_of(rt, name)?;
         if !is_replaceable(rt, target.as_path().as_str())? {
-            // (what a file has that is open already stays)
-            let file = OpenOptions::new().append(true).open(rt, target.as_path())?;
-            return Ok(Begun { file, beside: None });
+            return self.begin_at(rt, target);
         }
         let begun = self.create_beside(rt, target)?;
-        match begun.keep_permissions(rt, mask) {
+        match begun.keep_permissions(mask) {
             Ok(()) => Ok(begun),
             Err(error) => {
-                let _ = begun.remove(rt);
+                let _ = begun.remove();
                 Err(error)
             }
         }
     }
 
     /// Begins to write a file, which stays as it is meanwhile, or a pipe or a device.
-    pub fn begin<R: Files + AllocGlobal>(self, rt: &R, name: &str) -> io::Result<Begun<R::File>> {
+    pub fn begin<'a, R: LockableFiles>(
+        self,
+        rt: &'a R,
+        name: &str,
+    ) -> io::Result<OutputFile<'a, R>> {
         self.begin_with(rt, name, PERMISSIONS)
     }
 
-    /// Makes a file hold these bytes, which replace all that it held, or leaves it as it was. Where it was read, it must still be what it was then.
-    pub fn replace(
+    /// Makes a file of these bytes beside the one that it is to replace, down to the device, and says where it lies; or writes them to a pipe or a device.
+    /// Of the permissions that the file has it keeps those of a mask. Where it fails nothing is left of it.
+    pub fn make(
         self,
-        rt: &(impl Files + AllocGlobal),
+        rt: &impl LockableFiles,
         name: &str,
-        read: Option<Mark>,
+        mask: u32,
         bytes: &[u8],
-    ) -> io::Result<()> {
-        let begun = self.begin(rt, name)?;
-        finish(rt, begun, read, bytes)
-    }
-
-    /// Makes a file hold these bytes, which replace all that it held, or leaves it as it was.
-    pub fn write(
-        self,
-        rt: &(impl Files + AllocGlobal),
-        name: &str,
-        bytes: &[u8],
-    ) -> io::Result<()> {
-        self.replace(rt, name, None, bytes)
-    }
-
-    /// Makes a file hold these bytes, as `write` does, which nobody can execute then. Of a file that was there it keeps who may read and write it.
-    pub fn write_plain(
-        self,
-        rt: &(impl Files + AllocGlobal),
-        name: &str,
-        bytes: &[u8],
-    ) -> io::Result<()> {
-        let begun = self.begin_with(rt, name, PLAIN_PERMISSIONS)?;
-        finish(rt, begun, None, bytes)
-    }
-
-    /// Makes a new file of these bytes. It fails where there is a file of this name by then.
-    pub fn write_new(
-        self,
-        rt: &(impl Files + AllocGlobal),
-        name: &str,
-        bytes: &[u8],
-    ) -> io::Result<()> {
-        let mut begun = self.begin(rt, name)?;
-        let written = match begun.file.write_all(bytes) {
-            Ok(()) => begun.take_new_name(rt),
+    ) -> io::Result<Option<Replacement>> {
+        let mut begun = self.begin_with(rt, name, mask)?;
+        let written = match begun.write_all(bytes) {
+            Ok(()) => begun.sync(),
             Err(error) => Err(error),
         };
-        let _ = begun.remove(rt);
-        written
+        match written {
+            Ok(()) => Ok(begun.close()),
+            Err(error) => {
+                let _ = begun.remove();
+                Err(error)
+            }
+        }
     }
 
     /// Whether a file of this name can be written, before there is anything to write. Nothing is left of the trial.
-    pub fn check(self, rt: &(impl Files + AllocGlobal), name: &str) -> io::Result<()> {
+    pub fn check(self, rt: &impl LockableFiles, name: &str) -> io::Result<()> {
         let target = target_of(rt, name)?;
         if !is_replaceable(rt, target.as_path().as_str())? {
             return Ok(());
         }
-        self.create_beside(rt, target)?.remove(rt)
+        self.create_beside(rt, target)?.remove()
     }
-}
-
-/// Writes these bytes to a file that was begun, down to the device, and gives it its name. Where that fails nothing is left of it.
-fn finish<F: Write + OpenFile + Drop>(
-    rt: &impl Files,
-    begun: Begun<F>,
-    read: Option<Mark>,
-    bytes: &[u8],
-) -> io::Result<()> {
-    let mut begun = begun;
-    let written = match begun.file.write_all(bytes) {
-        Ok(()) => begun.take_name(rt, read),
-        Err(error) => Err(error),
-    };
-    if written.is_err() {
-        let _ = begun.remove(rt);
-    }
-    written
 }
 
 /// Whether the bytes of a path are replaced by a file that takes its name: not where it is a pipe or a device. It fails where it is a

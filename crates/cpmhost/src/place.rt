@@ -2,7 +2,7 @@
 
 use crate::get::Extraction;
 use crate::output::target_of;
-use crate::refused::{Behind, Refused};
+use crate::refused::{CommandRefusal, RefusalDetail};
 use cpm_host::{ComTask, Config, HostError, Origin, RunError, RunTask, SessionConfig, shown};
 use std::alloc::{AllocError, Global};
 use std::fs;
@@ -75,14 +75,14 @@ struct RunFile<'a> {
 
 /// The files of a run that were looked at so far.
 #[derive(Drop)]
-struct Looked<'a> {
+struct RunFiles<'a> {
     inputs: Vec<RunFile<'a>>,
     outputs: Vec<RunFile<'a>>,
 }
 
-impl<'a> Looked<'a> {
-    fn new(alloc: Global) -> Looked<'a> {
-        Looked {
+impl<'a> RunFiles<'a> {
+    fn new(alloc: Global) -> RunFiles<'a> {
+        RunFiles {
             inputs: Vec::new(alloc),
             outputs: Vec::new(alloc),
         }
@@ -93,7 +93,7 @@ impl<'a> Looked<'a> {
         rt: &(impl Files + AllocGlobal),
         name: &'a str,
         is_image: bool,
-    ) -> Result<(), Refused> {
+    ) -> Result<(), CommandRefusal> {
         if let Some(place) = place_of(rt, name)? {
             self.inputs.push(RunFile {
                 name,
@@ -110,7 +110,7 @@ impl<'a> Looked<'a> {
         rt: &(impl Files + AllocGlobal),
         name: &'a str,
         is_image: bool,
-    ) -> Result<(), Refused> {
+    ) -> Result<(), CommandRefusal> {
         if let Some(place) = place_of(rt, name)? {
             self.check_new(&place, name, is_image)?;
             self.outputs.push(RunFile {
@@ -123,13 +123,18 @@ impl<'a> Looked<'a> {
     }
 
     /// Refuses an output at a place that is an output before it, or an input; but an image may take the place of one that was read.
-    fn check_new(&self, place: &FileIdentity, name: &str, is_image: bool) -> Result<(), Refused> {
+    fn check_new(
+        &self,
+        place: &FileIdentity,
+        name: &str,
+        is_image: bool,
+    ) -> Result<(), CommandRefusal> {
         if let Some(other) = self.outputs.iter().find(|other| other.place == *place) {
-            return Err(twin(other.name, Behind::Output(shown(name))));
+            return Err(twin(other.name, RefusalDetail::Output(shown(name))));
         }
         for input in &self.inputs {
             if input.place == *place && !(is_image && input.is_image) {
-                return Err(twin(name, Behind::Input(shown(input.name))));
+                return Err(twin(name, RefusalDetail::Input(shown(input.name))));
             }
         }
         Ok(())
@@ -143,7 +148,7 @@ impl<'a> Looked<'a> {
         config: &'a Config,
         record: Option<&'a str>,
         scripts: &'a [String],
-    ) -> Result<(), Refused> {
+    ) -> Result<(), CommandRefusal> {
         self.add_input(rt, file, false)?;
         self.add_input(rt, config.system.as_str(), true)?;
         for session in &config.sessions {
@@ -163,7 +168,7 @@ impl<'a> Looked<'a> {
         &mut self,
         rt: &(impl Files + AllocGlobal),
         task: &ComTask<'a>,
-    ) -> Result<(), Refused> {
+    ) -> Result<(), CommandRefusal> {
         self.add_input(rt, task.file, false)?;
         if let Some(keys) = task.keys {
             self.add_input(rt, keys, false)?;
@@ -187,7 +192,7 @@ impl<'a> Looked<'a> {
         source: &'a str,
         out: &'a str,
         list: Option<&'a str>,
-    ) -> Result<(), Refused> {
+    ) -> Result<(), CommandRefusal> {
         self.add_input(rt, source, false)?;
         self.add_output(rt, out, false)?;
         match list {
@@ -202,7 +207,7 @@ impl<'a> Looked<'a> {
         rt: &(impl Files + AllocGlobal),
         image: &'a str,
         all: &'a [Extraction],
-    ) -> Result<(), Refused> {
+    ) -> Result<(), CommandRefusal> {
         self.add_input(rt, image, true)?;
         for taken in all {
             self.add_output(rt, taken.path.as_str(), false)?;
@@ -215,7 +220,7 @@ impl<'a> Looked<'a> {
         &mut self,
         rt: &(impl Files + AllocGlobal),
         session: &'a SessionConfig,
-    ) -> Result<(), Refused> {
+    ) -> Result<(), CommandRefusal> {
         if let Origin::Opened { drives, .. } = &session.origin {
             for drive in drives {
                 self.add_input(rt, drive.as_str(), true)?;
@@ -232,7 +237,7 @@ impl<'a> Looked<'a> {
         &mut self,
         rt: &(impl Files + AllocGlobal),
         session: &'a SessionConfig,
-    ) -> Result<(), Refused> {
+    ) -> Result<(), CommandRefusal> {
         self.add_output(rt, session.console.as_str(), false)?;
         if let Some(list) = &session.list {
             self.add_output(rt, list.as_str(), false)?;
@@ -249,7 +254,7 @@ impl<'a> Looked<'a> {
         rt: &(impl Files + AllocGlobal),
         names: &'a [String],
         are_images: bool,
-    ) -> Result<(), Refused> {
+    ) -> Result<(), CommandRefusal> {
         for name in names {
             self.add_output(rt, name.as_str(), are_images)?;
         }
@@ -258,8 +263,8 @@ impl<'a> Looked<'a> {
 }
 
 /// The refusal of an output that is another file too.
-fn twin(name: &str, behind: Behind) -> Refused {
-    Refused {
+fn twin(name: &str, behind: RefusalDetail) -> CommandRefusal {
+    CommandRefusal {
         error: HostError::from(RunError::WriteFault(shown(name))),
         behind,
     }
@@ -272,9 +277,9 @@ pub fn check_apart(
     file: &str,
     config: &Config,
     task: &RunTask<'_>,
-) -> Result<(), Refused> {
+) -> Result<(), CommandRefusal> {
     let scripts = script_paths(rt.alloc(), config, task.scripts)?;
-    let mut looked = Looked::new(rt.alloc());
+    let mut looked = RunFiles::new(rt.alloc());
     looked.add_run(rt, file, config, task.record, &scripts)
 }
 
@@ -300,8 +305,8 @@ pub fn check_asm(
     source: &str,
     out: &str,
     list: Option<&str>,
-) -> Result<(), Refused> {
-    let mut looked = Looked::new(rt.alloc());
+) -> Result<(), CommandRefusal> {
+    let mut looked = RunFiles::new(rt.alloc());
     looked.add_source(rt, source, out, list)
 }
 
@@ -310,13 +315,16 @@ pub fn check_taken(
     rt: &(impl Files + AllocGlobal),
     image: &str,
     all: &[Extraction],
-) -> Result<(), Refused> {
-    let mut looked = Looked::new(rt.alloc());
+) -> Result<(), CommandRefusal> {
+    let mut looked = RunFiles::new(rt.alloc());
     looked.add_taken(rt, image, all)
 }
 
 /// Refuses a program's run that would write over what it reads, or one file twice. An image may be written where one was read.
-pub fn check_com(rt: &(impl Files + AllocGlobal), task: &ComTask<'_>) -> Result<(), Refused> {
-    let mut looked = Looked::new(rt.alloc());
+pub fn check_com(
+    rt: &(impl Files + AllocGlobal),
+    task: &ComTask<'_>,
+) -> Result<(), CommandRefusal> {
+    let mut looked = RunFiles::new(rt.alloc());
     looked.add_program(rt, task)
 }

@@ -1,6 +1,8 @@
 //! How far sessions have come, told on standard error.
 
+use crate::patient::{PatientError, StandardError};
 use cpm_host::{Config, Progress, Watcher};
+use std::cell::Cell;
 
 /// How often it is told at most: each time that they are so much of the whole further.
 const PARTS: u128 = 50;
@@ -38,34 +40,63 @@ pub enum Audience<'a> {
 
 /// Tells how far the sessions of a configuration, one of them, or a program, have come.
 #[derive(Drop)]
-pub struct Teller<'a, R: Eprint> {
+pub struct Teller<'a, R: StandardError> {
     rt: &'a R,
     whom: Audience<'a>,
     form: Form,
     /// How many parts were told.
     told: u128,
+    /// Whether what comes next begins a line, where others write to the same terminal.
+    is_at_line_start: Option<&'a Cell<bool>>,
 }
 
-impl<'a, R: Eprint> Teller<'a, R> {
+impl<'a, R: StandardError> Teller<'a, R> {
     pub fn new(rt: &'a R, whom: Audience<'a>, form: Form) -> Teller<'a, R> {
         Teller {
             rt,
             whom,
             form,
             told: 0,
+            is_at_line_start: None,
         }
+    }
+
+    /// The same on a terminal that others write to as well.
+    pub fn beside(self, is_at_line_start: &'a Cell<bool>) -> Teller<'a, R> {
+        Teller {
+            is_at_line_start: Some(is_at_line_start),
+            ..self
+        }
+    }
+
+    /// Notes whether what comes next begins a line.
+    fn note(&self, is_at_line_start: bool) {
+        if let Some(noted) = self.is_at_line_start {
+            noted.set(is_at_line_start);
+        }
+    }
+
+    /// Whether the line of a terminal on which it is told isn't ended. One who wrote there since may have ended it.
+    fn is_in_line(&self) -> bool {
+        let is_ended = match self.is_at_line_start {
+            Some(noted) => noted.get(),
+            None => false,
+        };
+        self.form == Form::InPlace && self.told > 0 && !is_ended
     }
 
     /// Ends the line of a terminal.
     pub fn end(&self) {
-        if self.form == Form::InPlace && self.told > 0 {
-            let _ = eprintln!(self.rt);
+        if self.is_in_line() {
+            let _ = eprintln!(PatientError::new(self.rt));
+            self.note(true);
         }
     }
 
     /// Tells of so many parts.
     fn tell(&self, progress: Progress) {
         let percent = self.told.saturating_mul(2);
+        self.note(self.form != Form::InPlace);
         let (before, behind) = match self.form {
             Form::InPlace => ("\r", "\x1b[K"),
             _ => ("", "\n"),
@@ -83,16 +114,18 @@ impl<'a, R: Eprint> Teller<'a, R> {
     }
 
     fn tell_program(&self, before: &str, percent: u128, behind: &str) {
-        let _ = eprint!(self.rt; "{before}progress {percent}%{behind}");
+        let _ = eprint!(PatientError::new(self.rt); "{before}progress {percent}%{behind}");
     }
 
     fn tell_alone(&self, before: &str, percent: u128, name: &str, behind: &str) {
-        let _ = eprint!(self.rt; "{before}progress {percent}% of {name} by itself{behind}");
+        let _ = eprint!(PatientError::new(self.rt);
+            "{before}progress {percent}% of {name} by itself{behind}"
+        );
     }
 
     fn tell_ended(&self, before: &str, percent: u128, progress: Progress, behind: &str) {
         let (ended, sessions) = (progress.ended, progress.sessions);
-        let _ = eprint!(self.rt;
+        let _ = eprint!(PatientError::new(self.rt);
             "{before}progress {percent}%: {ended} of {sessions} sessions have ended{behind}"
         );
     }
@@ -106,13 +139,13 @@ impl<'a, R: Eprint> Teller<'a, R> {
         behind: &str,
     ) {
         let (ended, sessions) = (progress.ended, progress.sessions);
-        let _ = eprint!(self.rt;
+        let _ = eprint!(PatientError::new(self.rt);
             "{before}progress {percent}%: {ended} of {sessions} sessions have ended, {slowest} has the most left{behind}"
         );
     }
 }
 
-impl<R: Eprint> Watcher for Teller<'_, R> {
+impl<R: StandardError> Watcher for Teller<'_, R> {
     fn is_watching(&self) -> bool {
         self.form != Form::Silent
     }

@@ -1,41 +1,43 @@
 //! Where keys are recorded that are typed: in a file beside that of the record, which takes its name when typing has ended. So a record is whole or as it was.
 
 use crate::files::unwritable;
-use crate::output::{Begun, Outputs};
-use crate::refused::Refused;
-use cpm_host::{HostError, MOST_KEYS, shown};
-use std::fs::OpenFile;
+use crate::held::LockableFiles;
+use crate::output::{OutputFile, Outputs};
+use crate::patient::PatientError;
+use crate::refused::{CommandRefusal, PathLine, RefusalDetail};
+use cpm_host::{HostError, MOST_KEYS};
 use std::io;
 use std::io::Write;
-use std::rt::Files;
 
 /// Where typed keys are recorded: in a file, or nowhere.
 #[derive(Drop)]
-pub struct Record<F: Write + OpenFile + Drop> {
-    begun: Option<Begun<F>>,
+pub struct Record<'a, R: LockableFiles> {
+    rt: &'a R,
+    begun: Option<OutputFile<'a, R>>,
     has_keys: bool,
 }
 
 /// The record in the file of a name, which stays as it is until the record has ended; or none.
-pub fn record_in<R: Files + AllocGlobal>(
-    rt: &R,
+pub fn record_in<'a, R: LockableFiles>(
+    rt: &'a R,
     outputs: Outputs,
     name: Option<&str>,
-) -> Result<Record<R::File>, Refused> {
+) -> Result<Record<'a, R>, CommandRefusal> {
     let begun = match name {
         None => None,
         Some(name) => match outputs.begin(rt, name) {
             Ok(begun) => Some(begun),
-            Err(reason) => return Err(Refused::from(unwritable(name, reason))),
+            Err(reason) => return Err(CommandRefusal::from(unwritable(name, reason))),
         },
     };
     Ok(Record {
+        rt,
         begun,
         has_keys: false,
     })
 }
 
-impl<F: Write + OpenFile + Drop> Record<F> {
+impl<R: LockableFiles> Record<'_, R> {
     /// How many keys it takes: a script has not more.
     pub fn most_keys(&self) -> usize {
         if self.begun.is_some() {
@@ -47,61 +49,82 @@ impl<F: Write + OpenFile + Drop> Record<F> {
 
     /// Ends the record of what came so: it takes its name where that was played to its end. Else the keys so far are left beside, which is said. A record
     /// without a key replaces none.
-    pub fn end<T: Drop>(
-        self,
-        rt: &(impl Files + Eprint),
-        played: Result<T, HostError>,
-    ) -> Result<T, Refused> {
-        let Some(begun) = &self.begun else {
+    pub fn end<T: Drop>(self, played: Result<T, HostError>) -> Result<T, CommandRefusal> {
+        let Record {
+            rt,
+            begun,
+            has_keys,
+        } = self;
+        let Some(begun) = begun else {
             return Ok(played?);
         };
-        let ended = match played {
-            Ok(played) if !self.has_keys && begun.is_to_replace(rt) => {
-                let _ = eprintln!(rt; "cpmhost: no key came, so the record is as it was");
-                let _ = begun.remove(rt);
+        match played {
+            Ok(played) if !has_keys && begun.is_to_replace() => {
+                let _ = eprintln!(PatientError::new(rt);
+                    "cpmhost: no key came, so the record is as it was"
+                );
+                let _ = begun.remove();
                 Ok(played)
             }
-            Ok(played) => match begun.take_name(rt, None) {
-                Ok(()) => Ok(played),
-                Err(reason) => Err(HostError::RecordUnwritable(reason)),
-            },
-            Err(error) => Err(error),
-        };
-        if ended.is_err() {
-            leave(rt, begun, self.has_keys);
-        }
-        Ok(ended?)
-    }
-}
-
-/// Says where the keys so far are, or takes the file away where it has none.
-fn leave<F: OpenFile + Drop>(rt: &(impl Files + Eprint), begun: &Begun<F>, has_keys: bool) {
-    match begun.path() {
-        Some(path) if has_keys => {
-            let path = shown(path.as_str());
-            let _ = eprintln!(rt; "cpmhost: the keys so far are in '{path}'");
-        }
-        _ => {
-            let _ = begun.remove(rt);
+            Ok(played) => {
+                take_name(rt, begun, has_keys)?;
+                Ok(played)
+            }
+            Err(error) => {
+                if let RefusalDetail::Kept(path) = left(rt, begun, has_keys) {
+                    let path = PathLine(path.as_path().as_str());
+                    let _ = eprintln!(PatientError::new(rt);
+                        "cpmhost: the keys so far are in '{path}'"
+                    );
+                }
+                Err(CommandRefusal::from(error))
+            }
         }
     }
 }
 
-impl<F: Write + OpenFile + Drop> Write for Record<F> {
+/// Gives a record its name, once it is on the device.
+fn take_name<R: LockableFiles>(
+    rt: &R,
+    begun: OutputFile<'_, R>,
+    has_keys: bool,
+) -> Result<(), CommandRefusal> {
+    match begun.take_name() {
+        Ok(()) => Ok(()),
+        Err(reason) => Err(CommandRefusal {
+            error: HostError::RecordUnwritable(reason),
+            behind: left(rt, begun, has_keys),
+        }),
+    }
+}
+
+/// Leaves the file of a record beside where it has keys, under a name that a person can see, and takes it away where it has none.
+fn left<R: LockableFiles>(rt: &R, begun: OutputFile<'_, R>, has_keys: bool) -> RefusalDetail {
+    let Some(beside) = begun.close() else {
+        return RefusalDetail::Nothing;
+    };
+    if !has_keys {
+        let _ = beside.remove(rt);
+        return RefusalDetail::Nothing;
+    }
+    match beside.keep(rt) {
+        Some(path) => RefusalDetail::Kept(path),
+        None => RefusalDetail::Nothing,
+    }
+}
+
+impl<R: LockableFiles> Write for Record<'_, R> {
     fn write(&mut self, buf: &[u8]) -> io::Result<usize> {
         match &mut self.begun {
             Some(begun) => {
                 self.has_keys = true;
-                begun.file.write(buf)
+                begun.write(buf)
             }
             None => Ok(buf.len()),
         }
     }
 
     fn flush(&mut self) -> io::Result<()> {
-        match &mut self.begun {
-            Some(begun) => begun.file.flush(),
-            None => Ok(()),
-        }
+        Ok(())
     }
 }

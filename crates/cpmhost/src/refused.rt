@@ -1,14 +1,15 @@
 //! A refusal with what the machine says of it.
 ghost use Rattle.std.specs.Prelude.{◌≡◌};
 
-use cpm_disk_commands::FilingError;
-use cpm_host::{HostError, ShownWord};
+use cpm_disk_commands::DiskCommandError;
+use cpm_host::{HostError, ShownWord, shown};
 use std::alloc::{AllocError, AllocFailed};
+use std::path::PathBuf;
 use std::{fmt, io};
 
-/// What is said behind the text of a refusal.
-#[derive(Clone, Copy, Debug, Drop)]
-pub enum Behind {
+/// What is said after the text of a refusal.
+#[derive(Debug, Drop)]
+pub enum RefusalDetail {
     Nothing,
     /// Why the machine didn't read or write the file.
     Reason(io::Error),
@@ -24,57 +25,87 @@ pub enum Behind {
     NotRegular,
     /// The name of an output is not of a kind that is taken.
     NotPlain,
+    /// What was to be written is whole in the file of this path.
+    Kept(PathBuf),
+}
+
+/// A path as it stands on a line: `?` for what a refusal doesn't show either.
+#[derive(Drop)]
+pub struct PathLine<'a>(pub &'a str);
+
+impl fmt::Display for PathLine<'_> {
+    fn fmt<W: fmt::Write>(&self, f: &mut fmt::Formatter<W>) -> fmt::Result {
+        for c in self.0.chars() {
+            let mut room = [0; 4];
+            let character = shown(c.encode_utf8(&mut room));
+            write!(f, "{character}")?;
+        }
+        Ok(())
+    }
 }
 
 /// Why a command is refused, on one line.
-#[derive(Clone, Copy, Debug, Drop)]
-pub struct Refused {
+#[derive(Debug, Drop)]
+pub struct CommandRefusal {
     pub error: HostError,
-    pub behind: Behind,
+    pub behind: RefusalDetail,
 }
 
-impl fmt::Display for Refused {
+impl fmt::Display for CommandRefusal {
     fn fmt<W: fmt::Write>(&self, f: &mut fmt::Formatter<W>) -> fmt::Result {
         let error = &self.error;
         match &self.behind {
-            Behind::Nothing => write!(f, "{error}"),
-            Behind::Reason(reason) => write!(f, "{error}: {reason}"),
-            Behind::Output(other) => write!(f, "{error} and '{other}': they are one file"),
-            Behind::Input(other) => write!(
+            RefusalDetail::Nothing => write!(f, "{error}"),
+            RefusalDetail::Reason(reason) => write!(f, "{error}: {reason}"),
+            RefusalDetail::Output(other) => write!(f, "{error} and '{other}': they are one file"),
+            RefusalDetail::Input(other) => write!(
                 f,
                 "{error} over the input '{other}': they are one file"
             ),
-            Behind::Present => write!(f, "{error}: it is there; --force replaces it"),
-            Behind::Outside => write!(f, "{error}: it is not in the folders of --within"),
-            Behind::NotRegular => write!(f, "{error}: it is no regular file, as --within wants"),
-            Behind::NotPlain => write!(f, "{error}: it is no plain name, as --outputs-here wants"),
+            RefusalDetail::Present => write!(f, "{error}: it is there; --force replaces it"),
+            RefusalDetail::Outside => write!(f, "{error}: it is not in the folders of --within"),
+            RefusalDetail::NotRegular => write!(
+                f,
+                "{error}: it is no regular file, as --within wants"
+            ),
+            RefusalDetail::NotPlain => write!(
+                f,
+                "{error}: it is no plain name, as --outputs-here wants"
+            ),
+            RefusalDetail::Kept(path) => {
+                let path = PathLine(path.as_path().as_str());
+                write!(
+                    f,
+                    "{error}; the new bytes are in '{path}'; move them yourself"
+                )
+            }
         }
     }
 }
 
-impl From<HostError> for Refused {
-    fn from(error: HostError) -> Refused {
-        Refused {
+impl From<HostError> for CommandRefusal {
+    fn from(error: HostError) -> CommandRefusal {
+        CommandRefusal {
             error,
-            behind: Behind::Nothing,
+            behind: RefusalDetail::Nothing,
         }
     }
 }
 
-impl From<FilingError> for Refused {
-    fn from(error: FilingError) -> Refused {
-        Refused::from(HostError::from(error))
+impl From<DiskCommandError> for CommandRefusal {
+    fn from(error: DiskCommandError) -> CommandRefusal {
+        CommandRefusal::from(HostError::from(error))
     }
 }
 
-impl From<AllocError> for Refused {
-    fn from(_error: AllocError) -> Refused {
-        Refused::from(HostError::OutOfMemory)
+impl From<AllocError> for CommandRefusal {
+    fn from(_error: AllocError) -> CommandRefusal {
+        CommandRefusal::from(HostError::OutOfMemory)
     }
 }
 
-impl<T: Drop> From<AllocFailed<T>> for Refused {
-    fn from(_error: AllocFailed<T>) -> Refused {
-        Refused::from(HostError::OutOfMemory)
+impl<T: Drop> From<AllocFailed<T>> for CommandRefusal {
+    fn from(_error: AllocFailed<T>) -> CommandRefusal {
+        CommandRefusal::from(HostError::OutOfMemory)
     }
 }

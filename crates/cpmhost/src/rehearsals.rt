@@ -59,7 +59,7 @@ impl Rehearsals {
         self.all.iter().find(|one| one.place == place)
     }
 
-    /// Notes what a session was played by, and gives the name of its script, which has the keys behind so many: those that its parent had before
+    /// Notes what a session was played by, and gives the name of its script, which has the keys after so many: those that its parent had before
     /// are no part of it.
     pub fn add(
         &mut self,
@@ -87,7 +87,7 @@ fn name_at(alloc: Global, place: usize) -> Result<String, AllocError> {
     format!(in alloc; "\0{place}")
 }
 
-/// The script of the keys behind so many.
+/// The script of the keys after so many.
 fn script_behind(alloc: Global, keys: &[Key], before: usize) -> Result<Vec<u8>, AllocError> {
     let mut script = Vec::new(alloc);
     for key in keys.iter().skip(before) {

@@ -6,8 +6,9 @@ ghost use Rattle.cpm_host.specs.Cued.{AreFit};
 
 use crate::disk::read_image;
 use crate::files::{copied, read_file};
+use crate::patient::StandardError;
 use crate::progress::{Audience, Form, Teller};
-use crate::refused::Refused;
+use crate::refused::CommandRefusal;
 use crate::rehearsals::Rehearsals;
 use cpm_geom::Image;
 use cpm_host::{
@@ -18,12 +19,12 @@ use std::rt::Files;
 
 /// Plays the sessions by themselves whose scripts wait, or all where they are to stop idle.
 pub fn rehearse_all(
-    rt: &(impl Files + Eprint + AllocGlobal),
+    rt: &(impl Files + StandardError + AllocGlobal),
     config: &mut Config,
     all: &mut Rehearsals,
     stops_idle: bool,
     form: Form,
-) -> Result<(), Refused> {
+) -> Result<(), CommandRefusal> {
     for place in 0..config.sessions.len() {
         if place < config.sessions.len() && !all.has(place) {
             rehearse_at(rt, config, place, all, stops_idle, form)?;
@@ -57,13 +58,13 @@ struct RehearsalResult {
 
 /// Plays the session at a place by itself, if that is to be, and gives it the keys that came as its script.
 fn rehearse_at(
-    rt: &(impl Files + Eprint + AllocGlobal),
+    rt: &(impl Files + StandardError + AllocGlobal),
     config: &mut Config,
     place: usize,
     all: &mut Rehearsals,
     stops_idle: bool,
     form: Form,
-) -> Result<(), Refused>
+) -> Result<(), CommandRefusal>
     requires { place < length config.old.sessions.items }
 {
     let Some(played) = rehearse(rt, config, place, all, stops_idle, form)? else {
@@ -86,13 +87,13 @@ fn rehearse_at(
 
 /// Plays the session at a place by itself, if that is to be.
 fn rehearse(
-    rt: &(impl Files + Eprint + AllocGlobal),
+    rt: &(impl Files + StandardError + AllocGlobal),
     config: &Config,
     place: usize,
     all: &Rehearsals,
     stops_idle: bool,
     form: Form,
-) -> Result<Option<RehearsalResult>, Refused>
+) -> Result<Option<RehearsalResult>, CommandRefusal>
     requires { place < length config.now.sessions.items }
 {
     let session = &config.sessions[place];
@@ -108,13 +109,13 @@ fn rehearse(
 
 /// Plays a session by itself, by what its script says.
 fn play_part(
-    rt: &(impl Files + Eprint + AllocGlobal),
+    rt: &(impl Files + StandardError + AllocGlobal),
     config: &Config,
     session: &SessionConfig,
     part: Part,
     stops_idle: bool,
     form: Form,
-) -> Result<RehearsalResult, Refused>
+) -> Result<RehearsalResult, CommandRefusal>
     requires { AreFit part.cues.items }
 {
     let Part {
@@ -148,7 +149,7 @@ fn play_part(
 
 /// Plays a session by itself, and tells how far it is.
 fn play_alone(
-    rt: &(impl Eprint + AllocGlobal),
+    rt: &(impl StandardError + AllocGlobal),
     system: &Image,
     start: SessionStart<'_>,
     cued: CuedKeys<'_>,
@@ -169,7 +170,7 @@ fn part_of(
     all: &Rehearsals,
     session: &SessionConfig,
     text: &[u8],
-) -> Result<Option<Part>, Refused>
+) -> Result<Option<Part>, CommandRefusal>
     ensures { IfOk result (λ part. IfSome part (λ p. AreFit p.cues.items)) }
 {
     let script = script_with(session, text);
@@ -187,7 +188,7 @@ fn opened_part(
     rt: &(impl Files + AllocGlobal),
     session: &SessionConfig,
     script: Script<'_>,
-) -> Result<Option<Part>, Refused>
+) -> Result<Option<Part>, CommandRefusal>
     ensures { IfOk result (λ part. IfSome part (λ p. AreFit p.cues.items)) }
 {
     let Some(opening) = opening_of(rt, session)? else {
@@ -208,7 +209,7 @@ fn forked_part(
     parent: &SessionConfig,
     at: u64,
     script: Script<'_>,
-) -> Result<Option<Part>, Refused>
+) -> Result<Option<Part>, CommandRefusal>
     ensures { IfOk result (λ part. IfSome part (λ p. AreFit p.cues.items)) }
 {
     let Some(opening) = opening_of(rt, parent)? else {
@@ -230,7 +231,7 @@ fn forked_cues(
     parent: &SessionConfig,
     at: u64,
     script: Script<'_>,
-) -> Result<ForkedCues, Refused>
+) -> Result<ForkedCues, CommandRefusal>
     ensures { IfOk result (λ forked. AreFit forked.cues.items) }
 {
     let text = script_of(rt, all, parent)?;
@@ -249,7 +250,7 @@ fn script_of(
     rt: &(impl Files + AllocGlobal),
     all: &Rehearsals,
     session: &SessionConfig,
-) -> Result<Vec<u8>, Refused> {
+) -> Result<Vec<u8>, CommandRefusal> {
     let Some(name) = &session.keys else {
         return Ok(Vec::new(rt.alloc()));
     };
@@ -282,7 +283,7 @@ pub fn place_of(config: &Config, name: &str) -> Option<usize>
 pub fn opening_of(
     rt: &(impl Files + AllocGlobal),
     session: &SessionConfig,
-) -> Result<Option<Opening>, Refused> {
+) -> Result<Option<Opening>, CommandRefusal> {
     let Origin::Opened { cpu, quota, drives } = &session.origin else {
         return Ok(None);
     };
@@ -295,7 +296,10 @@ pub fn opening_of(
 }
 
 /// The images in the files of these names.
-fn images_of(rt: &(impl Files + AllocGlobal), names: &[String]) -> Result<Vec<Image>, Refused> {
+fn images_of(
+    rt: &(impl Files + AllocGlobal),
+    names: &[String],
+) -> Result<Vec<Image>, CommandRefusal> {
     let mut images = Vec::new(rt.alloc());
     for name in names {
         images.push(read_image(rt, name.as_str())?)?;

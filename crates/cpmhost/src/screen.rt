@@ -1,5 +1,6 @@
 //! What standard output gets of a program's text.
 
+use std::cell::Cell;
 use std::fs::OpenOptions;
 use std::io::Write;
 use std::os::unix::fs::{FileTypeExt, MetadataExt};
@@ -12,8 +13,6 @@ use std::{fs, io};
 pub struct Screen<W: Write + Drop> {
     writer: W,
     shows_controls: bool,
-    /// Whether nothing was written, or the last byte ended a line.
-    is_at_line_start: bool,
 }
 
 /// Whether a terminal gets a byte as it is: text, bell, backspace, tab and line ends.
@@ -29,13 +28,7 @@ impl<W: Write + Drop> Screen<W> {
         Screen {
             writer,
             shows_controls,
-            is_at_line_start: true,
         }
-    }
-
-    /// Whether what comes next begins a line.
-    pub fn is_at_line_start(&self) -> bool {
-        self.is_at_line_start
     }
 
     /// Writes the first bytes, as many as are plain.
@@ -75,9 +68,36 @@ impl<W: Write + Drop> Screen<W> {
 impl<W: Write + Drop> Write for Screen<W> {
     fn write(&mut self, buf: &[u8]) -> io::Result<usize> {
         let written = self.write_some(buf)?;
+        Ok(written.min(buf.len()))
+    }
+
+    fn flush(&mut self) -> io::Result<()> {
+        self.writer.flush()
+    }
+}
+
+/// A writer that notes of each text whether what comes next begins a line. What else is written to the same terminal notes that too.
+#[derive(Drop)]
+pub struct Lines<'a, W: Write + Drop> {
+    writer: W,
+    is_at_line_start: &'a Cell<bool>,
+}
+
+impl<'a, W: Write + Drop> Lines<'a, W> {
+    pub fn new(writer: W, is_at_line_start: &'a Cell<bool>) -> Lines<'a, W> {
+        Lines {
+            writer,
+            is_at_line_start,
+        }
+    }
+}
+
+impl<W: Write + Drop> Write for Lines<'_, W> {
+    fn write(&mut self, buf: &[u8]) -> io::Result<usize> {
+        let written = self.writer.write(buf)?;
         let written = written.min(buf.len());
         if let Some(&last) = buf[..written].last() {
-            self.is_at_line_start = last == b'\n';
+            self.is_at_line_start.set(last == b'\n');
         }
         Ok(written)
     }

@@ -7,7 +7,7 @@ use crate::texts::{CONFIG, KEYS, SOURCE};
 use cpm_flags::Cpu;
 use cpm_geom::{Format, Image};
 use cpm_host::{
-    Config, DebugError, HostError, MemoryStore, ProgramStart, RunError, Script, Tail, Unwatched,
+    Config, DebugError, HostError, MemoryStore, NoWatcher, ProgramStart, RunError, Script, Tail,
     judge_host, run_asm, run_com, run_debug, run_host, run_list, run_live, tail_of,
 };
 use std::alloc::{AllocError, Global};
@@ -75,7 +75,7 @@ pub fn com(alloc: Global) -> Result<CallOutcome, AllocError> {
     };
     let mut out = Counter { count: 0 };
     Ok(
-        match run_com(alloc, start, Some(script), 100, &mut out, &mut Unwatched) {
+        match run_com(alloc, start, Some(script), 100, &mut out, &mut NoWatcher) {
             Ok(ran) if ran.ending.count == 7 && out.count == 1 => CallOutcome::Made,
             Err(HostError::OutOfMemory) => CallOutcome::refused_if(out.count == 0),
             _ => CallOutcome::Wrong,
@@ -126,7 +126,7 @@ fn fill(store: &mut MemoryStore, blank: &[u8]) -> Result<(), AllocError> {
     put(store, "one.keys", KEYS)
 }
 
-/// Whether a store has the files of the run up to one of them, and none behind it.
+/// Whether a store has the files of the run up to one of them, and none after it.
 fn are_written_in_order(store: &MemoryStore, blank: &[u8]) -> bool {
     let files: [(&str, &[u8]); 4] = [
         ("one.txt", SHOWN[0]),
@@ -145,7 +145,7 @@ fn are_written_in_order(store: &MemoryStore, blank: &[u8]) -> bool {
 }
 
 fn run_over(alloc: Global, config: &Config, store: &mut MemoryStore, blank: &[u8]) -> CallOutcome {
-    let answer = run_host(alloc, config, store, &mut Unwatched);
+    let answer = run_host(alloc, config, store, &mut NoWatcher);
     let is_right = are_written_in_order(store, blank);
     match answer {
         Ok(_) if is_right && store.file("two.txt").is_some() => CallOutcome::Made,

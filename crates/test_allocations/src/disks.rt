@@ -4,11 +4,13 @@ ghost use Rattle.std.specs.Prelude.{◌≡◌, IfOk};
 
 use crate::CallOutcome;
 use cpm_disk_commands::{
-    FilingError, file_name, get_file, list_files, matching_files, new_image, put_file, remove_file,
-    rename_file, write_list,
+    DiskCommandError, file_name, get_file, list_files, matching_files, new_image, put_file,
+    remove_file, rename_file, write_list,
 };
 use cpm_geom::{Format, Image};
-use cpm_image_files::{FileName, ShelfError, from_text, get, list, put, remove, rename, to_text};
+use cpm_image_files::{
+    FileName, ImageFilesError, from_text, get, list, put, remove, rename, to_text,
+};
 use std::alloc::{AllocError, Global};
 use std::io;
 
@@ -46,26 +48,26 @@ fn disk(alloc: Global) -> Result<Image, AllocError> {
     put(alloc, &blank, &file()?, TEXT).map_err(|_| AllocError)
 }
 
-/// What came of a call on a disk, which is left alone.
-fn came<T: Drop>(answer: Result<T, ShelfError>) -> CallOutcome {
+/// The outcome of a call on a disk, which is left alone.
+fn came<T: Drop>(answer: Result<T, ImageFilesError>) -> CallOutcome {
     match answer {
         Ok(_) => CallOutcome::Made,
-        Err(ShelfError::OutOfMemory) => CallOutcome::Refused,
+        Err(ImageFilesError::OutOfMemory) => CallOutcome::Refused,
         Err(_) => CallOutcome::Wrong,
     }
 }
 
 /// The same of one that is told.
-fn told<T: Drop>(answer: Result<T, FilingError>) -> CallOutcome {
+fn told<T: Drop>(answer: Result<T, DiskCommandError>) -> CallOutcome {
     match answer {
         Ok(_) => CallOutcome::Made,
-        Err(FilingError::OutOfMemory) => CallOutcome::Refused,
+        Err(DiskCommandError::OutOfMemory) => CallOutcome::Refused,
         Err(_) => CallOutcome::Wrong,
     }
 }
 
 /// Makes the call of cpm_image_files of this name.
-pub fn of_shelf(alloc: Global, name: &str) -> Result<CallOutcome, AllocError> {
+pub fn of_image_files(alloc: Global, name: &str) -> Result<CallOutcome, AllocError> {
     let disk = disk(alloc)?;
     Ok(match name {
         "put" => came(put(alloc, &disk, &other()?, TEXT)),
@@ -73,14 +75,16 @@ pub fn of_shelf(alloc: Global, name: &str) -> Result<CallOutcome, AllocError> {
         "remove" => came(remove(alloc, &disk, &file()?)),
         "rename" => came(rename(alloc, &disk, &file()?, &other()?)),
         "list" => came(list(alloc, &disk)),
-        "to_text" => came(to_text(alloc, TEXT).map_err(|_| ShelfError::OutOfMemory)),
-        "from_text" => came(from_text(alloc, b"a\r\n\x1A").map_err(|_| ShelfError::OutOfMemory)),
+        "to_text" => came(to_text(alloc, TEXT).map_err(|_| ImageFilesError::OutOfMemory)),
+        "from_text" => came(from_text(alloc, b"a\r\n\x1A").map_err(
+            |_| ImageFilesError::OutOfMemory,
+        )),
         _ => CallOutcome::Wrong,
     })
 }
 
 /// Makes the call of cpm_disk_commands of this name.
-pub fn of_filing(alloc: Global, name: &str) -> Result<CallOutcome, AllocError> {
+pub fn of_disk_commands(alloc: Global, name: &str) -> Result<CallOutcome, AllocError> {
     let disk = disk(alloc)?;
     let (file, other) = (file()?, other()?);
     Ok(match name {
@@ -95,18 +99,18 @@ pub fn of_filing(alloc: Global, name: &str) -> Result<CallOutcome, AllocError> {
     })
 }
 
-fn renamed(alloc: Global, disk: &Image) -> Result<Image, FilingError> {
+fn renamed(alloc: Global, disk: &Image) -> Result<Image, DiskCommandError> {
     let old = file_name("letter.txt", 0, false, false)?;
     let new = file_name("other.txt", 0, false, false)?;
     rename_file(alloc, disk, IMAGE, &old, &new)
 }
 
-fn matching(alloc: Global, disk: &Image) -> Result<Vec<FileName>, FilingError> {
-    let shelf = list_files(alloc, disk, IMAGE)?;
-    matching_files(alloc, &shelf.files, IMAGE, 0, "*.txt")
+fn matching(alloc: Global, disk: &Image) -> Result<Vec<FileName>, DiskCommandError> {
+    let listing = list_files(alloc, disk, IMAGE)?;
+    matching_files(alloc, &listing.files, IMAGE, 0, "*.txt")
 }
 
-fn listed(alloc: Global, disk: &Image) -> Result<(), FilingError> {
-    let shelf = list_files(alloc, disk, IMAGE)?;
-    write_list(alloc, disk.format(), &shelf, None, &mut io::sink())
+fn listed(alloc: Global, disk: &Image) -> Result<(), DiskCommandError> {
+    let listing = list_files(alloc, disk, IMAGE)?;
+    write_list(alloc, disk.format(), &listing, None, &mut io::sink())
 }

@@ -1,4 +1,4 @@
-//! Makes the calls that take memory, `test_allocations` all of them and `test_allocations NAME` one, and prints what came of each: `made`; `refused`, where
+//! Makes the calls that take memory, `test_allocations` all of them and `test_allocations NAME` one, and prints the outcome of each: `made`; `refused`, where
 //! memory was refused, what was passed by value came back and all else was as before; or `wrong`. For `tests/allocations`, which refuses
 //! each of their allocations in turn.
 #![tactic(auto)]
@@ -16,7 +16,7 @@ use std::alloc::{AllocError, Global};
 use std::env;
 use std::process::ExitCode;
 
-/// What came of a call.
+/// The outcome of a call.
 #[derive(Clone, Copy, Debug, PartialEq, Eq)]
 pub enum CallOutcome {
     /// It did what it should.
@@ -39,7 +39,7 @@ impl CallOutcome {
         }
     }
 
-    /// That of a call that was refused for want of memory, where the rest is as it should be.
+    /// That of a call that was out of memory, where the rest is as it should be.
     pub fn refused_if(is_right: bool) -> CallOutcome {
         if is_right {
             CallOutcome::Refused
@@ -67,7 +67,7 @@ const NAMES: [&str; 45] = [
     "Console::new",
     "Image::copy",
     "Console::copy",
-    "Cpm::copy",
+    "Session::copy",
     "Machine::new",
     "Machine::with_program",
     "Machine::with_command",
@@ -117,7 +117,7 @@ fn make(alloc: Global, name: &str) -> Result<CallOutcome, AllocError> {
         "Console::new" => Ok(machines::console(alloc)),
         "Image::copy" => copies::image(alloc),
         "Console::copy" => copies::console(alloc),
-        "Cpm::copy" => copies::session(alloc),
+        "Session::copy" => copies::session(alloc),
         "Machine::new" => machines::machine(alloc),
         "Machine::with_program" => machines::machine_with_program(alloc),
         "Machine::with_command" => machines::machine_with_command(alloc),
@@ -132,7 +132,7 @@ fn make(alloc: Global, name: &str) -> Result<CallOutcome, AllocError> {
         "run_host" => commands::run(alloc),
         "judge_host" => commands::judge(alloc),
         "put" | "get" | "remove" | "rename" | "list" | "to_text" | "from_text" => {
-            disks::of_shelf(alloc, name)
+            disks::of_image_files(alloc, name)
         }
         "new_image"
         | "put_file"
@@ -140,7 +140,7 @@ fn make(alloc: Global, name: &str) -> Result<CallOutcome, AllocError> {
         | "remove_file"
         | "rename_file"
         | "matching_files"
-        | "write_list" => disks::of_filing(alloc, name),
+        | "write_list" => disks::of_disk_commands(alloc, name),
         "tail_of" => Ok(commands::tail(alloc)),
         "run_com" => commands::com(alloc),
         "run_live" => commands::live(alloc),
@@ -156,7 +156,7 @@ fn make(alloc: Global, name: &str) -> Result<CallOutcome, AllocError> {
     }
 }
 
-/// Makes the call of this name, and prints what came of it.
+/// Makes the call of this name, and prints its outcome.
 fn tell(rt: &(impl Print + AllocGlobal), name: &str) -> bool {
     let outcome = make(rt.alloc(), name).unwrap_or(CallOutcome::Unprepared);
     let word = outcome.word();

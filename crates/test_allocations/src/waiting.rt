@@ -6,7 +6,7 @@ use crate::texts::{KEYS, SOURCE};
 use cpm_flags::Cpu;
 use cpm_geom::{Format, Image};
 use cpm_host::{
-    CuedKeys, HostError, Opening, Script, SessionStart, Unwatched, cues_of, forked_cues_of,
+    CuedKeys, HostError, NoWatcher, Opening, Script, SessionStart, cues_of, forked_cues_of,
     rehearse_session, run_asm_listed, run_waiting,
 };
 use std::alloc::{AllocError, Global};
@@ -63,7 +63,7 @@ pub fn com(alloc: Global) -> Result<CallOutcome, AllocError> {
             cued,
             &mut out,
             &mut record,
-            &mut Unwatched,
+            &mut NoWatcher,
         ) {
             Ok(typed) if typed.ran.ending.count == 7 && out.count == 1 => CallOutcome::Made,
             Err(HostError::OutOfMemory) => CallOutcome::refused_if(record.count == 0),
@@ -94,7 +94,7 @@ pub fn session(alloc: Global) -> Result<CallOutcome, AllocError> {
         steps: 1000,
     };
     Ok(
-        match rehearse_session(alloc, &system, start, cued, &mut Unwatched) {
+        match rehearse_session(alloc, &system, start, cued, &mut NoWatcher) {
             Ok(typed) => CallOutcome::made_if(typed.keys.len() == 5 && typed.steps < 1000),
             Err(HostError::OutOfMemory) => CallOutcome::Refused,
             Err(_) => CallOutcome::Wrong,

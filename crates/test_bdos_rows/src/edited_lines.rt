@@ -2,7 +2,7 @@
 
 use crate::consoles::console_at;
 use crate::text::{small, taken, taken_list};
-use cpm_console::{Console, Line as Draft, LineState};
+use cpm_console::{Console, Line as EditedLine, LineState};
 use std::alloc::{AllocError, Global};
 use test_language::{RowAnswer, RowFault, RowLine, Scene, Word, byte};
 
@@ -10,7 +10,7 @@ use test_language::{RowAnswer, RowFault, RowLine, Scene, Word, byte};
 #[derive(Drop)]
 pub struct EditedLines {
     console: Console,
-    draft: Draft,
+    draft: EditedLine,
     progress: LineState,
 }
 
@@ -22,7 +22,7 @@ impl EditedLines {
         };
         let (start, limit) = (small(*start)?, small(*limit)?);
         self.console = console_at(alloc, start)?;
-        self.draft = Draft::new(start, limit);
+        self.draft = EditedLine::new(start, limit);
         self.progress = LineState::GoesOn;
         Ok(RowAnswer::Done)
     }
@@ -46,7 +46,7 @@ impl Scene for EditedLines {
     fn new(alloc: Global) -> Result<Self, AllocError> {
         Ok(EditedLines {
             console: Console::new(alloc)?,
-            draft: Draft::new(0, 0),
+            draft: EditedLine::new(0, 0),
             progress: LineState::GoesOn,
         })
     }

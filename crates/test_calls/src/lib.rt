@@ -1,4 +1,4 @@
-//! Calls that no row of text can make: they are of what is handed back with a refusal, of want of memory, of readers and writers that fail, and of laws.
+//! Calls that no row of text can make: of what is handed back with a refusal, out of memory, of readers and writers that fail, and of laws.
 #![tactic(auto)]
 
 #[cfg(test)]

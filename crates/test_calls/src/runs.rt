@@ -5,8 +5,8 @@ use cpm_asm::AsmErrorKind;
 use cpm_flags::Cpu;
 use cpm_geom::{Format, Image};
 use cpm_host::{
-    Config, DebugError, HostError, MOST_FILE, MemoryStore, Origin, Store, Unwatched, UsageError,
-    UsageFault, read_whole, run_debug, run_host, shown,
+    Config, DebugError, HostError, MOST_FILE, MemoryStore, NoWatcher, Origin, Page, Store,
+    UsageError, UsageFault, UsageRefusal, read_whole, run_debug, run_host, shown,
 };
 use cpm_machine::OpenError;
 use std::io;
@@ -70,9 +70,12 @@ fn names_code_and_status_of_words_and_files(rt: HostRuntime) {
     let reason = io::Error::other("the disk is gone");
     let errors = [
         (
-            HostError::from(UsageError::Usage(UsageFault::UnknownCommand(shown("x")))),
+            HostError::from(UsageError::Usage(UsageRefusal {
+                fault: UsageFault::UnknownCommand(shown("x")),
+                page: Page::Disk,
+            })),
             1,
-            "HO1 unknown command 'x'; try 'cpmhost --help'",
+            "HO1 unknown command 'x'; try 'cpmhost help disk'",
         ),
         (
             HostError::NotText,
@@ -228,7 +231,7 @@ fn config(rt: &(impl Abort + AllocGlobal)) -> Config {
 /// Fails unless a run is refused, before it writes anything.
 fn is_refused(rt: &(impl Abort + AllocGlobal), config: &Config) {
     let mut store = filled(rt);
-    match run_host(rt.alloc(), config, &mut store, &mut Unwatched) {
+    match run_host(rt.alloc(), config, &mut store, &mut NoWatcher) {
         Ok(_) => panic!(rt; "run"),
         Err(error) => same(rt, error.status(), 2),
     }

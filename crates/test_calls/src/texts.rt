@@ -1,4 +1,4 @@
-//! Cues that are compared, refusals for want of memory, and a law that is called.
+//! Cues that are compared, refusals if out of memory, and a law that is called.
 
 use crate::same::same;
 use cpm_script::{Cue, Key, ScriptError, read_cues};

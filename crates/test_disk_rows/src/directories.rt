@@ -110,7 +110,7 @@ impl Directories {
         )
     }
 
-    /// Does a line of one word behind its first.
+    /// Does a line of one word after its first.
     fn act_one(
         &mut self,
         alloc: Global,

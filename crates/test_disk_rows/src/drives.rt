@@ -202,7 +202,7 @@ impl DriveCaller {
         }
     }
 
-    /// Puts what stands behind the name of a function: the new name of a file, or the record that is written.
+    /// Puts what stands after the name of a function: the new name of a file, or the record that is written.
     fn prepare(
         &mut self,
         alloc: Global,
@@ -340,7 +340,7 @@ impl DriveCaller {
     }
 }
 
-/// The one number behind a first word.
+/// The one number after a first word.
 fn one_number(arguments: &[Word<'_>]) -> Result<u8, RowFault> {
     let [word] = arguments else {
         return Err(RowFault::Words);

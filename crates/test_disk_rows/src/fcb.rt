@@ -32,7 +32,7 @@ impl FcbBytes {
         Ok(RowAnswer::Done)
     }
 
-    /// `field NAME BYTES`: the field and what is behind it become so. Without bytes: what the field is.
+    /// `field NAME BYTES`: the field and what is after it become so. Without bytes: what the field is.
     pub(crate) fn field(
         &mut self,
         alloc: Global,

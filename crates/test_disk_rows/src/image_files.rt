@@ -4,7 +4,7 @@ use crate::words::{name as name_of, small, write_name};
 use cpm_drive::Drive;
 use cpm_geom::Image;
 use cpm_image_files::{
-    DiskFile, FileName, ShelfError, from_text, get, list, put, remove, rename, to_text,
+    DiskFile, FileName, ImageFilesError, from_text, get, list, put, remove, rename, to_text,
 };
 use cpm_volume::{Answer as RecordAnswer, Extent, Fcb};
 use std::alloc::{AllocError, Global};
@@ -97,12 +97,12 @@ impl ImageFiles {
         self.keep(alloc, *new, now)
     }
 
-    /// Gives the image that came of a call its name.
+    /// Gives the image that a call made its name.
     fn keep(
         &mut self,
         alloc: Global,
         name: Word<'_>,
-        image: Result<Image, ShelfError>,
+        image: Result<Image, ImageFilesError>,
     ) -> Result<RowAnswer, RowFault> {
         match image {
             Ok(image) => {
@@ -147,15 +147,15 @@ impl ImageFiles {
             return Err(RowFault::Words);
         };
         let image = self.images.copy(alloc, image.text)?;
-        let shelf = match list(alloc, &image) {
-            Ok(shelf) => shelf,
+        let listing = match list(alloc, &image) {
+            Ok(listing) => listing,
             Err(error) => return refusal(alloc, error),
         };
         let mut text = String::new(alloc);
-        for file in &shelf.files {
+        for file in &listing.files {
             write_listed(alloc, &mut text, file)?;
         }
-        let free = format!(in alloc; "{} blocks free", shelf.free_blocks)?;
+        let free = format!(in alloc; "{} blocks free", listing.free_blocks)?;
         text.push_str(free.as_str())?;
         Ok(RowAnswer::Words(text))
     }
@@ -189,11 +189,11 @@ fn read_records(
 }
 
 /// Why nothing is done, as the code names it.
-fn refusal(alloc: Global, error: ShelfError) -> Result<RowAnswer, RowFault> {
+fn refusal(alloc: Global, error: ImageFilesError) -> Result<RowAnswer, RowFault> {
     match error {
-        ShelfError::Refused(refusal) => RowAnswer::refused(alloc, refusal),
-        ShelfError::Damaged(fault) => RowAnswer::refused(alloc, fault),
-        ShelfError::OutOfMemory => Err(RowFault::OutOfMemory),
+        ImageFilesError::Refused(refusal) => RowAnswer::refused(alloc, refusal),
+        ImageFilesError::Damaged(fault) => RowAnswer::refused(alloc, fault),
+        ImageFilesError::OutOfMemory => Err(RowFault::OutOfMemory),
     }
 }
 

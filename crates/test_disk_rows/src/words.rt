@@ -38,7 +38,7 @@ pub(crate) fn name(alloc: Global, word: Word<'_>) -> Result<[u8; 11], RowFault> 
     filled(alloc, words.as_slice())
 }
 
-/// What a line answers that is done, where no word stands behind its first.
+/// What a line answers that is done, where no word stands after its first.
 pub(crate) fn done(arguments: &[Word<'_>]) -> Result<RowAnswer, RowFault> {
     if arguments.is_empty() {
         Ok(RowAnswer::Done)

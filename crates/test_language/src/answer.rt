@@ -2,7 +2,7 @@
 
 use crate::bytes::{bytes_of, write_bytes};
 use crate::fault::RowFault;
-use crate::line::{RowLine, Wanted};
+use crate::line::{Expectation, RowLine};
 use crate::word::words_of;
 use std::alloc::{AllocError, Global};
 use std::fmt::{Debug, Display};
@@ -64,17 +64,19 @@ impl RowAnswer {
     /// Whether it is what must come.
     pub(crate) fn is(&self, alloc: Global, line: &RowLine<'_>) -> Result<bool, RowFault> {
         match (self, &line.wanted) {
-            (RowAnswer::Done, wanted) => Ok(matches!(wanted, Wanted::Nothing)),
-            (RowAnswer::Refused(_), Wanted::Nothing) => Ok(false),
-            (_, Wanted::Nothing) => Ok(true),
-            (RowAnswer::Words(words) | RowAnswer::Refused(words), Wanted::Words(wanted)) => {
+            (RowAnswer::Done, wanted) => Ok(matches!(wanted, Expectation::Nothing)),
+            (RowAnswer::Refused(_), Expectation::Nothing) => Ok(false),
+            (_, Expectation::Nothing) => Ok(true),
+            (RowAnswer::Words(words) | RowAnswer::Refused(words), Expectation::Words(wanted)) => {
                 Ok(words.as_str() == *wanted)
             }
-            (RowAnswer::Words(words) | RowAnswer::Refused(words), Wanted::Text) => {
+            (RowAnswer::Words(words) | RowAnswer::Refused(words), Expectation::Text) => {
                 Ok(line.text.as_str().strip_suffix('\n') == Some(words.as_str()))
             }
-            (RowAnswer::Bytes(bytes), Wanted::Words(wanted)) => is_bytes(alloc, bytes, wanted),
-            (RowAnswer::Bytes(bytes), Wanted::Text) => Ok(line.text.as_bytes() == bytes.as_slice()),
+            (RowAnswer::Bytes(bytes), Expectation::Words(wanted)) => is_bytes(alloc, bytes, wanted),
+            (RowAnswer::Bytes(bytes), Expectation::Text) => Ok(
+                line.text.as_bytes() == bytes.as_slice(),
+            ),
         }
     }
 

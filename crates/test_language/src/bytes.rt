@@ -83,7 +83,7 @@ fn add_text(bytes: &mut Vec<u8>, text: &str) -> Result<(), RowFault> {
     Ok(())
 }
 
-/// The byte that an escape stands for, behind its `\`.
+/// The byte that an escape stands for, after its `\`.
 fn escaped(rest: &mut Iter<'_, u8>) -> Result<u8, RowFault> {
     match rest.next() {
         Some(b'r') => Ok(b'\r'),

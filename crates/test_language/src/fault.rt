@@ -9,13 +9,13 @@ pub enum RowFault {
     /// Its first word is none that rows of this kind have.
     #[error("no line of these rows begins so")]
     Unknown,
-    /// Behind its first word stand too few words, too many, or others.
+    /// After its first word stand too few words, too many, or others.
     #[error("the words behind the first one are not those of this line")]
     Words,
     /// A quote is not closed.
     #[error("a quote is not closed")]
     Quote,
-    /// Behind the equals sign there is nothing.
+    /// After the equals sign there is nothing.
     #[error("an answer is wanted behind the equals sign: no bytes are \"\"")]
     NoAnswer,
     /// The text between marks is not one that this line takes, or its words are given beside it.

@@ -8,12 +8,12 @@ use std::alloc::Global;
 
 /// What a line must answer.
 #[derive(Clone, Copy)]
-pub enum Wanted<'a> {
+pub enum Expectation<'a> {
     /// Anything but a refusal.
     Nothing,
     /// These words, or the bytes that they stand for.
     Words(&'a str),
-    /// The text between the marks behind the line.
+    /// The text between the marks after the line.
     Text,
 }
 
@@ -25,8 +25,8 @@ pub struct RowLine<'a> {
     /// The words before the equals sign.
     pub words: Vec<Word<'a>>,
     /// What must come.
-    pub wanted: Wanted<'a>,
-    /// The text between the marks behind it, each of its lines with its end.
+    pub wanted: Expectation<'a>,
+    /// The text between the marks after it, each of its lines with its end.
     pub text: String,
     /// Whether such a text follows.
     pub has_text: bool,
@@ -34,11 +34,11 @@ pub struct RowLine<'a> {
     pub fault: Option<RowFault>,
 }
 
-/// Why what is wanted can't be compared: nothing stands behind the equals sign.
-fn fault_of(wanted: Wanted<'_>, has_text: bool) -> Option<RowFault> {
+/// Why what is wanted can't be compared: nothing stands after the equals sign.
+fn fault_of(wanted: Expectation<'_>, has_text: bool) -> Option<RowFault> {
     match wanted {
-        Wanted::Words(words) if words.is_empty() => Some(RowFault::NoAnswer),
-        Wanted::Text if !has_text => Some(RowFault::NoAnswer),
+        Expectation::Words(words) if words.is_empty() => Some(RowFault::NoAnswer),
+        Expectation::Text if !has_text => Some(RowFault::NoAnswer),
         _ => None,
     }
 }
@@ -51,10 +51,10 @@ impl<'a> RowLine<'a> {
             None => (text, false),
         };
         let (done, wanted) = match done.split_once(" = ") {
-            Some((done, wanted)) => (done, Wanted::Words(wanted)),
+            Some((done, wanted)) => (done, Expectation::Words(wanted)),
             None => match done.strip_suffix(" =") {
-                Some(done) => (done, Wanted::Text),
-                None => (done, Wanted::Nothing),
+                Some(done) => (done, Expectation::Text),
+                None => (done, Expectation::Nothing),
             },
         };
         let (words, fault) = match words_of(alloc, done) {
@@ -87,7 +87,7 @@ impl<'a> RowLine<'a> {
 
     /// Whether the text between marks is what it is given, and not what it must answer.
     fn is_given_text(&self) -> bool {
-        self.has_text && !matches!(self.wanted, Wanted::Text)
+        self.has_text && !matches!(self.wanted, Expectation::Text)
     }
 
     /// How often it is done: as often as a first word says that is a number and `*`, else once.
@@ -98,7 +98,7 @@ impl<'a> RowLine<'a> {
         }
     }
 
-    /// The words behind such a number.
+    /// The words after such a number.
     fn plain_words(&self) -> &[Word<'a>] {
         match self.words.as_slice() {
             [first, rest @ ..] if times_of(*first).is_some() => rest,
@@ -114,7 +114,7 @@ impl<'a> RowLine<'a> {
         }
     }
 
-    /// The words behind the first one.
+    /// The words after the first one.
     pub fn arguments(&self) -> &[Word<'a>] {
         match self.plain_words() {
             [_, rest @ ..] => rest,
@@ -122,7 +122,7 @@ impl<'a> RowLine<'a> {
         }
     }
 
-    /// The bytes of what is given: the text between the marks behind the line, or those that words of it stand for.
+    /// The bytes of what is given: the text between the marks after the line, or those that words of it stand for.
     pub fn given(&self, alloc: Global, words: &[Word<'_>]) -> Result<Vec<u8>, RowFault> {
         if self.is_given_text() {
             if !words.is_empty() {

@@ -2,7 +2,7 @@
 
 use crate::answer::RowAnswer;
 use crate::fault::RowFault;
-use crate::line::{RowLine, Wanted};
+use crate::line::{Expectation, RowLine};
 use crate::scene::Scene;
 use std::alloc::{AllocError, Global};
 
@@ -21,7 +21,7 @@ struct Row<'a, S: Scene> {
     scene: S,
     has_expectation: bool,
     has_failed: bool,
-    /// Whether a line stands behind the one that failed.
+    /// Whether a line stands after the one that failed.
     goes_on: bool,
 }
 
@@ -111,7 +111,7 @@ impl<'a, S: Scene> RowRunner<'a, S> {
             row.goes_on = true;
             return Ok(());
         }
-        if !matches!(line.wanted, Wanted::Nothing) {
+        if !matches!(line.wanted, Expectation::Nothing) {
             row.has_expectation = true;
             self.tally.expectations = self.tally.expectations.saturating_add(1);
         }
@@ -159,9 +159,9 @@ impl<'a, S: Scene> RowRunner<'a, S> {
         let told = format!(in self.alloc; "{}:{number}: {name}\n    came:   {came}\n", self.file)?;
         self.told.push_str(told.as_str())?;
         match line.wanted {
-            Wanted::Nothing => Ok(()),
-            Wanted::Words(wanted) => self.tell_wanted(wanted),
-            Wanted::Text => self.tell_wanted(line.text.as_str()),
+            Expectation::Nothing => Ok(()),
+            Expectation::Words(wanted) => self.tell_wanted(wanted),
+            Expectation::Text => self.tell_wanted(line.text.as_str()),
         }
     }
 
@@ -185,7 +185,7 @@ impl<'a, S: Scene> RowRunner<'a, S> {
     }
 }
 
-/// Does a line, as often as it says. What came of it, in words, where once it is not what must come.
+/// Does a line, as often as it says. The result, in words, where once it is not what must come.
 fn done_wrongly<S: Scene>(
     alloc: Global,
     scene: &mut S,
@@ -203,7 +203,7 @@ fn done_wrongly<S: Scene>(
     Ok(None)
 }
 
-/// What came of a line, in words, where it is not what must come.
+/// The result of a line, in words, where it is not what must come.
 fn came_wrongly(
     alloc: Global,
     line: &RowLine<'_>,

@@ -27,7 +27,7 @@ pub fn words_of(alloc: Global, text: &str) -> Result<Vec<Word<'_>>, RowFault> {
         }
         is_quoted = !is_quoted;
     }
-    // behind the last part it is what stands in quotes next, unless a quote is open
+    // after the last part it is what stands in quotes next, unless a quote is open
     if is_quoted {
         Ok(words)
     } else {

@@ -8,7 +8,7 @@ mod sources;
 pub use listings::Listings;
 pub use sources::Sources;
 
-/// The first bytes of some, with zeros behind them where they are fewer.
+/// The first bytes of some, with zeros after them where they are fewer.
 fn filled<const N: usize>(start: &[u8]) -> [u8; N] {
     let mut bytes = [0; N];
     for (place, byte) in bytes.iter_mut().enumerate() {

@@ -156,7 +156,7 @@ fn length(alloc: Global, arguments: &[Word<'_>]) -> Result<RowAnswer, RowFault> 
     }
 }
 
-/// At most so many bytes that words stand for, with zeros behind them.
+/// At most so many bytes that words stand for, with zeros after them.
 fn few_bytes<const N: usize>(alloc: Global, words: &[Word<'_>]) -> Result<[u8; N], RowFault> {
     let bytes = bytes_of(alloc, words)?;
     if bytes.is_empty() || bytes.len() > N {

@@ -5,7 +5,7 @@ use crate::machines::cpu_of;
 use crate::shown::{TakenBytes, room};
 use cpm_geom::{Format, Image};
 use cpm_machine::{Look, Opening};
-use cpm_slots::{Event, Host, Reply, Request, SlotId};
+use cpm_slots::{Event, Host, LEAST_FRAMES, MOST_FRAMES, Reply, Request, SlotId};
 use std::alloc::{AllocError, Global};
 use test_images::Images;
 use test_language::{
@@ -61,7 +61,7 @@ impl Hosts {
             return Err(RowFault::Words);
         };
         let frames = number(*frames)?;
-        if frames < 16 || frames > 16_384 {
+        if frames < u64::from(LEAST_FRAMES) || frames > u64::from(MOST_FRAMES) {
             return Err(RowFault::Unready);
         }
         let system = Image::blank(alloc, Format::Ibm3740)?;
@@ -121,7 +121,7 @@ fn slot_of(word: Word<'_>) -> Result<SlotId, RowFault> {
     Ok(SlotId(number(word)?))
 }
 
-/// What the words behind a slot ask of it.
+/// What the words after a slot ask of it.
 fn request_of(words: &[Word<'_>]) -> Result<Request, RowFault> {
     let [verb, rest @ ..] = words else {
         return Err(RowFault::Words);

@@ -36,7 +36,7 @@ pub struct Machines {
     pub play: Play,
 }
 
-/// How a machine is played, and what came of it.
+/// How a machine is played, and the result.
 #[derive(Drop)]
 pub struct Play {
     pub waits_from: u64,

@@ -4,7 +4,7 @@ use crate::machines::{MachineParts, Machines};
 use cpm_geom::Image;
 use cpm_machine::Machine;
 use cpm_play::laws::scripts_in_order;
-use cpm_play::{CuedKeys, Live, Unwatched, play_cues, play_live, play_machine};
+use cpm_play::{CuedKeys, Live, NoWatcher, play_cues, play_live, play_machine};
 use cpm_script::laws::cues_in_order;
 use cpm_script::{read_cues, read_keys};
 use std::alloc::Global;
@@ -153,7 +153,7 @@ fn by_script(
         cued,
         &mut text,
         &mut record,
-        &mut Unwatched,
+        &mut NoWatcher,
     ) {
         Ok(Live { steps, .. }) => Ok(PlayedMachine {
             machine,
@@ -220,7 +220,7 @@ fn by_record(
         keys.as_slice(),
         steps,
         &mut text,
-        &mut Unwatched,
+        &mut NoWatcher,
     ) {
         Ok(()) => Ok((machine, text)),
         Err(_) => Err(RowFault::OutOfMemory),

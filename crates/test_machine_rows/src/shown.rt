@@ -3,7 +3,7 @@
 use std::alloc::Global;
 use test_language::{RowAnswer, RowFault, Word, byte, count};
 
-/// How many bytes are taken where a line doesn't say so: more than a device keeps.
+/// How many bytes are taken where a line doesn't say so: all that a device holds.
 const ROOM: usize = 8192;
 
 /// Room for the bytes that a line takes.

@@ -2,7 +2,7 @@
 
 ghost use Rattle.std.specs.Prelude.{IfOk, ◌≤◌};
 
-use cpm_memory::{FlatMemory, FrameStore, MemError, Memory, TableId};
+use cpm_memory::{FlatMemory, FrameStore, MOST_FRAMES, MemError, Memory, TableId};
 use std::alloc::{AllocError, Global};
 use test_language::{RowAnswer, RowFault, RowLine, Scene, Word, address, byte, count, number};
 
@@ -65,7 +65,7 @@ impl Memories {
             return Err(RowFault::Words);
         };
         let frames = number(*frames)?;
-        if frames > 16_384 {
+        if frames > u64::from(MOST_FRAMES) {
             return Err(RowFault::Unready);
         }
         self.store = Some(FrameStore::new(alloc, frames as u16)?);
@@ -302,7 +302,7 @@ fn use_memory<M: Memory>(
     }
 }
 
-/// Stores a byte at an address, and at the same place of the pages behind, so many in all.
+/// Stores a byte at an address, and at the same place of the pages after it, so many in all.
 fn set<M: Memory>(memory: &mut M, at: u16, value: u8, pages: u16) -> Result<RowAnswer, RowFault> {
     let mut at = at;
     for _ in 0..pages {

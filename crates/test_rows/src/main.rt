@@ -10,8 +10,8 @@ use std::process::ExitCode;
 use std::rt::Files;
 use std::{env, fs};
 use test_bdos_rows::{Calls, Commands, Consoles, EditedLines};
+use test_disk_command_rows::{Batches, DiskCommands, Stores};
 use test_disk_rows::{Directories, Drives, ImageFiles, ImageLines, OneDrive};
-use test_filing_rows::{Batches, DiskCommands, Stores};
 use test_language::{Tally, run_rows};
 use test_listing_rows::{Listings, Sources};
 use test_machine_rows::{Hosts, Machines};
@@ -19,7 +19,7 @@ use test_memory_rows::{Instructions, Memories};
 use test_run_rows::{Programs, Runs};
 use test_text_rows::{CommandLines, Configurations, Scripts};
 
-/// What came of a file: its rows, and what is told of those that are not as they should be.
+/// The result of a file: its rows, and what is reported of those that are not as they should be.
 #[derive(Drop)]
 struct FileOutcome {
     tally: Tally,
@@ -131,7 +131,7 @@ fn run_all(rt: &(impl Files + Print + AllocGlobal), files: &[String]) -> Result<
     Ok(failed == 0 && rows > 0 && said.is_ok())
 }
 
-/// The words of the command line behind the program's own name.
+/// The words of the command line after the program's own name.
 fn words(rt: &(impl Env + AllocGlobal)) -> Result<Vec<String>, AllocError> {
     match env::args(rt) {
         Ok(words) => words.skip(1).collect(rt.alloc()),

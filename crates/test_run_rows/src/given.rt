@@ -7,7 +7,7 @@ use std::alloc::Global;
 use test_images::Images;
 use test_language::{RowAnswer, RowFault, RowLine, Word, bytes_of, count, number};
 
-/// The bytes that words stand for, or the text behind the line, or with `image NAME` the bytes of an image.
+/// The bytes that words stand for, or the text after the line, or with `image NAME` the bytes of an image.
 pub(crate) fn bytes_given(
     alloc: Global,
     images: &Images,
@@ -80,7 +80,7 @@ impl Programs {
         }
     }
 
-    /// `tail "WORD" ..`: the words behind the program's name. Its text.
+    /// `tail "WORD" ..`: the words after the program's name. Its text.
     pub(crate) fn tail(
         &mut self,
         alloc: Global,

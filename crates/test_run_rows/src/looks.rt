@@ -1,4 +1,4 @@
-//! What came of the last command.
+//! The result of the last command.
 
 use crate::programs::Programs;
 use cpm_geom::Image;
@@ -7,7 +7,7 @@ use std::alloc::Global;
 use test_language::{RowAnswer, RowFault, RowLine, Word, count};
 
 impl Programs {
-    /// Does a line that asks what came of the last command.
+    /// Does a line that asks for the result of the last command.
     pub(crate) fn look(&self, alloc: Global, line: &RowLine<'_>) -> Result<RowAnswer, RowFault> {
         let arguments = line.arguments();
         match line.verb() {

@@ -3,7 +3,7 @@
 use crate::programs::Programs;
 use cpm_geom::Image;
 use cpm_host::{
-    CuedKeys, HostError, LiveResult, MOST_KEYS, ProgramStart, Script, Unwatched, cues_of, run_com,
+    CuedKeys, HostError, LiveResult, MOST_KEYS, NoWatcher, ProgramStart, Script, cues_of, run_com,
     run_live, run_waiting,
 };
 use std::alloc::Global;
@@ -53,7 +53,7 @@ impl Programs {
         })
     }
 
-    /// Keeps what came of a program or a session, and answers how it ended.
+    /// Keeps the result of a program or a session, and answers how it ended.
     pub(crate) fn keep(
         &mut self,
         alloc: Global,
@@ -94,7 +94,7 @@ impl Programs {
             script,
             self.steps,
             &mut self.out,
-            &mut Unwatched,
+            &mut NoWatcher,
         )?;
         Ok(LiveResult {
             steps: ran.ending.count,
@@ -118,7 +118,7 @@ impl Programs {
             stops_idle,
         };
         let (out, record) = (&mut self.out, &mut self.record);
-        run_waiting(alloc, start, self.steps, cued, out, record, &mut Unwatched)
+        run_waiting(alloc, start, self.steps, cued, out, record, &mut NoWatcher)
     }
 
     /// `type BYTES`: these keys are typed at the program. How it ended.
@@ -145,7 +145,7 @@ impl Programs {
             Some(script),
             typed.steps,
             &mut again,
-            &mut Unwatched,
+            &mut NoWatcher,
         ) {
             Ok(ran) => {
                 let is_same = ran.ending == typed.ran.ending

@@ -12,7 +12,7 @@ use test_language::{RowAnswer, RowFault, RowLine, Scene};
 /// How many steps a program has where no line says it.
 const STEPS: u64 = 1_000_000;
 
-/// What a command is given, and what came of the last one.
+/// What a command is given, and the result of the last one.
 #[derive(Drop)]
 pub struct Programs {
     pub(crate) images: Images,

@@ -3,7 +3,7 @@
 use crate::config::changed;
 use crate::given::{bytes_given, count_of};
 use cpm_geom::Image;
-use cpm_host::{Config, HostError, MemoryStore, Report, Store, Unwatched, judge_host, run_host};
+use cpm_host::{Config, HostError, MemoryStore, NoWatcher, Report, Store, judge_host, run_host};
 use std::alloc::{AllocError, Global};
 use test_images::Images;
 use test_language::{RowAnswer, RowFault, RowLine, Scene, Word, number};
@@ -11,7 +11,7 @@ use test_language::{RowAnswer, RowFault, RowLine, Scene, Word, number};
 /// The exit status of a configuration that is refused.
 const CONFIG_REFUSED: u8 = 2;
 
-/// The files and the configuration of a run, and what came of the last one.
+/// The files and the configuration of a run, and the result of the last one.
 #[derive(Drop)]
 pub struct Runs {
     images: Images,
@@ -63,10 +63,10 @@ impl Scene for Runs {
 /// Runs the sessions of a configuration.
 fn run(alloc: Global, config: &[u8], store: &mut MemoryStore) -> Result<Report, HostError> {
     let config = Config::read(alloc, config)?;
-    Ok(run_host(alloc, &config, store, &mut Unwatched)?)
+    Ok(run_host(alloc, &config, store, &mut NoWatcher)?)
 }
 
-/// The status of what came of a run, 0 where it was run.
+/// The status of the result of a run, 0 where it was run.
 fn status_of(outcome: &Result<Report, HostError>) -> u8 {
     match outcome {
         Ok(_) => 0,
@@ -87,7 +87,7 @@ fn report_lines(alloc: Global, report: &Report) -> Result<String, RowFault> {
 }
 
 impl Runs {
-    /// `config`, with lines behind it: adds them to the configuration.
+    /// `config`, with lines after it: adds them to the configuration.
     fn add(&mut self, line: &RowLine<'_>) -> Result<RowAnswer, RowFault> {
         self.config.push_str(line.text.as_str())?;
         Ok(RowAnswer::Done)

@@ -5,7 +5,7 @@ use crate::played::{KEYS, script_of};
 use crate::programs::Programs;
 use cpm_geom::{Format, Image};
 use cpm_host::{
-    CuedKeys, HostError, LiveResult, Opening, SessionStart, Unwatched, cues_of, forked_cues_of,
+    CuedKeys, HostError, LiveResult, NoWatcher, Opening, SessionStart, cues_of, forked_cues_of,
     rehearse_session, type_session,
 };
 use std::alloc::Global;
@@ -74,7 +74,7 @@ impl Programs {
             stops_idle: true,
         };
         let system = Image::blank(alloc, Format::Ibm3740)?;
-        rehearse_session(alloc, &system, start, cued, &mut Unwatched)
+        rehearse_session(alloc, &system, start, cued, &mut NoWatcher)
     }
 
     /// `fork-keys N`: what a session plays that is forked at this count, by the scripts of its parent and its own.

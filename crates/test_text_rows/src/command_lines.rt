@@ -1,11 +1,11 @@
 //! Command lines: the tasks that they name, or their refusals.
 
 use crate::tasks::shown_task;
-use cpm_command_line::{VERSION, asks_version, command, help, page_asked, page_text};
+use cpm_command_line::{Task, VERSION, asks_version, command};
 use std::alloc::{AllocError, Global};
 use test_language::{RowAnswer, RowFault, RowLine, Scene, Word, bytes_of};
 
-/// Command lines have nothing behind them that they work on.
+/// Rows of command lines work on nothing that is kept.
 #[derive(Drop)]
 pub struct CommandLines;
 
@@ -47,10 +47,9 @@ fn named(alloc: Global, words: &[Word<'_>]) -> Result<RowAnswer, RowFault> {
 fn asked(alloc: Global, words: &[Word<'_>]) -> Result<RowAnswer, RowFault> {
     let texts = texts_of(alloc, words)?;
     let words = borrowed(alloc, texts.as_slice())?;
-    match (page_asked(words.as_slice()), help(words.as_slice())) {
-        (Some(page), Some(text)) if text == page_text(page) => RowAnswer::name(alloc, page),
-        (None, None) => RowAnswer::truth(alloc, false),
-        _ => RowAnswer::words(alloc, "another text"),
+    match command(alloc, words.as_slice()) {
+        Ok(Task::Help(page)) => RowAnswer::name(alloc, page),
+        _ => RowAnswer::truth(alloc, false),
     }
 }
 

@@ -111,7 +111,7 @@ impl Configurations {
     }
 
     /// `prefixes`: the fewest and the most sessions of the beginnings of the text that are read; the others are refused, and not
-    /// for want of memory.
+    /// because of memory.
     fn read_prefixes(&self, alloc: Global) -> Result<RowAnswer, RowFault> {
         let (mut least, mut most, mut refused) = (usize::MAX, 0, 0);
         let bytes = self.text.as_slice();

@@ -13,7 +13,7 @@ pub use scripts::Scripts;
 use std::alloc::Global;
 use test_language::RowFault;
 
-/// Adds values in quotes behind what they are, where there are some.
+/// Adds values in quotes after what they are, where there are some.
 fn add_texts(alloc: Global, out: &mut String, name: &str, values: &[&str]) -> Result<(), RowFault> {
     if values.is_empty() {
         return Ok(());
@@ -25,7 +25,7 @@ fn add_texts(alloc: Global, out: &mut String, name: &str, values: &[&str]) -> Re
     Ok(())
 }
 
-/// Adds a value in quotes behind what it is, where there is one.
+/// Adds a value in quotes after what it is, where there is one.
 fn add_text(
     alloc: Global,
     out: &mut String,

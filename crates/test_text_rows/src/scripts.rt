@@ -59,7 +59,7 @@ impl Scene for Scripts {
 }
 
 impl Scripts {
-    /// `first N`: the script ends behind so many bytes.
+    /// `first N`: the script ends after so many bytes.
     fn cut(&mut self, arguments: &[Word<'_>]) -> Result<RowAnswer, RowFault> {
         let [bytes] = arguments else {
             return Err(RowFault::Words);
@@ -179,7 +179,7 @@ fn shown_key(alloc: Global, key: Key) -> Result<String, AllocError> {
     format!(in alloc; "{count} {byte:02X}")
 }
 
-/// Adds an item behind those before it.
+/// Adds an item after those before it.
 fn add_item(out: &mut String, item: &str) -> Result<(), AllocError> {
     if !out.is_empty() {
         out.push_str(", ")?;

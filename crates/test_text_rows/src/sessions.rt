@@ -49,7 +49,7 @@ fn add_origin(alloc: Global, out: &mut String, origin: &Origin) -> Result<(), Ro
     }
 }
 
-/// Adds names in quotes behind what they are.
+/// Adds names in quotes after what they are.
 fn add_names(
     alloc: Global,
     out: &mut String,

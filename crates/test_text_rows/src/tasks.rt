@@ -32,6 +32,9 @@ pub fn shown_task(alloc: Global, task: &Task<'_>) -> Result<String, RowFault> {
             add_text(alloc, &mut out, " list", *list)?;
         }
         Task::Disk(task) => add_disk(alloc, &mut out, task)?,
+        Task::Help(page) => {
+            out.push_str(format!(in alloc; "help {page:?}")?.as_str())?;
+        }
     }
     Ok(out)
 }

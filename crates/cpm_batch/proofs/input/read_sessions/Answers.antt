@@ -2,7 +2,7 @@ use Rattle.std.proofs.Common.{◌≡◌, List, None, ap, map, subst, sym}
 use Rattle.std.proofs.lemmas.Result.{err_from_is_err_and}
 use Rattle.cpm_config.specs.Rules.{fork_field_fault, session_view}
 use Rattle.cpm_store.proofs.LogLemmas.{unwritten_more}
-use Rattle.cpm_store.specs.Log.{RanBy}
+use Rattle.cpm_store.specs.Log.{LogLeadsBy}
 use Rattle.cpm_batch.specs.Inputs.{HasInput, given, needs_of}
 use Rattle.cpm_batch.specs.Reads.{IsInputRead}
 use Rattle.cpm_batch.specs.declared.input.Input.{Input}
@@ -58,7 +58,7 @@ loop-session-preserved g c =
     let before = c.as_slice.ensures.value in
     let same = c.in_ok-input.ensures.store.same in
     let input = subst (λ (b : List Input). HasInput now (map given b) (given x)) before c.in_ok-input.ensures.input in
-    let log = subst (λ (b : List Input). RanBy does (IsInputRead (map given b) (given x)) c.loop-session.store c.read_session.new.store) before c.in_ok-input.ensures.log in
+    let log = subst (λ (b : List Input). LogLeadsBy does (IsInputRead (map given b) (given x)) c.loop-session.store c.read_session.new.store) before c.in_ok-input.ensures.log in
     record {
       inputs = inputs_as next now (map given c.push.new.self.items) (sym same) (inputs_more now is c.push.new.self.items x c.in_ok-push.ensures.items i.inputs input);
       forks = forks_stand c.args.sessions.now c.loop-session.session-index c.session-item.result c.loop-session-test.true c.session-item.is i.forks;

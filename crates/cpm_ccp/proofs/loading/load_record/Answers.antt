@@ -1,7 +1,7 @@
 use Rattle.std.proofs.Common.{◌≡◌, List, ℕ, Ok, ap, sym, ◌∙◌, arith}
 use Rattle.std.proofs.lemmas.List.{take_all}
 use Rattle.cpm_drives.specs.Calls.{FileCall}
-use Rattle.cpm_bdos.specs.Did.{did}
+use Rattle.cpm_bdos.specs.StepResult.{did}
 use Rattle.cpm_bdos.specs.declared.session.Session.{Session}
 use Rattle.cpm_bdos.specs.declared.session.Went.TheVariants.{GoesOn}
 use Rattle.cpm_ccp.specs.Parts.{record_read, with_call}

@@ -1,5 +1,5 @@
 use Rattle.std.proofs.Common.{◌∙◌, ap, sym}
-use Rattle.cpm_debug.specs.Dialog.{Pressed, keys_in_text, press}
+use Rattle.cpm_debug.specs.Dialog.{PressResult, keys_in_text, press}
 use Rattle.cpm_debug.proofs.PressLemmas.{keys_in-front, none_first, press_accepted, press_refused, rest_keys}
 use Rattle.cpm_debug.proofs.press.press.Goals as goal
 
@@ -25,7 +25,7 @@ returns-in-Err-clause-accepted c =
     let first = sym c.in-Some.ensures in
     let is = ap (λ ks. press ks c.loop-key.machine) (keys_in-front rest key after first c.loop-key.invariant.keys)
     ∙ press_refused key (keys_in_text after) c.loop-key.machine c.in-Err.ensures.refused.0 in
-    ap (λ (p : Pressed). p.accepted) (sym is ∙ c.loop-key.invariant.same)
+    ap (λ (p : PressResult). p.accepted) (sym is ∙ c.loop-key.invariant.same)
 
 pub returns-in-Err-clause-state : goal.returns-in-Err-clause-state
 returns-in-Err-clause-state c =
@@ -35,9 +35,9 @@ returns-in-Err-clause-state c =
     let first = sym c.in-Some.ensures in
     let is = ap (λ ks. press ks c.loop-key.machine) (keys_in-front rest key after first c.loop-key.invariant.keys)
     ∙ press_refused key (keys_in_text after) c.loop-key.machine c.in-Err.ensures.refused.0 in
-    c.in-Err.ensures.refused.1 ∙ ap (λ (p : Pressed). p.state) (sym is ∙ c.loop-key.invariant.same)
+    c.in-Err.ensures.refused.1 ∙ ap (λ (p : PressResult). p.state) (sym is ∙ c.loop-key.invariant.same)
 
 pub returns-clause-state : goal.returns-clause-state
 returns-clause-state c =
     let none = none_first c.loop-key.rest.now (sym c.in_default.ensures) c.loop-key.invariant.keys in
-    ap (λ (p : Pressed). p.state) (ap (λ ks. press ks c.loop-key.machine) (sym none) ∙ c.loop-key.invariant.same)
+    ap (λ (p : PressResult). p.state) (ap (λ ks. press ks c.loop-key.machine) (sym none) ∙ c.loop-key.invariant.same)

@@ -1,6 +1,6 @@
 use Rattle.std.proofs.Common.{ap, ◌∙◌}
 use Rattle.std.proofs.lemmas.Result.{err_from_is_err_and}
-use Rattle.cpm_drive.specs.Drive.{Called}
+use Rattle.cpm_drive.specs.Drive.{CallResult}
 use Rattle.cpm_drives.specs.Files.{write_next_on, by_record}
 use Rattle.cpm_drives.proofs.CallLemmas.{written}
 use Rattle.cpm_drives.proofs.own.write_next.Goals as goal
@@ -14,4 +14,4 @@ returns-in_err-may_write_file c =
 pub returns : goal.returns
 unfolding write_next_on
 returns c =
-    rw c.code_of.ensures (ap (λ (o : Called). by_record o) c.write_next.ensures ∙ written c.args.drive.now c.args.fcb.now c.args.buffer.now _ c.in_ok-may_write_file.ensures)
+    rw c.code_of.ensures (ap (λ (o : CallResult). by_record o) c.write_next.ensures ∙ written c.args.drive.now c.args.fcb.now c.args.buffer.now _ c.in_ok-may_write_file.ensures)

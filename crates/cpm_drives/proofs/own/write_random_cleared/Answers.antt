@@ -1,7 +1,7 @@
 use Rattle.std.proofs.Common.{ap, refl, ◌∙◌}
 use Rattle.std.proofs.lemmas.Result.{err_from_is_err_and}
 use Rattle.std.proofs.lemmas.Bool.{ne_eqb}
-use Rattle.cpm_drive.specs.Drive.{Called}
+use Rattle.cpm_drive.specs.Drive.{CallResult}
 use Rattle.cpm_drives.specs.Files.{write_random_cleared_on, by_record}
 use Rattle.cpm_drives.proofs.CallLemmas.{written, within}
 use Rattle.cpm_drives.proofs.own.write_random_cleared.Goals as goal
@@ -20,4 +20,4 @@ returns-then-fcb-ne0 c =
 pub returns : goal.returns
 unfolding write_random_cleared_on
 returns c =
-    rw (← c.random_number.ensures, c.code_of.ensures) (ap (λ (o : Called). by_record o) c.write_random_cleared.ensures ∙ (within c.args.drive.now c.args.fcb.now c.args.buffer.now _ c.if-fcb-ne0.false ∙ written c.args.drive.now c.args.fcb.now c.args.buffer.now _ c.in_ok-may_write_file.ensures))
+    rw (← c.random_number.ensures, c.code_of.ensures) (ap (λ (o : CallResult). by_record o) c.write_random_cleared.ensures ∙ (within c.args.drive.now c.args.fcb.now c.args.buffer.now _ c.if-fcb-ne0.false ∙ written c.args.drive.now c.args.fcb.now c.args.buffer.now _ c.in_ok-may_write_file.ensures))

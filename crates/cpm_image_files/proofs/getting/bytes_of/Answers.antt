@@ -1,6 +1,6 @@
 use Rattle.std.proofs.Common.{◌≡◌, ◌≢◌, ◌+◌, ◌-◌, sym, ap, ◌∙◌, arith}
 use Rattle.cpm_volume.specs.Files.{deleted}
-use Rattle.cpm_image_files.specs.Shelf.{record_on}
+use Rattle.cpm_image_files.specs.ImageFiles.{record_on}
 use Rattle.cpm_image_files.specs.Taken.{taken_record, HasRecords}
 use Rattle.cpm_image_files.specs.Reach.{IsEntryOf}
 use Rattle.cpm_image_files.proofs.GettingLemmas.{more_records, record_is, known_on_drive}

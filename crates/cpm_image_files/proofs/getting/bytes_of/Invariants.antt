@@ -1,5 +1,5 @@
 use Rattle.std.proofs.Common.{◌≡◌, ◌<◌, ◌*◌, ◌-◌, ℕ, length, take, drop}
-use Rattle.cpm_image_files.specs.Shelf.{record_on}
+use Rattle.cpm_image_files.specs.ImageFiles.{record_on}
 use Rattle.cpm_image_files.specs.Taken.{taken_record}
 use Rattle.cpm_image_files.specs.Reach.{IsEntryOf}
 use Rattle.cpm_image_files.proofs.getting.bytes_of.Given as goal

@@ -6,7 +6,7 @@ use Rattle.cpm_volume.specs.declared.extent.Entry.{Entry}
 use Rattle.cpm_volume.specs.Files.{InUse}
 use Rattle.cpm_directory.specs.Directory.{entries_of}
 use Rattle.cpm_directory.proofs.DriveLemmas.{last_entry_small, entries_length}
-use Rattle.cpm_image_files.specs.Shelf.{entry_on}
+use Rattle.cpm_image_files.specs.ImageFiles.{entry_on}
 use Rattle.cpm_image_files.specs.Listing.{lists, AreListed}
 use Rattle.cpm_image_files.specs.declared.listing.DiskFile.{DiskFile}
 use Rattle.cpm_image_files.proofs.ListingLemmas.{unused_entry, listed_entry, new_entry}

@@ -7,7 +7,7 @@ use Rattle.cpm_geom.specs.declared.dpb.Dpb.{Dpb}
 use Rattle.cpm_volume.specs.Files.{entry_at, no_entry}
 use Rattle.cpm_directory.specs.Directory.{entries_of}
 use Rattle.cpm_directory.proofs.DriveLemmas.{last_entry_small, entries_length}
-use Rattle.cpm_image_files.specs.Shelf.{is_free_for, free_entries}
+use Rattle.cpm_image_files.specs.ImageFiles.{is_free_for, free_entries}
 use Rattle.cpm_image_files.proofs.Counting.{counted_below}
 use Rattle.cpm_image_files.proofs.needs.free_entries.Goals as goal
 use Rattle.cpm_image_files.proofs.needs.free_entries.Goals.{then-is_free_for, else-is_free_for}

@@ -1,7 +1,7 @@
 use Rattle.std.proofs.Common.{◌≡◌, ◌<◌, length, arith}
 use Rattle.cpm_geom.specs.Geometry.{dpb_of}
 use Rattle.cpm_directory.specs.Directory.{entries_of}
-use Rattle.cpm_image_files.specs.Shelf.{records_for}
+use Rattle.cpm_image_files.specs.ImageFiles.{records_for}
 use Rattle.cpm_image_files.specs.Writing.{IsWriting}
 use Rattle.cpm_image_files.proofs.Amounts.{room_of}
 use Rattle.cpm_image_files.proofs.StartLemmas.{is_writable, has_room, is_started}

@@ -1,10 +1,10 @@
 use Rattle.std.proofs.Common.{◌≡◌, false}
-use Rattle.cpm_play.specs.Players.{HasCome, has_fork, players_left}
+use Rattle.cpm_play.specs.Players.{HaveBecome, has_fork, players_left}
 use Rattle.cpm_play.proofs.rounds.play.Given as goal
 
 abbrev pub invariant-loop-alloc : goal.invariant-loop-alloc
 invariant-loop-alloc g l = record {
-  come : HasCome l.fn.host.host l.host.host l.fn.players l.players;
+  come : HaveBecome l.fn.host.host l.host.host l.fn.players l.players;
   none : l.may_fork ≡ false → has_fork l.players ≡ false;
 }
 

@@ -6,7 +6,7 @@ use Rattle.cpm_slots.specs.Host.{Host}
 use Rattle.cpm_slots.specs.HostWithStore.{HostWithStore}
 use Rattle.cpm_play.specs.declared.player.Player.{Player}
 use Rattle.cpm_play.specs.declared.player.Player.TheVariants.{Playing}
-use Rattle.cpm_play.specs.Players.{HasCome, has_fork}
+use Rattle.cpm_play.specs.Players.{HaveBecome, has_fork}
 use Rattle.cpm_play.proofs.RoundLemmas.{IsLeft, IsTurn, come-turn, left-over, left-round, left-turn, left-waits, none-set}
 use Rattle.cpm_play.proofs.rounds.round.Goals as goal
 use Rattle.cpm_play.proofs.rounds.round.Goals.{in-Playing+in_ok-turn, in_default}
@@ -22,7 +22,7 @@ loop-place-init c = record {
 pub returns-in_err-steps-clause-refused : goal.returns-in_err-steps-clause-refused
 returns-in_err-steps-clause-refused c =
     let p = err_from_is_err_and c.from_residual.result c.from_residual.ensures.1 in
-    rw (p.1, p.2) (λ old given ready come. c.in_err-steps.ensures.refused old given ready (subst (λ (h : HostWithStore). HasCome old h.host given c.loop-place.players) (sym c.most_steps-most.ensures.unchanged) (c.loop-place.invariant.come old given ready come)))
+    rw (p.1, p.2) (λ old given ready come. c.in_err-steps.ensures.refused old given ready (subst (λ (h : HostWithStore). HaveBecome old h.host given c.loop-place.players) (sym c.most_steps-most.ensures.unchanged) (c.loop-place.invariant.come old given ready come)))
 
 pub loop-place-preserved : goal.loop-place-preserved
 loop-place-preserved c =
@@ -47,7 +47,7 @@ loop-place-preserved c =
             come = λ old given ready come.
                 let t : IsTurn old c.fork_if_due.new.host.host w.turn.new.host.host given players place steps slot next = record {
                   ready = ready;
-                  come = k.come old given ready (subst (λ (h : HostWithStore). HasCome old h.host given c.loop-place.players) (sym c.most_steps-most.ensures.unchanged) (i.come old given ready come));
+                  come = k.come old given ready (subst (λ (h : HostWithStore). HaveBecome old h.host given c.loop-place.players) (sym c.most_steps-most.ensures.unchanged) (i.come old given ready come));
                   plays = plays;
                   moves = turned.moves;
                   goes = turned.playing;
@@ -55,8 +55,8 @@ loop-place-preserved c =
                   done = turned.done;
                   far = k.far;
                 } in
-                subst (λ (h : Host). HasCome old h given c.match-players-place.players) (sym host)
-                (subst (λ (ps : List Player). HasCome old w.turn.new.host.host given ps) (sym after) (come-turn old c.fork_if_due.new.host.host w.turn.new.host.host given players place steps slot next t));
+                subst (λ (h : Host). HaveBecome old h given c.match-players-place.players) (sym host)
+                (subst (λ (ps : List Player). HaveBecome old w.turn.new.host.host given ps) (sym after) (come-turn old c.fork_if_due.new.host.host w.turn.new.host.host given players place steps slot next t));
             long = ap length after ∙ length-set players place (Playing next) ∙ kept ∙ long;
             left = subst (λ (ps : List Player). IsLeft c.args.players.now ps (place + 1)) (sym after)
                 (left-turn c.args.players.now c.loop-place.players players place steps slot next i.left k.left k.far plays turned.left);
@@ -67,8 +67,8 @@ loop-place-preserved c =
           let host = ap (λ (h : HostWithStore). h.host) w.host-is in
           record {
             come = λ old given ready come.
-                subst (λ (h : Host). HasCome old h given c.match-players-place.players) (sym host)
-                (subst (λ (ps : List Player). HasCome old c.fork_if_due.new.host.host given ps) (sym after) (k.come old given ready (subst (λ (h : HostWithStore). HasCome old h.host given c.loop-place.players) (sym c.most_steps-most.ensures.unchanged) (i.come old given ready come))));
+                subst (λ (h : Host). HaveBecome old h given c.match-players-place.players) (sym host)
+                (subst (λ (ps : List Player). HaveBecome old c.fork_if_due.new.host.host given ps) (sym after) (k.come old given ready (subst (λ (h : HostWithStore). HaveBecome old h.host given c.loop-place.players) (sym c.most_steps-most.ensures.unchanged) (i.come old given ready come))));
             long = ap length after ∙ kept ∙ long;
             left = subst (λ (ps : List Player). IsLeft c.args.players.now ps (place + 1)) (sym after)
                 (left-waits c.args.players.now c.loop-place.players players place i.left k.left

@@ -11,12 +11,12 @@ use Rattle.cpm_machine.specs.Serve.{executed}
 use Rattle.cpm_machine.specs.Runner.{state_of, IsRunnerSound}
 use Rattle.cpm_slots.specs.Serving.{executed_to}
 use Rattle.cpm_slots.specs.Slots.{contents_at}
-use Rattle.cpm_slots.proofs.ViewLaws.{Lent, Leaves, lent-view, leaves, leaves-copied, changes, contents-of, right-lent, right-left, right-copied, right-put, stored-copied, keeps-stamps}
+use Rattle.cpm_slots.proofs.ViewLaws.{IsLoan, Leaves, lent-view, leaves, leaves-copied, changes, contents-of, right-lent, right-left, right-copied, right-put, stored-copied, keeps-stamps}
 use Rattle.cpm_slots.proofs.slots.grant_table.Goals as goal
 use Rattle.cpm_slots.proofs.slots.grant_table.Goals.{After-grant_to, After-put_back}
 
 -- what is lent to the grant, and what is left
-lent : (c : After-grant_to) → Lent c.args.store.now (view.store_of c.view-view.result) (view.store_of c.grant_to.new.memory) c.args.table (view.view_table c.view-view.result) (view.view_table c.grant_to.new.memory)
+lent : (c : After-grant_to) → IsLoan c.args.store.now (view.store_of c.view-view.result) (view.store_of c.grant_to.new.memory) c.args.table (view.view_table c.view-view.result) (view.view_table c.grant_to.new.memory)
 lent c = lent-view c.view-view.result c.grant_to.new.memory c.args.store.now c.args.table c.view-view.ensures.store c.view-view.ensures.table c.view-view.ensures.memory c.grant_to.ensures.leads.stores.surroundings
 
 lent_leaves : (c : After-grant_to) → Leaves c.args.store.now (view.store_of c.grant_to.new.memory) c.args.table (memory_of (view.store_of c.view-view.result) (view.view_table c.view-view.result)) (memory_of (view.store_of c.grant_to.new.memory) (view.view_table c.grant_to.new.memory))

@@ -1,6 +1,6 @@
 use Rattle.std.proofs.Common.{List, ℕ, map, take, drop, suc, subst, sym, arith, ◌∙◌}
 use Rattle.cpm_store.specs.Files.{WhereTold, Writes}
-use Rattle.cpm_store.specs.Log.{Access, AreWrites, RanBy, Wrote}
+use Rattle.cpm_store.specs.Log.{StoreAccess, AreWrites, LogLeadsBy, Wrote}
 use Rattle.cpm_store.specs.Writes.{NamedBytes, WritesAll, named_output}
 use Rattle.cpm_store.proofs.LogLemmas.{ran_missed, ran_write}
 use Rattle.cpm_store.proofs.WriteLemmas.{named-length, named-more, named-split, told_more, told_stopped}
@@ -26,7 +26,7 @@ loop-output-preserved g c =
     record {
       written = subst (λ (ps : List NamedBytes). WhereTold (g.S.Store.files c.args.store.now) after (WritesAll ps)) (sym (named-more os i o c.loop-output-test.true c.output-item.is))
           (told_more _ before after (map named_output (take i os)) (named_output o) c.loop-output.invariant.written write);
-      log = subst (λ (ps : List NamedBytes). RanBy g.S.Store.does (AreWrites ps) c.args.store.now c.write.new.self) (sym (named-more os i o c.loop-output-test.true c.output-item.is))
+      log = subst (λ (ps : List NamedBytes). LogLeadsBy g.S.Store.does (AreWrites ps) c.args.store.now c.write.new.self) (sym (named-more os i o c.loop-output-test.true c.output-item.is))
           (ran_write g.S.Store.does (map named_output (take i os)) (named_output o) c.args.store.now c.loop-output.store c.write.new.self c.loop-output.invariant.log logged);
       uncounted = c.in-Ok.ensures.uncounted ∙ c.loop-output.invariant.uncounted;
       counted = omega (arith, c.loop-output.invariant.counted, c.in-Ok.ensures.counted);

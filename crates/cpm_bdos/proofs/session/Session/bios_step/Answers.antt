@@ -1,5 +1,5 @@
 use Rattle.std.proofs.Common.{ap, sym, ◌∙◌}
-use Rattle.cpm_bdos.specs.Did.{Did}
+use Rattle.cpm_bdos.specs.StepResult.{StepResult}
 use Rattle.cpm_bdos.specs.Behind.{did_behind}
 use Rattle.cpm_bdos.proofs.Bounded.{IsBounded-bios}
 use Rattle.cpm_bdos.proofs.Waiting.{bios-behind}
@@ -10,4 +10,4 @@ returns-clause-bounds g c = rw c.bios_call.ensures.step (IsBounded-bios c.args.n
 
 pub returns-clause-behind : goal.returns-clause-behind
 returns-clause-behind g c p q =
-    bios-behind p q c.args.number c.args.system.now c.args.self.now (g.M.Memory.contents c.args.memory.now) ∙ ap (λ (d : Did). did_behind p q d) (sym c.bios_call.ensures.step)
+    bios-behind p q c.args.number c.args.system.now c.args.self.now (g.M.Memory.contents c.args.memory.now) ∙ ap (λ (d : StepResult). did_behind p q d) (sym c.bios_call.ensures.step)

@@ -4,7 +4,7 @@ use Rattle.cpm_drives.specs.declared.disks.Disks.{Disks}
 use Rattle.cpm_drives.specs.Disks.{drive_at}
 use Rattle.cpm_drives.specs.Selecting.{drive_in_use}
 use Rattle.cpm_drives.specs.Vectors.{allocation_of}
-use Rattle.cpm_bdos.specs.Did.{answered}
+use Rattle.cpm_bdos.specs.StepResult.{answered}
 use Rattle.cpm_bdos.specs.Disks.{with_disks, give_allocation}
 use Rattle.cpm_bdos.proofs.Marks.{current-used}
 use Rattle.cpm_bdos.proofs.session.Session.give_allocation.Goals as goal

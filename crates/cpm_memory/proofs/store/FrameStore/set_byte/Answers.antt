@@ -1,12 +1,12 @@
 use Rattle.std.proofs.Common.{arith, ◌∙◌}
 use Rattle.cpm_memory.specs.Frames.{memory_of}
-use Rattle.cpm_memory.proofs.Bytes.{Written, Written-from, after_set-marked, ChangesTable-both}
+use Rattle.cpm_memory.proofs.Bytes.{IsByteWritten, IsByteWritten-from, after_set-marked, ChangesTable-both}
 use Rattle.cpm_memory.proofs.store.FrameStore.set_byte.Goals as goal
 use Rattle.cpm_memory.proofs.store.FrameStore.set_byte.Goals.{After-write}
 
-written : (c : After-write) → Written c.private_frame-frame.new.self c.write.new.self c.args.table c.args.address c.args.value
+written : (c : After-write) → IsByteWritten c.private_frame-frame.new.self c.write.new.self c.args.table c.args.address c.args.value
 written c =
-    Written-from c.private_frame-frame.new.self c.write.new.self c.args.table c.args.address c.private_frame-frame.result c.args.value
+    IsByteWritten-from c.private_frame-frame.new.self c.write.new.self c.args.table c.args.address c.private_frame-frame.result c.args.value
     c.private_frame-frame.ensures.sound c.private_frame-frame.ensures.alone (omega arith) c.private_frame-frame.ensures.place c.write.ensures.written
 
 pub returns-clause-memory : goal.returns-clause-memory

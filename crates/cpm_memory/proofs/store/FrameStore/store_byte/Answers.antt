@@ -3,7 +3,7 @@ use Rattle.cpm_memory.specs.Contents.{after_set}
 use Rattle.cpm_memory.specs.Frames.{ChangesTable, MovesAtMost, memory_of}
 use Rattle.cpm_memory.specs.Kept.{with_stamp}
 use Rattle.cpm_memory.specs.Stamps.{after_stamp}
-use Rattle.cpm_memory.proofs.Accesses.{Raised, Raised-from, ChangesTable-raised}
+use Rattle.cpm_memory.proofs.Accesses.{IsRaised, IsRaised-from, ChangesTable-raised}
 use Rattle.cpm_memory.proofs.store.FrameStore.store_byte.Goals as goal
 use Rattle.cpm_memory.proofs.store.FrameStore.store_byte.Goals.{After-raise_stamp}
 
@@ -11,10 +11,10 @@ raised : (c : After-raise_stamp) → c.raise_stamp.new.self ≡ with_stamp c.set
 raised c = c.raise_stamp.ensures.raised ∙ ap (λ t. with_stamp c.set_byte.new.self t (c.args.address / 256)) c.index-index.ensures.index
 
 -- what raising a stamp leaves of the store in which the byte was put
-stamped : (c : After-raise_stamp) → Raised c.set_byte.new.self c.raise_stamp.new.self c.args.table (c.args.address / 256)
+stamped : (c : After-raise_stamp) → IsRaised c.set_byte.new.self c.raise_stamp.new.self c.args.table (c.args.address / 256)
 stamped c =
     let within : c.args.table < 64 = omega (arith, c.index-index.ensures.index, c.index-index.ensures.within) in
-    Raised-from c.set_byte.new.self c.set_byte.new.self c.raise_stamp.new.self c.args.table (c.args.address / 256) c.set_byte.ensures.sound within refl (raised c)
+    IsRaised-from c.set_byte.new.self c.set_byte.new.self c.raise_stamp.new.self c.args.table (c.args.address / 256) c.set_byte.ensures.sound within refl (raised c)
 
 pub returns-clause-memory : goal.returns-clause-memory
 returns-clause-memory c =

@@ -5,15 +5,15 @@ use Rattle.cpm_memory.specs.Frames.{IsAlone, ChangesTable, MovesAtMost, memory_o
 use Rattle.cpm_memory.specs.Memories.{surroundings_at-kept}
 use Rattle.cpm_memory.specs.Sets.{IsAfterSets-one, IsStored-one}
 use Rattle.cpm_memory.specs.Kept.{with_stamp}
-use Rattle.cpm_memory.proofs.Accesses.{Raised, Raised-from, ChangesTable-raised, taken-kept, limit-kept, placed-after, alone-marked, IsAlone-raised}
+use Rattle.cpm_memory.proofs.Accesses.{IsRaised, IsRaised-from, ChangesTable-raised, taken-kept, limit-kept, placed-after, alone-marked, IsAlone-raised}
 use Rattle.cpm_memory.proofs.view.View.set_first.Goals as goal
 use Rattle.cpm_memory.proofs.view.View.set_first.Goals.{After-place_at}
 
 raised : (c : After-place_at) → c.raise_stamp.new.self ≡ with_stamp c.set_byte.new.self c.args.self.now.table (c.args.address / 256)
 raised c = c.raise_stamp.ensures.raised ∙ ap (λ t. with_stamp c.set_byte.new.self t (c.args.address / 256)) c.index-table.ensures.index
 
-stamped : (c : After-place_at) → Raised c.args.self.now.store.now c.raise_stamp.new.self c.args.self.now.table (c.args.address / 256)
-stamped c = let v = c.args.self.now in Raised-from v.store.now c.set_byte.new.self c.raise_stamp.new.self v.table (c.args.address / 256) v.sound v.within c.set_byte.ensures.stamps (raised c)
+stamped : (c : After-place_at) → IsRaised c.args.self.now.store.now c.raise_stamp.new.self c.args.self.now.table (c.args.address / 256)
+stamped c = let v = c.args.self.now in IsRaised-from v.store.now c.set_byte.new.self c.raise_stamp.new.self v.table (c.args.address / 256) v.sound v.within c.set_byte.ensures.stamps (raised c)
 
 stored : (c : After-place_at) → ChangesTable c.args.self.now.store.now c.set_byte.new.self c.args.self.now.table
 stored c = subst (λ t. ChangesTable c.args.self.now.store.now c.set_byte.new.self t) c.index-table.ensures.index c.set_byte.ensures.others

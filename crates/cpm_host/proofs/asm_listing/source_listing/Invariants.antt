@@ -3,7 +3,7 @@ use Rattle.std.proofs.Common.{◌≡◌, ◌<◌, ◌+◌, ◌++◌, ◌^◌, le
 use Rattle.std.specs.Str.Lines.{lines}
 use Rattle.cpm_asm.specs.Lines.{source_text}
 use Rattle.cpm_host.specs.AsmListing.{lines_after}
-use Rattle.cpm_host.proofs.asm_listing.listing.Given as goal
+use Rattle.cpm_host.proofs.asm_listing.source_listing.Given as goal
 
 abbrev pub invariant-loop-places : goal.invariant-loop-places
 invariant-loop-places l = record {

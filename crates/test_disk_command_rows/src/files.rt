@@ -2,7 +2,7 @@
 
 use cpm_disk_commands::{NamedFile, write_list};
 use cpm_geom::Format;
-use cpm_image_files::{FileName, Shelf};
+use cpm_image_files::{DiskListing, FileName};
 use std::alloc::Global;
 use test_language::{RowAnswer, RowFault, Word};
 
@@ -30,11 +30,11 @@ pub fn user_of(words: &[Word<'_>]) -> Result<Option<u8>, RowFault> {
 pub fn lines_of(
     alloc: Global,
     format: Format,
-    shelf: &Shelf,
+    listing: &DiskListing,
     user: Option<u8>,
 ) -> Result<RowAnswer, RowFault> {
     let mut out: Vec<u8> = Vec::new(alloc);
-    match write_list(alloc, format, shelf, user, &mut out) {
+    match write_list(alloc, format, listing, user, &mut out) {
         Ok(()) => Ok(RowAnswer::Bytes(out)),
         Err(error) => RowAnswer::refused_text(alloc, error),
     }

@@ -71,7 +71,7 @@ fn text(alloc: Global, arguments: &[Word<'_>]) -> Result<RowAnswer, RowFault> {
     }
 }
 
-/// `pair TEXT`: what stands before the first `=` and behind it, or `none`.
+/// `pair TEXT`: what stands before the first `=` and after it, or `none`.
 fn pair(alloc: Global, arguments: &[Word<'_>]) -> Result<RowAnswer, RowFault> {
     let [text] = arguments else {
         return Err(RowFault::Words);

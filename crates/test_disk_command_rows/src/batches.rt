@@ -158,7 +158,7 @@ fn read(
     }
 }
 
-/// Adds an item behind those before it.
+/// Adds an item after those before it.
 fn add_item(out: &mut String, item: &str) -> Result<(), AllocError> {
     if !out.is_empty() {
         out.push_str(", ")?;

@@ -5,29 +5,29 @@ ghost use Rattle.cpm_directory.specs.Directory.{entries_of};
 ghost use Rattle.cpm_directory.specs.WellFormed.{IsChecked};
 ghost use Rattle.cpm_geom.specs.Disk.{blank_disk};
 ghost use Rattle.cpm_geom.specs.Geometry.{dpb_of};
-ghost use Rattle.cpm_image_files.specs.Shelf.{records_for, IsPut, IsPutRefusal};
+ghost use Rattle.cpm_image_files.specs.ImageFiles.{records_for, IsPut, IsPutRefusal};
 ghost use Rattle.cpm_image_files.specs.Taken.{IsGetRefusal, IsRemovalRefusal, IsRemoved, IsRenamed, IsRenameRefusal};
-ghost use Rattle.cpm_disk_commands.specs.Filing.{format_for, stored, IsImageFile, IsPutTold, IsTaken};
+ghost use Rattle.cpm_disk_commands.specs.DiskCommands.{format_for, stored, IsImageFile, IsPutTold, IsTaken};
 ghost use Rattle.cpm_disk_commands.specs.Refusals.{file_named, IsDamageTold, IsFaultOf, IsNotImage, IsTold, IsToldRefusal};
 ghost use Rattle.std.specs.Prelude.{length};
 
 use crate::damage::{NamedFile, damage_of};
-use crate::error::FilingError;
+use crate::error::DiskCommandError;
 use cpm_command_line::shown;
 use cpm_directory::DriveFault;
 use cpm_geom::{Format, Image};
-use cpm_image_files::{FileName, ShelfError, from_text, get, put, remove, rename, to_text};
+use cpm_image_files::{FileName, ImageFilesError, from_text, get, put, remove, rename, to_text};
 use std::alloc::Global;
 
 /// The image of these bytes, of the file of this name. Refused where no image has so many.
-pub fn image_of(name: &str, bytes: Vec<u8>) -> Result<Image, FilingError>
+pub fn image_of(name: &str, bytes: Vec<u8>) -> Result<Image, DiskCommandError>
     ensures { MatchResult result
         (λ image. IsImageFile bytes.items image)
         (λ e. IsNotImage name.now bytes.items e) }
 {
     match Image::from_bytes(bytes) {
         Ok(image) => Ok(image),
-        Err((bytes, _)) => Err(FilingError::NotImage {
+        Err((bytes, _)) => Err(DiskCommandError::NotImage {
             image: shown(name),
             length: bytes.len(),
         }),
@@ -35,24 +35,24 @@ pub fn image_of(name: &str, bytes: Vec<u8>) -> Result<Image, FilingError>
 }
 
 /// The fault of an image's directory as it is told.
-pub(crate) fn damaged(image: &Image, name: &str, fault: DriveFault) -> FilingError
+pub(crate) fn damaged(image: &Image, name: &str, fault: DriveFault) -> DiskCommandError
     requires { IsChecked (dpb_of image.now.format) (entries_of image.now) (Err fault) }
     ensures { IsDamageTold image.now name.now fault result }
 {
-    FilingError::Damaged {
+    DiskCommandError::Damaged {
         image: shown(name),
         damage: damage_of(image, fault),
     }
 }
 
 /// Why nothing is done with a file, as it is told.
-fn told(image: &Image, name: &str, file: &FileName, error: ShelfError) -> FilingError
+fn told(image: &Image, name: &str, file: &FileName, error: ImageFilesError) -> DiskCommandError
     requires { IsFaultOf image.now error }
     ensures { IsTold image.now name.now (file_named file.now) error result }
 {
     match error {
-        ShelfError::Damaged(fault) => damaged(image, name, fault),
-        ShelfError::Refused(reason) => FilingError::Refused {
+        ImageFilesError::Damaged(fault) => damaged(image, name, fault),
+        ImageFilesError::Refused(reason) => DiskCommandError::Refused {
             image: shown(name),
             file: NamedFile {
                 user: file.user(),
@@ -60,7 +60,7 @@ fn told(image: &Image, name: &str, file: &FileName, error: ShelfError) -> Filing
             },
             reason,
         },
-        ShelfError::OutOfMemory => FilingError::OutOfMemory,
+        ImageFilesError::OutOfMemory => DiskCommandError::OutOfMemory,
     }
 }
 
@@ -73,7 +73,7 @@ pub fn put_file(
     file: &FileName,
     is_text: bool,
     bytes: &[u8],
-) -> Result<Image, FilingError>
+) -> Result<Image, DiskCommandError>
     ensures { MatchResult result
         (λ new. IsPut image.now file.now.user file.now.name (stored is_text bytes.now) new)
         (λ e. IsPutTold image.now name.now file.now is_text bytes.now e) }
@@ -83,7 +83,7 @@ pub fn put_file(
     }
     match to_text(alloc, bytes) {
         Ok(text) => put_bytes(alloc, image, name, file, &text),
-        Err(_) => Err(FilingError::OutOfMemory),
+        Err(_) => Err(DiskCommandError::OutOfMemory),
     }
 }
 
@@ -94,7 +94,7 @@ fn put_bytes(
     name: &str,
     file: &FileName,
     bytes: &[u8],
-) -> Result<Image, FilingError>
+) -> Result<Image, DiskCommandError>
     ensures { MatchResult result
         (λ new. IsPut image.now file.now.user file.now.name bytes.now new)
         (λ e. IsToldRefusal image.now name.now (file_named file.now) (IsPutRefusal image.now file.now.user file.now.name (records_for (length bytes.now))) e) }
@@ -112,7 +112,7 @@ pub fn get_file(
     name: &str,
     file: &FileName,
     is_text: bool,
-) -> Result<Vec<u8>, FilingError>
+) -> Result<Vec<u8>, DiskCommandError>
     ensures { MatchResult result
         (λ bytes. IsTaken image.now file.now is_text bytes.items)
         (λ e. IsToldRefusal image.now name.now (file_named file.now) (IsGetRefusal image.now file.now.user file.now.name) e) }
@@ -126,7 +126,7 @@ pub fn get_file(
     }
     match from_text(alloc, &bytes) {
         Ok(text) => Ok(text),
-        Err(_) => Err(FilingError::OutOfMemory),
+        Err(_) => Err(DiskCommandError::OutOfMemory),
     }
 }
 
@@ -136,7 +136,7 @@ pub fn remove_file(
     image: &Image,
     name: &str,
     file: &FileName,
-) -> Result<Image, FilingError>
+) -> Result<Image, DiskCommandError>
     ensures { MatchResult result
         (λ new. IsRemoved image.now file.now.user file.now.name new)
         (λ e. IsToldRefusal image.now name.now (file_named file.now) (IsRemovalRefusal image.now file.now.user file.now.name) e) }
@@ -154,7 +154,7 @@ pub fn rename_file(
     name: &str,
     file: &FileName,
     new_name: &FileName,
-) -> Result<Image, FilingError>
+) -> Result<Image, DiskCommandError>
     requires { new_name.now.user ≡ file.now.user }
     ensures { MatchResult result
         (λ new. IsRenamed image.now file.now.user file.now.name new_name.now.name new)
@@ -166,11 +166,11 @@ pub fn rename_file(
     }
 }
 
-/// A new image, every byte of which is E5h: of the large disk or of the small one. Refused for want of memory.
-pub fn new_image(alloc: Global, is_large: bool) -> Result<Image, FilingError>
+/// A new image, every byte of which is E5h: of the large disk or of the small one. Refused if out of memory.
+pub fn new_image(alloc: Global, is_large: bool) -> Result<Image, DiskCommandError>
     ensures { MatchResult result
         (λ image. image ≡ blank_disk (format_for is_large))
-        (λ e. e ≡ FilingError.OutOfMemory) }
+        (λ e. e ≡ DiskCommandError.OutOfMemory) }
 {
     let format = if is_large {
         Format::Large
@@ -179,6 +179,6 @@ pub fn new_image(alloc: Global, is_large: bool) -> Result<Image, FilingError>
     };
     match Image::blank(alloc, format) {
         Ok(image) => Ok(image),
-        Err(_) => Err(FilingError::OutOfMemory),
+        Err(_) => Err(DiskCommandError::OutOfMemory),
     }
 }

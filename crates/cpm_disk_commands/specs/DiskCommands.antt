@@ -6,13 +6,13 @@ use Rattle.cpm_geom.specs.Geometry.{format_of_length}
 use Rattle.cpm_geom.specs.declared.format.Format.{Format}
 use Rattle.cpm_geom.specs.declared.format.Format.TheVariants.{Ibm3740, Large}
 use Rattle.cpm_image_files.specs.Filled.{filled}
-use Rattle.cpm_image_files.specs.Shelf.{records_for, DiskHasFile, IsPutRefusal}
+use Rattle.cpm_image_files.specs.ImageFiles.{records_for, DiskHasFile, IsPutRefusal}
 use Rattle.cpm_image_files.specs.Taken.{IsGot}
 use Rattle.cpm_image_files.specs.Texts.{to_text, from_text, is_control}
 use Rattle.cpm_image_files.specs.declared.name.FileName.{FileName}
 use Rattle.cpm_disk_commands.specs.Refusals.{file_named, IsToldRefusal}
-use Rattle.cpm_disk_commands.specs.declared.error.FilingError.{FilingError}
-use Rattle.cpm_disk_commands.specs.declared.error.FilingError.TheVariants.{OutOfMemory}
+use Rattle.cpm_disk_commands.specs.declared.error.DiskCommandError.{DiskCommandError}
+use Rattle.cpm_disk_commands.specs.declared.error.DiskCommandError.TheVariants.{OutOfMemory}
 
 -- the disk's sectors, one after the other, are these bytes
 pub record IsImageFile (bytes : List ℕ) (disk : Disk) : Type 0 where
@@ -33,7 +33,7 @@ abbrev pub file_taken : Bool → List ℕ → List ℕ
 file_taken is_text bytes = if is_text then from_text bytes else bytes
 
 -- why a file is not put on a disk is told; or there was no memory for the text
-abbrev pub IsPutTold : Disk → (image : List ℕ) → FileName → Bool → List ℕ → FilingError → Type 0
+abbrev pub IsPutTold : Disk → (image : List ℕ) → FileName → Bool → List ℕ → DiskCommandError → Type 0
 IsPutTold disk image file is_text bytes f =
     ((is_text ≡ true) × (f ≡ OutOfMemory))
     ⊎ IsToldRefusal disk image (file_named file) (IsPutRefusal disk file.user file.name (records_for (length (stored is_text bytes)))) f

@@ -3,11 +3,11 @@
 use crate::files::{lines_of, named, shown_files, user_of};
 use crate::names::{act_on_names, characters, text_of};
 use cpm_disk_commands::{
-    FilingError, check_new, file_name, get_file, host_name, image_of, list_files, matching_files,
-    new_image, put_file, remove_file, rename_file, text_of_name,
+    DiskCommandError, check_new, file_name, get_file, host_name, image_of, list_files,
+    matching_files, new_image, put_file, remove_file, rename_file, text_of_name,
 };
 use cpm_geom::{Format, Image};
-use cpm_image_files::{DiskFile, FileName, FileRefusal, Shelf};
+use cpm_image_files::{DiskFile, DiskListing, FileName, FileRefusal};
 use std::alloc::{AllocError, Global};
 use test_images::Images;
 use test_language::{RowAnswer, RowFault, RowLine, Scene, Word};
@@ -75,7 +75,7 @@ impl Scene for DiskCommands {
 }
 
 impl DiskCommands {
-    /// `user N`: the names of the lines behind it are of this user.
+    /// `user N`: the names of the lines after it are of this user.
     fn set_user(&mut self, arguments: &[Word<'_>]) -> Result<RowAnswer, RowFault> {
         let [user] = arguments else {
             return Err(RowFault::Words);
@@ -84,7 +84,7 @@ impl DiskCommands {
         Ok(RowAnswer::Done)
     }
 
-    /// `attributes [read-only] [system]`: the files of the lines behind it have these attributes.
+    /// `attributes [read-only] [system]`: the files of the lines after it have these attributes.
     fn set_attributes(&mut self, arguments: &[Word<'_>]) -> Result<RowAnswer, RowFault> {
         self.is_read_only = false;
         self.is_system = false;
@@ -99,7 +99,7 @@ impl DiskCommands {
     }
 
     /// A refusal, whole.
-    fn refused(&mut self, alloc: Global, error: FilingError) -> Result<RowAnswer, RowFault> {
+    fn refused(&mut self, alloc: Global, error: DiskCommandError) -> Result<RowAnswer, RowFault> {
         self.status = Some(error.status());
         RowAnswer::refused_text(alloc, error)
     }
@@ -126,7 +126,7 @@ impl DiskCommands {
         line: &RowLine<'_>,
         image: &str,
         rest: &[Word<'_>],
-    ) -> Result<Result<Image, FilingError>, RowFault> {
+    ) -> Result<Result<Image, DiskCommandError>, RowFault> {
         match (line.verb(), rest) {
             ("new", []) => Ok(new_image(alloc, false)),
             ("new", [size]) if size.text == "large" => Ok(new_image(alloc, true)),
@@ -151,7 +151,7 @@ impl DiskCommands {
         name: Word<'_>,
         is_text: bool,
         bytes: Vec<u8>,
-    ) -> Result<Result<Image, FilingError>, RowFault> {
+    ) -> Result<Result<Image, DiskCommandError>, RowFault> {
         let before = self.images.get(image)?;
         match self.file(alloc, name)? {
             Ok(file) => Ok(put_file(alloc, before, image, &file, is_text, bytes.as_slice())),
@@ -165,7 +165,7 @@ impl DiskCommands {
         alloc: Global,
         image: &str,
         name: Word<'_>,
-    ) -> Result<Result<Image, FilingError>, RowFault> {
+    ) -> Result<Result<Image, DiskCommandError>, RowFault> {
         let before = self.images.get(image)?;
         match self.file(alloc, name)? {
             Ok(file) => Ok(remove_file(alloc, before, image, &file)),
@@ -180,7 +180,7 @@ impl DiskCommands {
         image: &str,
         old: Word<'_>,
         new: Word<'_>,
-    ) -> Result<Result<Image, FilingError>, RowFault> {
+    ) -> Result<Result<Image, DiskCommandError>, RowFault> {
         let before = self.images.get(image)?;
         match (self.file(alloc, old)?, self.file(alloc, new)?) {
             (Ok(old), Ok(new)) => {
@@ -198,7 +198,7 @@ impl DiskCommands {
         &self,
         alloc: Global,
         name: Word<'_>,
-    ) -> Result<Result<FileName, FilingError>, RowFault> {
+    ) -> Result<Result<FileName, DiskCommandError>, RowFault> {
         if self.user >= 16 {
             return Err(RowFault::Unready);
         }
@@ -238,7 +238,7 @@ impl DiskCommands {
         let from = self.images.get(image.text)?;
         let format = from.format();
         match list_files(alloc, from, image.text) {
-            Ok(shelf) => lines_of(alloc, format, &shelf, user),
+            Ok(listing) => lines_of(alloc, format, &listing, user),
             Err(error) => self.refused(alloc, error),
         }
     }
@@ -254,8 +254,8 @@ impl DiskCommands {
         }
         let from = self.images.get(image.text)?;
         let found = match list_files(alloc, from, image.text) {
-            Ok(shelf) => {
-                let files = shelf.files.as_slice();
+            Ok(listing) => {
+                let files = listing.files.as_slice();
                 matching_files(alloc, files, image.text, user, pattern.text)
             }
             Err(error) => Err(error),
@@ -346,11 +346,11 @@ impl DiskCommands {
         let [free] = arguments else {
             return Err(RowFault::Words);
         };
-        let shelf = Shelf {
+        let listing = DiskListing {
             files: Vec::from_slice(alloc, self.listed.as_slice())?,
             free_blocks: free.text.parse::<u16>().map_err(|_| RowFault::Number)?,
         };
-        lines_of(alloc, Format::Ibm3740, &shelf, None)
+        lines_of(alloc, Format::Ibm3740, &listing, None)
     }
 
     /// `tell IMAGE NAME REASON`: what is said where something isn't done with a file for this reason.
@@ -369,7 +369,7 @@ impl DiskCommands {
         match self.file(alloc, *name)? {
             Ok(file) => self.refused(
                 alloc,
-                FilingError::Refused {
+                DiskCommandError::Refused {
                     image: cpm_command_line::shown(image.text),
                     file: named(&file),
                     reason,

@@ -14,8 +14,8 @@ use Rattle.cpm_directory.specs.Login.{reserved_at_login}
 use Rattle.cpm_directory.specs.WellFormed.{fault_of, IsChecked}
 use Rattle.cpm_image_files.specs.declared.refusal.FileRefusal.{FileRefusal}
 use Rattle.cpm_image_files.specs.declared.refusal.FileRefusal.TheVariants.{ReadOnly, DirectoryFull, DiskFull}
-use Rattle.cpm_image_files.specs.declared.refusal.ShelfError.{ShelfError}
-use Rattle.cpm_image_files.specs.declared.refusal.ShelfError.TheVariants.{Damaged, Refused, OutOfMemory}
+use Rattle.cpm_image_files.specs.declared.refusal.ImageFilesError.{ImageFilesError}
+use Rattle.cpm_image_files.specs.declared.refusal.ImageFilesError.TheVariants.{Damaged, Refused, OutOfMemory}
 
 -- ---- files
 
@@ -105,7 +105,7 @@ pub record IsPut (old : Disk) (user : ℕ) (name bytes : List ℕ) (new : Disk) 
 
 -- Why a file of so many records is not put on a disk: the fault of the first entry that has one;
 -- or the disk is sound, and this is the first reason against it; or there is none, but no memory. (own)
-abbrev pub IsPutRefusal : Disk → ℕ → List ℕ → ℕ → ShelfError → Type 0
+abbrev pub IsPutRefusal : Disk → ℕ → List ℕ → ℕ → ImageFilesError → Type 0
 IsPutRefusal old user name records (Damaged fault) = IsChecked (dpb_of old.format) (entries_of old) (Err fault)
 IsPutRefusal old user name records (Refused refusal) =
     IsSoundDisk old × (file_refusal_of (dpb_of old.format) (entries_of old) user name records ≡ Some refusal)

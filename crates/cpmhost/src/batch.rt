@@ -1,0 +1,173 @@
+//! Files that are written together: each is made whole beside the one that it is to replace, and only then they take their names. So a full device leaves all
+//! of them as they were.
+
+use crate::beside::Replacement;
+use crate::held::{LockableFiles, Mark};
+use crate::output::{Outputs, PERMISSIONS, PLAIN_PERMISSIONS};
+use crate::patient::PatientError;
+use crate::refused::{CommandRefusal, RefusalDetail};
+use cpm_host::{HostError, ShownWord, shown};
+use std::io;
+use std::rt::Files;
+
+/// How a file takes its name.
+#[derive(Clone, Copy, Debug, Drop)]
+pub enum Taking {
+    /// It replaces what has the name; where that was read it must still be what it was then.
+    Replacing(Option<Mark>),
+    /// It replaces what has the name, and nobody can execute it.
+    ReplacingPlain,
+    /// It replaces nothing.
+    New,
+}
+
+impl Taking {
+    /// The permissions that it keeps of the file that it replaces.
+    fn mask(self) -> u32 {
+        match self {
+            Taking::ReplacingPlain => PLAIN_PERMISSIONS,
+            Taking::Replacing(_) | Taking::New => PERMISSIONS,
+        }
+    }
+}
+
+/// A file that is whole beside the one that it is to replace.
+#[derive(Drop)]
+struct WholeFile {
+    /// The name by which it is written.
+    name: ShownWord,
+    beside: Replacement,
+    taking: Taking,
+}
+
+impl WholeFile {
+    /// Why it can't have its name.
+    fn unwritable(&self, reason: io::Error) -> HostError {
+        HostError::FileUnwritable {
+            name: self.name,
+            reason,
+        }
+    }
+
+    /// Fails where the file that it is to replace is no longer what it was when it was read.
+    fn check(&self, rt: &impl Files) -> Result<(), HostError> {
+        match self.taking {
+            Taking::Replacing(Some(mark)) => mark
+                .check(rt, self.beside.target())
+                .map_err(|reason| self.unwritable(reason)),
+            _ => Ok(()),
+        }
+    }
+
+    /// Gives it its name. Where it can't replace what has that, it stays beside it; but it goes where that has changed, since its bytes lack the change.
+    fn take_name(self, rt: &(impl Files + AllocGlobal)) -> Result<(), CommandRefusal> {
+        if let Err(error) = self.check(rt) {
+            let _ = self.beside.remove(rt);
+            return Err(CommandRefusal::from(error));
+        }
+        let taken = match self.taking {
+            Taking::New => self.beside.take_new_name(rt),
+            Taking::Replacing(_) | Taking::ReplacingPlain => self.beside.take_name(rt),
+        };
+        let Err(reason) = taken else {
+            return Ok(());
+        };
+        let error = self.unwritable(reason);
+        match self.beside.keep(rt) {
+            Some(path) => Err(CommandRefusal {
+                error,
+                behind: RefusalDetail::Kept(path),
+            }),
+            None => Err(CommandRefusal::from(error)),
+        }
+    }
+}
+
+/// Files that are written together, by those of them that are made so far.
+#[derive(Drop)]
+pub struct Batch {
+    outputs: Outputs,
+    all: Vec<WholeFile>,
+}
+
+impl Batch {
+    /// None yet.
+    pub fn new(rt: &impl AllocGlobal, outputs: Outputs) -> Batch {
+        Batch {
+            outputs,
+            all: Vec::new(rt.alloc()),
+        }
+    }
+
+    /// Makes one more file of these bytes, down to the device, which has its name once all have theirs. A pipe or a device gets them at once. Where it fails
+    /// nothing is left of all of them.
+    pub fn add(
+        &mut self,
+        rt: &impl LockableFiles,
+        name: &str,
+        taking: Taking,
+        bytes: &[u8],
+    ) -> io::Result<()> {
+        let added = self.try_add(rt, name, taking, bytes);
+        if added.is_err() {
+            self.remove(rt);
+        }
+        added
+    }
+
+    /// Makes one more file of these bytes. Where it fails nothing is left of that one.
+    fn try_add(
+        &mut self,
+        rt: &impl LockableFiles,
+        name: &str,
+        taking: Taking,
+        bytes: &[u8],
+    ) -> io::Result<()> {
+        self.all.reserve(1)?;
+        let outputs = self.outputs.nth(self.all.len());
+        if let Some(beside) = outputs.make(rt, name, taking.mask(), bytes)? {
+            self.all.push(WholeFile {
+                name: shown(name),
+                beside,
+                taking,
+            })?;
+        }
+        Ok(())
+    }
+
+    /// Takes away all that was made.
+    pub fn remove(&mut self, rt: &impl Files) {
+        for whole in &self.all {
+            let _ = whole.beside.remove(rt);
+        }
+        self.all.clear();
+    }
+
+    /// Gives all their names, if those that they replace are still what they were when they were read; else nothing is left of them. One that can't have its
+    /// name then stays beside it, which is said of each.
+    pub fn take_names(self, rt: &impl LockableFiles) -> Result<(), CommandRefusal> {
+        let mut batch = self;
+        if let Err(error) = batch.check(rt) {
+            batch.remove(rt);
+            return Err(CommandRefusal::from(error));
+        }
+        let mut taken = Ok(());
+        for whole in batch.all {
+            if let Err(refused) = whole.take_name(rt) {
+                if let Err(before) = &taken {
+                    let _ = eprintln!(PatientError::new(rt); "cpmhost: {before}");
+                }
+                taken = Err(refused);
+            }
+        }
+        taken
+    }
+
+    /// Fails where one of the files that they are to replace is no longer what it was when it was read.
+    fn check(&self, rt: &impl Files) -> Result<(), HostError> {
+        for whole in &self.all {
+            whole.check(rt)?;
+        }
+        Ok(())
+    }
+}

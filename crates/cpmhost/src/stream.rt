@@ -1,0 +1,81 @@
+//! The standard streams of the program where an output is one of them, by whatever name: each is written where it stands, so that nothing that the program
+//! prints there lies over it.
+
+ghost use Rattle.std.specs.Prelude.{◌≤◌, IfOk, length};
+
+use crate::held::LockableFiles;
+use crate::patient::{PatientError, PatientOutput};
+use std::alloc::AllocError;
+use std::io::{ErrorKind, Write};
+use std::path::PathBuf;
+use std::rt::Files;
+use std::{fs, io};
+
+/// A standard stream that is written.
+#[derive(Clone, Copy, Debug, PartialEq, Eq, Drop)]
+pub enum Stream {
+    Output,
+    Error,
+}
+
+impl Stream {
+    /// Writes some of the bytes to it, and says how many.
+    pub fn write(self, rt: &impl LockableFiles, bytes: &[u8]) -> io::Result<usize>
+        ensures bound { IfOk result (λ n. n ≤ length bytes.now) }
+    {
+        match self {
+            Stream::Output => PatientOutput::new(rt).write(bytes),
+            Stream::Error => PatientError::new(rt).write(bytes),
+        }
+    }
+}
+
+/// The folders in which this process has what it has open, each under its number.
+const OWN_FOLDERS: [&str; 2] = ["/proc/self/fd", "/proc/thread-self/fd"];
+
+/// A path without links that leads where this one does; none where there is no such.
+pub fn real_path(
+    rt: &(impl Files + AllocGlobal),
+    path: &str,
+) -> Result<Option<PathBuf>, AllocError> {
+    match fs::canonicalize(rt, path) {
+        Ok(path) => Ok(Some(path)),
+        Err(error) if error.kind() == ErrorKind::OutOfMemory => Err(AllocError),
+        Err(_) => Ok(None),
+    }
+}
+
+/// Whether a folder is one in which this process has what it has open.
+fn is_own_folder(rt: &(impl Files + AllocGlobal), folder: &str) -> Result<bool, AllocError> {
+    let Some(folder) = real_path(rt, folder)? else {
+        return Ok(false);
+    };
+    for own in OWN_FOLDERS {
+        if let Some(own) = real_path(rt, own)?
+            && own.as_path().as_str() == folder.as_path().as_str()
+        {
+            return Ok(true);
+        }
+    }
+    Ok(false)
+}
+
+/// The standard stream that a path is of by its number, if it is one of this process. The path is of something that a process has open.
+pub fn stream_of(
+    rt: &(impl Files + AllocGlobal),
+    path: &str,
+) -> Result<Option<Stream>, AllocError> {
+    let Some((folder, number)) = path.rsplit_once('/') else {
+        return Ok(None);
+    };
+    let stream = match number {
+        "1" => Stream::Output,
+        "2" => Stream::Error,
+        _ => return Ok(None),
+    };
+    if is_own_folder(rt, folder)? {
+        Ok(Some(stream))
+    } else {
+        Ok(None)
+    }
+}

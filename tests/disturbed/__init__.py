@@ -1,0 +1,1 @@
+"""What `tests/faults` does: commands, and what disturbs them."""
