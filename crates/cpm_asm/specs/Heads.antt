@@ -8,8 +8,8 @@ use Rattle.cpm_asm_expression.specs.declared.names.Name.{Name}
 use Rattle.cpm_asm_expression.specs.declared.words.Keyword.{Keyword}
 use Rattle.cpm_asm_expression.specs.declared.words.Keyword.TheVariants as k
 use Rattle.cpm_asm_expression.specs.declared.words.Operation.{Operation}
-use Rattle.cpm_asm.specs.declared.word.First.{First}
-use Rattle.cpm_asm.specs.declared.word.First.TheVariants as first
+use Rattle.cpm_asm.specs.declared.word.FirstWord.{FirstWord}
+use Rattle.cpm_asm.specs.declared.word.FirstWord.TheVariants as first
 use Rattle.cpm_asm.specs.declared.head.Head.{Head}
 
 -- what stands at the front of a text: nothing, a word and what follows it, or something else
@@ -18,7 +18,7 @@ pub data Front : Type 0 where
   Word : List ℕ → List ℕ → Front
   Other : Front
 
-abbrev pub seen_word : First → Front
+abbrev pub seen_word : FirstWord → Front
 seen_word first.Nothing = Nothing
 seen_word (first.Word letters after) = Word letters.items after.now
 seen_word first.Other = Other

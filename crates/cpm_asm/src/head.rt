@@ -2,7 +2,7 @@
 ghost use Rattle.std.specs.Prelude.{◌≡◌, option_map};
 ghost use Rattle.cpm_asm.specs.Heads.{behind_label, statement_front, seen_head};
 
-use crate::word::{First, after_colon, word_front};
+use crate::word::{FirstWord, after_colon, word_front};
 use cpm_asm_expression::{Keyword, Name, Operation, keyword_of, name_of};
 
 /// The front of a statement.
@@ -19,13 +19,13 @@ fn behind_label(label: Name, text: &[u8]) -> Option<Head<'_>>
     ensures { option_map seen_head result ≡ behind_label label text.now }
 {
     match word_front(text) {
-        First::Nothing => Some(Head {
+        FirstWord::Nothing => Some(Head {
             label: Some(label),
             operation: None,
             operands: &[],
         }),
-        First::Other => None,
-        First::Word(letters, operands) => match keyword_of(&letters) {
+        FirstWord::Other => None,
+        FirstWord::Word(letters, operands) => match keyword_of(&letters) {
             Some(Keyword::Operation(operation)) => {
                 Some(Head {
                     label: Some(label),
@@ -45,13 +45,13 @@ pub(crate) fn statement_front(text: &[u8]) -> Option<Head<'_>>
     ensures { option_map seen_head result ≡ statement_front text.now }
 {
     match word_front(text) {
-        First::Nothing => Some(Head {
+        FirstWord::Nothing => Some(Head {
             label: None,
             operation: None,
             operands: &[],
         }),
-        First::Other => None,
-        First::Word(letters, after) => match keyword_of(&letters) {
+        FirstWord::Other => None,
+        FirstWord::Word(letters, after) => match keyword_of(&letters) {
             Some(Keyword::Operation(operation)) => {
                 Some(Head {
                     label: None,

@@ -4,7 +4,7 @@ ghost use Rattle.cpm_asm.specs.Operands.{direct_pair_in, one_operand, pair_in, p
 ghost use Rattle.cpm_asm.specs.Operands.{place_named, register_in, stack_pair_in, stack_pair_named, two_operands};
 
 use crate::lines::first_part;
-use crate::word::{First, is_blank_text, word_front};
+use crate::word::{FirstWord, is_blank_text, word_front};
 use cpm_asm_expression::{Keyword, Register, keyword_of};
 use cpm_decode::{Operand, Pair, StackPair};
 
@@ -36,7 +36,7 @@ fn register_in(operand: &[u8]) -> Option<Register>
     ensures { result ≡ register_in operand.now }
 {
     match word_front(operand) {
-        First::Word(letters, after) => {
+        FirstWord::Word(letters, after) => {
             if !is_blank_text(after) {
                 return None;
             }
@@ -45,7 +45,7 @@ fn register_in(operand: &[u8]) -> Option<Register>
                 _ => None,
             }
         }
-        First::Nothing | First::Other => None,
+        FirstWord::Nothing | FirstWord::Other => None,
     }
 }
 

@@ -5,7 +5,7 @@ ghost use Rattle.cpm_asm.specs.Heads.{after_colon, is_blank_text, seen_word, wor
 use cpm_asm_expression::{Letters, after_blanks, begins_name, letters_of, split_word};
 
 /// What stands at the front of a text, after its blanks.
-pub(crate) enum First<'a> {
+pub(crate) enum FirstWord<'a> {
     Nothing,
     /// A word of at most 16 characters, and what follows it.
     Word(Letters, &'a [u8]),
@@ -13,21 +13,21 @@ pub(crate) enum First<'a> {
 }
 
 /// The word at the front of a text.
-pub(crate) fn word_front(text: &[u8]) -> First<'_>
+pub(crate) fn word_front(text: &[u8]) -> FirstWord<'_>
     ensures { seen_word result ≡ word_front text.now }
 {
     let text = after_blanks(text);
     match text.first() {
-        None => First::Nothing,
+        None => FirstWord::Nothing,
         Some(first) => {
             if begins_name(*first) {
                 let (word, after) = split_word(text);
                 match letters_of(word) {
-                    Some(letters) => First::Word(letters, after),
-                    None => First::Other,
+                    Some(letters) => FirstWord::Word(letters, after),
+                    None => FirstWord::Other,
                 }
             } else {
-                First::Other
+                FirstWord::Other
             }
         }
     }

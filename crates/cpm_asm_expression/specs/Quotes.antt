@@ -2,8 +2,8 @@
 -- CP/M 2.2 Operating System Manual, "CP/M Assembler", "String Constants"
 use Rattle.std.specs.Prelude.{ℕ, ◌+◌, ◌*◌, Bool, ◌==◌, nat_le, nat_lt, ◌&&◌, if◌then◌else◌, List}
 use Rattle.std.specs.Prelude.{[], ◌∷◌, length, Option, None, Some, option_map, option_and_then}
-use Rattle.cpm_asm_expression.specs.declared.quotes.Next.{Next}
-use Rattle.cpm_asm_expression.specs.declared.quotes.Next.TheVariants as next
+use Rattle.cpm_asm_expression.specs.declared.quotes.QuotedPart.{QuotedPart}
+use Rattle.cpm_asm_expression.specs.declared.quotes.QuotedPart.TheVariants as next
 
 -- the apostrophe
 abbrev pub is_quote : ℕ → Bool
@@ -21,7 +21,7 @@ character [] = Missing
 character (b ∷ []) = if is_quote b then Last [] else Of b []
 character (b ∷ c ∷ rest) = if is_quote b then (if is_quote c then Of b rest else Last (c ∷ rest)) else Of b (c ∷ rest)
 
-abbrev pub seen_as : Next → Character
+abbrev pub seen_as : QuotedPart → Character
 seen_as (next.Character b rest) = Of b rest.now
 seen_as (next.End rest) = Last rest.now
 seen_as next.Open = Missing

@@ -9,7 +9,7 @@ use arrayvec::ArrayVec;
 pub const LONGEST_TEXT: usize = 64;
 
 /// What stands next in a text after its first quote.
-enum Next<'a> {
+enum QuotedPart<'a> {
     /// A character, and what follows it.
     Character(u8, &'a [u8]),
     /// The last quote, and what follows it.
@@ -19,16 +19,16 @@ enum Next<'a> {
 }
 
 /// The next character of a text; two quotes are one character.
-fn next_character(text: &[u8]) -> Next<'_>
+fn next_character(text: &[u8]) -> QuotedPart<'_>
     ensures { seen_as result ≡ character text.now }
 {
     match text.split_first() {
-        None => Next::Open,
+        None => QuotedPart::Open,
         Some((b'\'', rest)) => match rest.split_first() {
-            Some((b'\'', after)) => Next::Character(b'\'', after),
-            _ => Next::End(rest),
+            Some((b'\'', after)) => QuotedPart::Character(b'\'', after),
+            _ => QuotedPart::End(rest),
         },
-        Some((byte, rest)) => Next::Character(*byte, rest),
+        Some((byte, rest)) => QuotedPart::Character(*byte, rest),
     }
 }
 
@@ -40,15 +40,15 @@ pub fn quoted_text(text: &[u8]) -> Option<(ArrayVec<u8, 64>, &[u8])>
     let mut rest = text;
     loop {
         match next_character(rest) {
-            Next::Open => return None,
-            Next::End(after) => {
+            QuotedPart::Open => return None,
+            QuotedPart::End(after) => {
                 return if characters.is_empty() {
                     None
                 } else {
                     Some((characters, after))
                 };
             }
-            Next::Character(byte, after) => {
+            QuotedPart::Character(byte, after) => {
                 if characters.is_full() {
                     return None;
                 }

@@ -58,21 +58,21 @@ ended_by p [] = known_page p
 ended_by p (word ∷ rest) = unless_flag word p (extra_name word p)
 
 -- own: a word names a page, and no further one follows
-abbrev pub named_in : Option Page → Page → Text → List Text → Naming
-named_in None above word rest = unless_flag word above (unknown_name word above)
-named_in (Some p) above word rest = ended_by p rest
+abbrev pub named_or_unknown : Option Page → Page → Text → List Text → Naming
+named_or_unknown None above word rest = unless_flag word above (unknown_name word above)
+named_or_unknown (Some p) above word rest = ended_by p rest
 
 -- own: after `help disk` or `disk help`: the page of a command of `disk`, or of `disk` itself where no name follows
 abbrev pub named_of_disk : List Text → Naming
 named_of_disk [] = known_page page.Disk
-named_of_disk (word ∷ rest) = named_in (page_in disk_pages word) page.Disk word rest
+named_of_disk (word ∷ rest) = named_or_unknown (page_in disk_pages word) page.Disk word rest
 
 -- own: after `help`: the page of a command or of the statuses, or the overview where no name follows
 abbrev pub named : List Text → Naming
 named [] = known_page page.Overview
 named (word ∷ rest) =
     if bytes_eq word (codes "disk") then named_of_disk rest
-    else named_in (page_in topic_pages word) page.Overview word rest
+    else named_or_unknown (page_in topic_pages word) page.Overview word rest
 
 -- own: behind the program's name: `help`, or `disk help`
 abbrev pub is_help_line : List Text → Bool
@@ -164,10 +164,10 @@ line_of_page page.DiskRename = codes "cpmhost" ∷ codes "help" ∷ codes "disk"
 line_of_page page.Status = codes "cpmhost" ∷ codes "help" ∷ codes "status" ∷ []
 
 -- own: words with a blank (32) between each two
-abbrev pub spaced : List Text → Text
-spaced [] = []
-spaced (word ∷ []) = word
-spaced (word ∷ next ∷ rest) = word ++ 0x20 ∷ spaced (next ∷ rest)
+abbrev pub joined_by_spaces : List Text → Text
+joined_by_spaces [] = []
+joined_by_spaces (word ∷ []) = word
+joined_by_spaces (word ∷ next ∷ rest) = word ++ 0x20 ∷ joined_by_spaces (next ∷ rest)
 
 -- own: after the program's name stands one word, which asks for the version
 abbrev pub asks_version : List Text → Bool

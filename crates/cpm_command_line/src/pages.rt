@@ -1,6 +1,6 @@
 //! The texts of the help's pages.
 ghost use Rattle.std.specs.Prelude.{◌≡◌, Some};
-ghost use Rattle.cpm_command_line.specs.HelpWords.{line_of_page, spaced, text_of_page};
+ghost use Rattle.cpm_command_line.specs.HelpWords.{line_of_page, joined_by_spaces, text_of_page};
 ghost use Rattle.cpm_command_line.specs.Line.{asked_page};
 
 use crate::usage::Page;
@@ -372,7 +372,7 @@ pub fn page_text(page: Page) -> &'static str
 
 /// The command line that prints a page.
 pub fn page_line(page: Page) -> &'static str
-    ensures line { result.now ≡ spaced (line_of_page page) }
+    ensures line { result.now ≡ joined_by_spaces (line_of_page page) }
     ensures asks { asked_page (line_of_page page) ≡ Some page }
 {
     match page {

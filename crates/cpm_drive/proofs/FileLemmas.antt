@@ -12,8 +12,8 @@ use Rattle.cpm_directory.specs.Directory.{entries_of}
 use Rattle.cpm_directory.proofs.DriveLemmas.{entries_length}
 use Rattle.cpm_drive.specs.declared.drive.Drive.{Drive}
 use Rattle.cpm_drive.specs.declared.change.Change.{Change}
-use Rattle.cpm_drive.specs.declared.closing.Closing.{Closing}
-use Rattle.cpm_drive.specs.declared.closing.Closing.TheVariants.{Refused, Fault, Closed}
+use Rattle.cpm_drive.specs.declared.closing.CloseJudgement.{CloseJudgement}
+use Rattle.cpm_drive.specs.declared.closing.CloseJudgement.TheVariants.{Refused, Fault, Closed}
 use Rattle.cpm_drive.specs.Drive.{directory_code, volume_of, drive_after}
 use Rattle.cpm_drive.specs.Judged.{with_change, close_of, change_of, IsEntryWithin}
 use Rattle.cpm_drive.specs.Calls.{closed_file, close_answer, drive_closed, after_close, after_open, open_index, made_file, after_make}
@@ -29,7 +29,7 @@ written_is drive c below =
     let is = change_is (volume_of drive.image drive.marks.reserved) c (rw same below) in
     ap (drive_after drive) (sym (rw same at is))
 
-drive_closes : (drive : Drive) (closing : Closing) → IsEntryWithin (dpb_of drive.image.format) (change_of closing) → drive_after drive (with_change (volume_of drive.image drive.marks.reserved) (change_of closing)) ≡ drive_closed drive (close_of (entries_of drive.image) closing)
+drive_closes : (drive : Drive) (closing : CloseJudgement) → IsEntryWithin (dpb_of drive.image.format) (change_of closing) → drive_after drive (with_change (volume_of drive.image drive.marks.reserved) (change_of closing)) ≡ drive_closed drive (close_of (entries_of drive.image) closing)
 unfolding drive_closed
 drive_closes drive Refused within = no_write drive
 drive_closes drive (Fault which) within = no_write drive
@@ -38,7 +38,7 @@ drive_closes drive (Closed change both) within =
     written_is drive change (omega (arith, within))
 
 -- a close whose entry is written
-pub closes : (drive new : Drive) (fcb fcb' : Fcb) (closing : Closing) (close : Close) (result : Result (Option ℕ) FileFault) → close_of (entries_of drive.image) closing ≡ close → IsEntryWithin (dpb_of drive.image.format) (change_of closing) → new ≡ drive_after drive (with_change (volume_of drive.image drive.marks.reserved) (change_of closing)) → (result, fcb') ≡ close_answer fcb (close_of (entries_of drive.image) closing) → closed_file result new fcb' ≡ after_close drive fcb close
+pub closes : (drive new : Drive) (fcb fcb' : Fcb) (closing : CloseJudgement) (close : Close) (result : Result (Option ℕ) FileFault) → close_of (entries_of drive.image) closing ≡ close → IsEntryWithin (dpb_of drive.image.format) (change_of closing) → new ≡ drive_after drive (with_change (volume_of drive.image drive.marks.reserved) (change_of closing)) → (result, fcb') ≡ close_answer fcb (close_of (entries_of drive.image) closing) → closed_file result new fcb' ≡ after_close drive fcb close
 unfolding after_close
 closes drive new fcb fcb' closing close result is within written answers =
     rw (← is, ← answers, ← drive_closes drive closing within) (ap (λ drive. closed_file result drive fcb') written)

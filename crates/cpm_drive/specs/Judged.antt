@@ -7,8 +7,8 @@ use Rattle.cpm_volume.specs.declared.answer.Answer.{Answer}
 use Rattle.cpm_volume.specs.Files.{Volume, entry_put}
 use Rattle.cpm_volume.specs.Operations.{Close, refused, close_fault, closed, Place, stopped, standing, Target, Purpose, reading, writing}
 use Rattle.cpm_drive.specs.declared.change.Change.{Change}
-use Rattle.cpm_drive.specs.declared.closing.Closing.{Closing}
-use Rattle.cpm_drive.specs.declared.closing.Closing.TheVariants.{Refused, Fault, Closed}
+use Rattle.cpm_drive.specs.declared.closing.CloseJudgement.{CloseJudgement}
+use Rattle.cpm_drive.specs.declared.closing.CloseJudgement.TheVariants.{Refused, Fault, Closed}
 use Rattle.cpm_drive.specs.declared.place.Arrival.{Arrival}
 use Rattle.cpm_drive.specs.declared.place.SoughtRecord.{SoughtRecord}
 use Rattle.cpm_drive.specs.declared.place.Access.{Access}
@@ -30,13 +30,13 @@ abbrev pub IsEntryWithin : Dpb → Option Change → Type 0
 IsEntryWithin d change = IfSome change (λ c. c.index ≤ d.last_entry)
 
 -- what a close comes to
-abbrev pub close_of : List Entry → Closing → Close
+abbrev pub close_of : List Entry → CloseJudgement → Close
 close_of es Refused = refused
 close_of es (Fault which) = close_fault which
 close_of es (Closed change extent) = closed change.index (slice_set es change.index change.entry) extent
 
 -- the entry that is to be written then
-abbrev pub change_of : Closing → Option Change
+abbrev pub change_of : CloseJudgement → Option Change
 change_of Refused = None
 change_of (Fault which) = None
 change_of (Closed change extent) = Some change

@@ -17,7 +17,7 @@ use cpm_volume::{Entry, Extent, Fault, Fcb};
 
 /// What a close of an extent comes to.
 #[derive(Clone, Copy, PartialEq, Eq, Debug)]
-pub enum Closing {
+pub enum CloseJudgement {
     /// No entry is of the extent, or the two have different numbers at a place.
     Refused,
     Fault(Fault),
@@ -25,13 +25,13 @@ pub enum Closing {
     Closed(Change, Extent),
 }
 
-impl Closing {
+impl CloseJudgement {
     /// The entry that is to be written.
     fn change(&self) -> Option<Change>
         ensures { result ≡ change_of self.now }
     {
         match self {
-            Closing::Closed(change, _) => Some(*change),
+            CloseJudgement::Closed(change, _) => Some(*change),
             _ => None,
         }
     }
@@ -42,9 +42,9 @@ impl Closing {
         ensures { (es : List Entry) → (result, fcb.new) ≡ close_answer fcb.old (close_of es self) }
     {
         match self {
-            Closing::Refused => Ok(None),
-            Closing::Fault(which) => Err(which),
-            Closing::Closed(change, both) => {
+            CloseJudgement::Refused => Ok(None),
+            CloseJudgement::Fault(which) => Err(which),
+            CloseJudgement::Closed(change, both) => {
                 fcb.extent = both;
                 Ok(Some(directory_code(change.index)))
             }
@@ -79,29 +79,34 @@ impl Drive {
 }
 
 /// What a close of an extent comes to. Nothing is written.
-pub fn judge_close(image: &LentImage<'_>, is_protected: bool, user: u8, extent: &Extent) -> Closing
+pub fn judge_close(
+    image: &LentImage<'_>,
+    is_protected: bool,
+    user: u8,
+    extent: &Extent,
+) -> CloseJudgement
     ensures value { close_of (entries_of image.now) result ≡ close_extent (dpb_of image.now.format) is_protected (entries_of image.now) user extent.now }
     ensures within { IsEntryWithin (dpb_of image.now.format) (change_of result) }
 {
     let dpb = image.format().dpb();
     let group = group_of(&dpb, extent.number());
     let Some(index) = first_match(image, None, user, &extent.name, group) else {
-        return Closing::Refused;
+        return CloseJudgement::Refused;
     };
     if has_bad_block(&dpb, &extent.blocks) {
-        return Closing::Fault(Fault::BadSector);
+        return CloseJudgement::Fault(Fault::BadSector);
     }
     let stored = image.entry(index);
     if !agree(&extent.blocks, &stored.extent.blocks) {
-        return Closing::Refused;
+        return CloseJudgement::Refused;
     }
     let blocks = merged(&extent.blocks, &stored.extent.blocks);
     let both = Extent { blocks, ..*extent };
     let entry = closed_entry(&stored, &both);
     if must_stay(is_protected, &stored.extent, &entry.extent) {
-        return Closing::Fault(Fault::ReadOnly);
+        return CloseJudgement::Fault(Fault::ReadOnly);
     }
-    Closing::Closed(Change { index, entry }, both)
+    CloseJudgement::Closed(Change { index, entry }, both)
 }
 
 /// The group of an extent.

@@ -14,7 +14,7 @@ pub mod searching;
 pub mod writing;
 
 pub use change::Change;
-pub use closing::{Closing, close_file_lent};
+pub use closing::{CloseJudgement, close_file_lent};
 pub use drive::{Drive, Marks, directory_code};
 pub use opening::open_file_lent;
 pub use reading::{peek_next, read_next_protected, read_random_protected};

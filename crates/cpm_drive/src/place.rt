@@ -8,7 +8,7 @@ ghost use Rattle.cpm_drive.specs.Drive.{volume_of};
 ghost use Rattle.cpm_drive.specs.Judged.{with_change, arrived, standing_in, stopped_in, purpose_of, place_of_arrival, IsArrival, target_by};
 
 use crate::change::Change;
-use crate::closing::{Closing, judge_close};
+use crate::closing::{CloseJudgement, judge_close};
 use crate::drive::Marks;
 use crate::opening::{make_extent, open_extent, open_to_read};
 use cpm_directory::LentImage;
@@ -142,9 +142,9 @@ fn cross(
     ensures current { IfOk result.current (λ here. here ≡ sought.now.current) }
 {
     match judge_close(image, marks.is_protected, user, extent) {
-        Closing::Refused => Arrival::stopped(extent, sought.unclosed),
-        Closing::Fault(which) => Arrival::stopped(extent, Answer::Fault(which)),
-        Closing::Closed(closed, both) => {
+        CloseJudgement::Refused => Arrival::stopped(extent, sought.unclosed),
+        CloseJudgement::Fault(which) => Arrival::stopped(extent, Answer::Fault(which)),
+        CloseJudgement::Closed(closed, both) => {
             have_extent(image, marks, access, closed, user, &both, sought)
         }
     }

@@ -12,7 +12,7 @@ ghost use Rattle.cpm_play.specs.Pacing.{without_text};
 ghost use Rattle.cpm_play.specs.Playing.{EndsAs, HasText, IsFresh, IsQuiet, alone_by};
 ghost use Rattle.cpm_script.specs.Script.{most_keys};
 
-use crate::live::{Live, LiveError, show};
+use crate::live::{LiveError, LivePlay, show};
 use crate::machine::{CHUNK, QUANTUM, drop_list, quantum_of};
 use crate::progress::{Watcher, progress_of_one};
 use cpm_geom::Image;
@@ -164,7 +164,7 @@ fn has_met(machine: &Machine, text: &[u8], shown: &[u8]) -> bool
     machine.look().waiting && memmem::find(shown, text).is_some()
 }
 
-impl Live {
+impl LivePlay {
     /// Presses a key at its count, if the machine then runs and that is within the steps; says whether it is. What was shown before is then forgotten.
     fn press<W: Write, S: Write, T: Watcher>(
         &mut self,
@@ -251,7 +251,7 @@ fn follow<W: Write, S: Write, T: Watcher>(
     out: &mut W,
     record: &mut S,
     watcher: &mut T,
-) -> Result<Live, LiveError>
+) -> Result<LivePlay, LiveError>
     requires fresh { IsFresh machine.old }
     requires ascii { AreAscii cued.cues.now }
     requires few { key_count cued.cues.now ≤ most_keys }
@@ -263,7 +263,7 @@ fn follow<W: Write, S: Write, T: Watcher>(
     ensures refused { IfErr result (IsCutOff system.now steps (key_count cued.entry.cues.now) machine.old machine.new (W.contents out.old) (W.contents out.new)
         (S.contents record.old) (S.contents record.new)) }
 {
-    let mut live = Live {
+    let mut live = LivePlay {
         keys: Vec::new(alloc),
         steps: 0,
     };
@@ -316,7 +316,7 @@ pub fn play_cues<W: Write, S: Write, T: Watcher>(
     out: &mut W,
     record: &mut S,
     watcher: &mut T,
-) -> Result<Live, LiveError>
+) -> Result<LivePlay, LiveError>
     requires fresh { IsFresh machine.old }
     requires ascii { AreAscii cued.cues.now }
     requires few { key_count cued.cues.now ≤ most_keys }

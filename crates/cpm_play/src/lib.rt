@@ -18,7 +18,7 @@ mod watch;
 
 pub use cued::{CuedKeys, play_cues};
 pub use error::PlayError;
-pub use live::{Live, LiveError, play_live};
+pub use live::{LiveError, LivePlay, play_live};
 pub use machine::play_machine;
 pub use player::{Fork, Player};
 pub use progress::{NoWatcher, Progress, Watcher};

@@ -41,7 +41,7 @@ pub enum LiveError {
 
 /// A session that was played live: its keys, each with the count of steps at which it came, and how many steps it executed.
 #[derive(Drop)]
-pub struct Live {
+pub struct LivePlay {
     pub keys: Vec<Key>,
     pub steps: u64,
 }
@@ -67,7 +67,7 @@ fn write_line<S: Write>(record: &mut S, key: Key) -> io::Result<()>
     Ok(())
 }
 
-impl Live {
+impl LivePlay {
     /// Presses a key where the machine stands, and records it before.
     pub(crate) fn give<S: Write>(
         &mut self,
@@ -143,7 +143,7 @@ pub fn play_live<I: Read, W: Write, S: Write>(
     input: &mut I,
     out: &mut W,
     record: &mut S,
-) -> Result<Live, LiveError>
+) -> Result<LivePlay, LiveError>
     requires fresh { IsFresh machine.old }
     ensures within { IfOk result (λ live. live.steps ≤ steps) }
     ensures keys { IfOk result (λ live. AreGiven most_keys live.steps live.keys.items) }
@@ -157,7 +157,7 @@ pub fn play_live<I: Read, W: Write, S: Write>(
     ensures refused { IfErr result (IsCutShort system.now steps most_keys machine.old machine.new (W.contents out.old) (W.contents out.new)
         (S.contents record.old) (S.contents record.new) (I.remaining input.old) (I.remaining input.new)) }
 {
-    let mut live = Live {
+    let mut live = LivePlay {
         keys: Vec::new(alloc),
         steps: 0,
     };

@@ -132,11 +132,11 @@ abbrev pub cues : List ℕ → Result (List CueText) (ℕ × LineFault)
 cues text = cues_from 1 [] (lines text)
 
 -- a line begins with this word, so that what it says may be kept
-abbrev pub is_opening : List ℕ → Bool
-is_opening word = is_wait_word word || (is_expect word || is_some (count_of word))
+abbrev pub is_cue_word : List ℕ → Bool
+is_cue_word word = is_wait_word word || (is_expect word || is_some (count_of word))
 
 abbrev pub is_cue : List ℕ → Bool
-is_cue line = not (is_skipped line) && is_opening (before_first is_script_space line)
+is_cue line = not (is_skipped line) && is_cue_word (before_first is_script_space line)
 
 abbrev pub has_cue : List (List ℕ) → Bool
 has_cue = list_any is_cue

@@ -3,7 +3,7 @@ ghost use Rattle.std.specs.Prelude.{◌≡◌, ◌≤◌, ◌<◌, ◌+◌, ◌+
 ghost use Rattle.std.specs.Str.Lines.{lines};
 ghost use Rattle.cpm_script.specs.KeyText.{count_of, keys_of};
 ghost use Rattle.cpm_script.specs.Cues.{AddsCues, Awaited, IsReading, ReadsCues, all_said, cues, cut_at};
-ghost use Rattle.cpm_script.specs.Cues.{has_cue, is_cue, is_expect, is_opening, is_wait_word, key_cue, quoted, cue_text};
+ghost use Rattle.cpm_script.specs.Cues.{has_cue, is_cue, is_expect, is_cue_word, is_wait_word, key_cue, quoted, cue_text};
 ghost use Rattle.cpm_script.specs.Cues.{cues_with_awaited, cues_with_counted, cues_with_expected, cues_with_line, cues_with_text, cues_with_word};
 ghost use Rattle.cpm_script.specs.Script.{most_keys};
 
@@ -219,7 +219,7 @@ fn add_word(
     requires { IsReading reading.old }
     ensures added { AddsCues (cues_with_word (all_said reading.old.cues) word.now text.now) result (all_said reading.new.cues) }
     ensures reading { OnOk result (IsReading reading.new) }
-    ensures memory { IsErrOf result KeyStop.OutOfMemory → is_opening word.now ≡ true }
+    ensures memory { IsErrOf result KeyStop.OutOfMemory → is_cue_word word.now ≡ true }
 {
     if is_wait_word(word) {
         add_awaited(reading, alloc, &[], text)

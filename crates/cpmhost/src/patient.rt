@@ -100,13 +100,13 @@ impl<R: StandardError> Write for PatientError<'_, R> {
 
 impl<R: StandardError> Eprint for PatientError<'_, R> {
     fn eprint<D: fmt::Display + Drop>(&self, value: D) -> io::Result<()> {
-        let mut message = Message::new(self.rt);
+        let mut message = ErrorMessage::new(self.rt);
         let written = write!(message, "{value}");
         message.end(written)
     }
 
     fn eprintln<D: fmt::Display + Drop>(&self, value: D) -> io::Result<()> {
-        let mut message = Message::new(self.rt);
+        let mut message = ErrorMessage::new(self.rt);
         let written = writeln!(message, "{value}");
         message.end(written)
     }
@@ -117,15 +117,15 @@ const MOST_KEPT: usize = 1024;
 
 /// A text for standard error, which goes there at once as far as there is room to keep it. No memory is taken for it.
 #[derive(Drop)]
-struct Message<'a, R: StandardError> {
+struct ErrorMessage<'a, R: StandardError> {
     error: PatientError<'a, R>,
     kept: ArrayString<MOST_KEPT>,
 }
 
-impl<'a, R: StandardError> Message<'a, R> {
+impl<'a, R: StandardError> ErrorMessage<'a, R> {
     /// None of a text.
-    fn new(rt: &'a R) -> Message<'a, R> {
-        Message {
+    fn new(rt: &'a R) -> ErrorMessage<'a, R> {
+        ErrorMessage {
             error: PatientError::new(rt),
             kept: ArrayString::new(),
         }
@@ -147,7 +147,7 @@ impl<'a, R: StandardError> Message<'a, R> {
     }
 }
 
-impl<R: StandardError> fmt::Write for Message<'_, R> {
+impl<R: StandardError> fmt::Write for ErrorMessage<'_, R> {
     fn write_str(&mut self, text: &str) -> fmt::Result {
         if self.kept.try_push_str(text).is_ok() {
             return Ok(());

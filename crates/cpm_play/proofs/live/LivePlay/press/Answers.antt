@@ -1,7 +1,7 @@
 use Rattle.std.proofs.Common.{◌∷◌, [], ◌++◌, ℕ, ap, refl, sym, ◌∙◌}
 use Rattle.cpm_script.specs.declared.script.Key.{Key}
 use Rattle.cpm_play.proofs.CuedLemmas.{missed-ended, pressed-there, reached, takes-later}
-use Rattle.cpm_play.proofs.live.Live.press.Goals as goal
+use Rattle.cpm_play.proofs.live.LivePlay.press.Goals as goal
 
 pub returns-then-not-runs-clause-missed : goal.returns-then-not-runs-clause-missed
 returns-then-not-runs-clause-missed g c = λ _.

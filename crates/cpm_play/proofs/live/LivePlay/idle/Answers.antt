@@ -1,7 +1,7 @@
 use Rattle.std.proofs.Common.{◌-◌, ◌≤◌, arith}
 use Rattle.std.proofs.lemmas.Result.{err_from_is_err_and}
 use Rattle.cpm_play.proofs.RunLemmas.{pause-cut, pause-idled, pause-kept, quiet-taken}
-use Rattle.cpm_play.proofs.live.Live.idle.Goals as goal
+use Rattle.cpm_play.proofs.live.LivePlay.idle.Goals as goal
 
 pub overflow_add-self : goal.overflow_add-self
 overflow_add-self g c =
