@@ -17,7 +17,7 @@ use crate::error::HostError;
 use crate::live::{LiveResult, SessionStart, opening_refused};
 use cpm_geom::{Format, Image};
 use cpm_machine::Machine;
-use cpm_play::{CuedKeys, Live, Watcher, play_cues};
+use cpm_play::{CuedKeys, LivePlay, Watcher, play_cues};
 use cpm_script::laws::{cues_in_order, forked_cues_in_order, plain_scripts, recorded_keys};
 use cpm_script::{Cue, Key, keys_before, read_cues, read_forked_cues};
 use std::alloc::{AllocError, Global};
@@ -113,7 +113,7 @@ fn play_cued<W: Write, S: Write, T: Watcher>(
 {
     recorded_keys();
     let mut machine = machine;
-    let Live { keys, steps } = play_cues(
+    let LivePlay { keys, steps } = play_cues(
         alloc,
         system,
         &mut machine,

@@ -13,7 +13,7 @@ use crate::error::HostError;
 use cpm_command_line::shown;
 use cpm_geom::{Format, Image};
 use cpm_machine::{Machine, OpenError, Opening};
-use cpm_play::{Live, play_live};
+use cpm_play::{LivePlay, play_live};
 use cpm_run::RunError;
 use cpm_script::laws::recorded_keys;
 use cpm_script::{Key, MOST_KEYS};
@@ -49,7 +49,7 @@ fn play_typed<I: Read, W: Write, S: Write>(
 {
     recorded_keys();
     let mut machine = machine;
-    let Live { keys, steps } = play_live(
+    let LivePlay { keys, steps } = play_live(
         alloc,
         system,
         &mut machine,

@@ -4,7 +4,7 @@ use crate::machines::{MachineParts, Machines};
 use cpm_geom::Image;
 use cpm_machine::Machine;
 use cpm_play::laws::scripts_in_order;
-use cpm_play::{CuedKeys, Live, NoWatcher, play_cues, play_live, play_machine};
+use cpm_play::{CuedKeys, LivePlay, NoWatcher, play_cues, play_live, play_machine};
 use cpm_script::laws::cues_in_order;
 use cpm_script::{read_cues, read_keys};
 use std::alloc::Global;
@@ -155,7 +155,7 @@ fn by_script(
         &mut record,
         &mut NoWatcher,
     ) {
-        Ok(Live { steps, .. }) => Ok(PlayedMachine {
+        Ok(LivePlay { steps, .. }) => Ok(PlayedMachine {
             machine,
             text,
             record,
@@ -188,7 +188,7 @@ fn by_keys(
         &mut text,
         &mut record,
     ) {
-        Ok(Live { steps, .. }) => Ok(PlayedMachine {
+        Ok(LivePlay { steps, .. }) => Ok(PlayedMachine {
             machine,
             text,
             record,
