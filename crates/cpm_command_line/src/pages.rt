@@ -16,16 +16,16 @@ Commands:
   com         run a CP/M program, such as a .COM file
   asm         assemble 8080 source to a program
   list        list a program as instructions
-  check       tell whether the directory in the image of a drive is in order
-  debug       run a program as the lines of standard input say
+  check       check the directory in the image of a drive
+  debug       run a program step by step, as lines of standard input say
   disk        make the image of a disk, or work with the files in one
 
 'cpmhost help COMMAND', or 'cpmhost COMMAND --help', prints the page of a
 command: what it does, its options and examples. 'cpmhost help disk put' prints
 the page of a command of disk.
 
-'cpmhost help debug' also tells the lines that debug reads, and
-'cpmhost help status' the exit statuses.
+'cpmhost help debug' also lists the lines that debug reads, and
+'cpmhost help status' prints the exit statuses.
 
 'cpmhost help' and 'cpmhost --help' print the list of commands, and
 'cpmhost --version' the version.
@@ -40,14 +40,14 @@ Usage: cpmhost com FILE [TAIL..] [--z80] [--steps N] [--keys SCRIPT]
        [--progress] [--stop-idle] [--raw] [--quiet]
 
 Run the CP/M program in FILE, such as a .COM file, with the words TAIL..
-behind its name on the command line of CP/M, and print what it writes to its
-console. Behind '--' these words may begin with '-'.
+after its name on the command line of CP/M, and print what it writes to its
+console. After '--' these words may begin with '-'.
 
 Options:
   --z80       run it on the Z80; it is the 8080 unless this is given
-  --steps N   stop after N steps. N is a number from 0 to 18446744073709551615,
-              and 1000000 where it is left out; but with --keyboard there is no
-              limit then. A step is an instruction, or a part of a system call
+  --steps N   stop after N steps. N is a number from 0 to 18446744073709551615.
+              Without it the limit is 1000000 steps, and with --keyboard there
+              is none. A step is an instruction, or a part of a system call
   --keys SCRIPT
               press the keys of SCRIPT, each line of which is empty, a comment
               that begins with '#', or a count of steps, a space and the keys
@@ -61,15 +61,16 @@ Options:
               write the disk in drive A, as the program left it, to this file;
               given again, those in B, C and D
   --keyboard  take the keys from standard input as they are typed; '^]', which
-              is Control and ], ends it
+              is Control and ], ends it. It goes with neither --keys nor
+              --progress
   --record SCRIPT
               write the keys that come by --keyboard or --keys to the file
-              SCRIPT, which --keys takes
-  --progress  tell on standard error how much of the steps is done
+              SCRIPT, which --keys takes; one of the two must be given
+  --progress  report on standard error how much of the steps is done
   --stop-idle
               end where the program waits for a key and no key of the script
               will come
-  --raw       control bytes of the program go to a terminal as they are;
+  --raw       send control bytes of the program to a terminal as they are;
               without it they are shown as ^[ and the like
   --quiet     leave out the last line, which says how the program ended
   -h, --help  print this page
@@ -85,7 +86,13 @@ counter then stood, as in 'end Exited count 7 pc E406':
   Exited    the program returned to the system
   Halted    it executed HLT
   Illegal   it came to an opcode that the processor does not have
-  Running   it was still running after --steps, or waiting for a key
+  Running   its steps were used up, typing ended, or it waited for a key under
+            --stop-idle
+  CountEnd  its count of steps can't rise any more
+
+With --keyboard or --stop-idle the last word of the line is 'waiting' where the
+program waited for a key. The line before an 'end Illegal' has the four bytes at
+the program counter.
 ";
 
 /// The page of `asm`.
@@ -124,8 +131,9 @@ Examples:
 pub const CHECK_PAGE: &str = "\
 Usage: cpmhost check IMAGE
 
-Print 'ok' if no two files in the image IMAGE of a drive share a block and each
-block can be a file's.
+Print 'ok' if the directory in the image IMAGE of a drive is in order: each
+block in it can be a file's and stands there once, and no two entries are of the
+same part of one file. Else report the first entry that is wrong.
 
 Options:
   -h, --help  print this page
@@ -145,17 +153,18 @@ and print how each session ended.
 
 Options:
   --keyboard NAME
-              take the keys of the session NAME from standard input, as for com
+              take the keys of the session NAME from standard input, as for com.
+              It doesn't go with --progress
   --record SCRIPT
-              write these keys to the file SCRIPT, as for com
-  --progress  tell on standard error how much of the steps is done
+              write the keys of --keyboard to the file SCRIPT, as for com
+  --progress  report on standard error how much of the steps is done
   --stop-idle
               end a session where it waits for a key and no key of its script
               will come
   --record-all FOLDER
               write the keys of each session NAME to the script NAME.keys in
               the folder FOLDER
-  --raw       control bytes of the program go to a terminal as they are;
+  --raw       send control bytes of the program to a terminal as they are;
               without it they are shown as ^[ and the like
   --within FOLDER
               refuse files of the configuration that are not in this folder,
@@ -171,9 +180,11 @@ Examples:
   cpmhost run lab.toml --within lab --outputs-here
 
 A line on standard output says for each session its name, how it ended, after
-how many steps, and how many bytes its console got. Beside the ends that
-'cpmhost help com' tells a session can end by Quota: it might have written more
-pages of memory than its configuration allows.
+how many steps, and how many bytes its console got. With --stop-idle its last
+word is 'waiting' where the session waited for a key. The ends are those that
+'cpmhost help com' lists, but for Exited, and one more:
+  Quota     its next step might have written more pages of memory than its
+            configuration allows
 ";
 
 /// The page of `debug`.
@@ -217,7 +228,7 @@ Commands:
   rename      give a file in an image another name
 
 Options:
-  -h, --help  print this page, or behind a command of disk its page
+  -h, --help  print this page, or after a command of disk its page
 
 Examples:
   cpmhost help disk put
@@ -231,7 +242,7 @@ Usage: cpmhost disk new IMAGE [--large]
 Write the image of a blank disk to the file IMAGE.
 
 Options:
-  --large     make a large disk, of 2105344 bytes in place of 256256
+  --large     make a large disk, of 2,105,344 bytes in place of 256,256
   -h, --help  print this page
 
 Examples:
@@ -332,19 +343,27 @@ Examples:
 /// The page of exit statuses.
 pub const STATUS_PAGE: &str = "\
 Exit status:
-  0   the program or the sessions ran, however they ended, or OUT or the list
-      was written, or the image is in order
-  1   the command line is wrong
+  0   nothing is refused: the program or the sessions ran, however they ended;
+      files were read or written, or the image is in order
+  1   the command line is wrong, or a name on it: of a session that isn't in
+      the configuration or is forked, or one that no file of CP/M can have
   2   the configuration is wrong; nothing is written
   3   a line of a key script is wrong; nothing is written
-  4   a file can't be read, or has more than 16777216 bytes
-  5   standard output or a file can't be written
-  6   the image of a drive is wrong, or for check its directory; nothing is
-      written
+  4   a file can't be read, has more than 16 MiB (16,777,216 bytes), or lies
+      outside of --within
+  5   standard output or a file can't be written; two files of the command are
+      one; a file is held by another command or has changed meanwhile; it lies
+      outside of --within or --outputs-here; or it is there and is not to be
+      replaced
+  6   the image of a disk is wrong, or for check and disk its directory; or what
+      was asked of disk can't be done; nothing is written
   7   SOURCE has a fault, which is named with its line; OUT isn't touched
-  8   memory ran out
-  9   the program in FILE has more than 58112 bytes, or the quotas of all
+  8   out of memory
+  9   the program in FILE has more than 58,112 bytes, or the quotas of all
       sessions exceed the frames of the configuration
+
+The launcher has two more: 70 where this machine can't run the program, and 71
+where 'cpmhost --version --check' finds another program than the released one.
 ";
 
 /// The text of a page.

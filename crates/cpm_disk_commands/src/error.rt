@@ -12,7 +12,7 @@ use thiserror::Error;
 #[derive(Clone, Copy, Debug, Drop, Error)]
 pub enum DiskCommandError {
     /// The text is no name of a file.
-    #[error("HO1 '{0}' is no name of a file: 1 to 8 characters and, behind a dot, up to 3 are wanted, none of them a blank or of <>.,;:=?*[]_")]
+    #[error("HO1 '{0}' is no name of a file: 1 to 8 characters and, after a dot, up to 3 are wanted, none of them a blank or of <>.,;:=?*[]_")]
     NotName(ShownWord),
     /// The text is no pattern of names.
     #[error("HO1 '{0}' is no pattern of names: a name is wanted, where '?' stands for any character and a last '*' for all that follow")]
