@@ -22,12 +22,7 @@ Commands:
 
 'cpmhost help COMMAND', or 'cpmhost COMMAND --help', prints the page of a
 command: what it does, its options and examples. 'cpmhost help disk put' prints
-the page of a command of disk.
-
-'cpmhost help debug' also lists the lines that debug reads, and
-'cpmhost help status' prints the exit statuses.
-
-'cpmhost help' and 'cpmhost --help' print the list of commands, and
+the page of a command of disk, 'cpmhost help status' the exit statuses, and
 'cpmhost --version' the version.
 
 A file whose name begins with '-' is given as './NAME'.
@@ -60,16 +55,14 @@ Options:
   --out-disk IMAGE
               write the disk in drive A, as the program left it, to this file;
               given again, those in B, C and D
-  --keyboard  take the keys from standard input as they are typed; '^]', which
-              is Control and ], ends it. It goes with neither --keys nor
-              --progress
+  --keyboard  take the keys from standard input as they are typed; '^]', Control
+              and ], ends it. It goes with neither --keys nor --progress
   --record SCRIPT
               write the keys that come by --keyboard or --keys to the file
               SCRIPT, which --keys takes; one of the two must be given
   --progress  report on standard error how much of the steps is done
   --stop-idle
-              end where the program waits for a key and no key of the script
-              will come
+              end where the program waits for a key and no key will come
   --raw       send control bytes of the program to a terminal as they are;
               without it they are shown as ^[ and the like
   --quiet     leave out the last line, which says how the program ended
@@ -80,19 +73,16 @@ Examples:
   cpmhost com pip.com --disk work.img --out-disk work.img b.txt=a.txt
   cpmhost com turbo.com --z80 --disk turbo.img --keyboard --record turbo.keys
 
-Standard output has what the program wrote to its console. The last line on
-standard error says how it ended, after how many steps, and where its program
-counter then stood, as in 'end Exited count 7 pc E406':
+The last line on standard error says how it ended, after how many steps, and
+where its program counter then stood, as in 'end Exited count 7 pc E406':
   Exited    the program returned to the system
   Halted    it executed HLT
   Illegal   it came to an opcode that the processor does not have
-  Running   its steps were used up, typing ended, or it waited for a key under
-            --stop-idle
+  Running   its steps or the typing ended, or it waited under --stop-idle
   CountEnd  its count of steps can't rise any more
 
-With --keyboard or --stop-idle the last word of the line is 'waiting' where the
-program waited for a key. The line before an 'end Illegal' has the four bytes at
-the program counter.
+With --keyboard or --stop-idle its last word is 'waiting' where the program
+waited for a key. The line before 'end Illegal' has the bytes that it came to.
 ";
 
 /// The page of `asm`.
@@ -159,8 +149,7 @@ Options:
               write the keys of --keyboard to the file SCRIPT, as for com
   --progress  report on standard error how much of the steps is done
   --stop-idle
-              end a session where it waits for a key and no key of its script
-              will come
+              end a session where it waits for a key and no key will come
   --record-all FOLDER
               write the keys of each session NAME to the script NAME.keys in
               the folder FOLDER
@@ -183,8 +172,7 @@ A line on standard output says for each session its name, how it ended, after
 how many steps, and how many bytes its console got. With --stop-idle its last
 word is 'waiting' where the session waited for a key. The ends are those that
 'cpmhost help com' lists, but for Exited, and one more:
-  Quota     its next step might have written more pages of memory than its
-            configuration allows
+  Quota     its next step might have written more pages than its quota
 ";
 
 /// The page of `debug`.
@@ -343,18 +331,16 @@ Examples:
 /// The page of exit statuses.
 pub const STATUS_PAGE: &str = "\
 Exit status:
-  0   nothing is refused: the program or the sessions ran, however they ended;
-      files were read or written, or the image is in order
+  0   nothing was refused, however the program or the sessions ended
   1   the command line is wrong, or a name on it: of a session that isn't in
       the configuration or is forked, or one that no file of CP/M can have
   2   the configuration is wrong; nothing is written
   3   a line of a key script is wrong; nothing is written
   4   a file can't be read, has more than 16 MiB (16,777,216 bytes), or lies
       outside of --within
-  5   standard output or a file can't be written; two files of the command are
-      one; a file is held by another command or has changed meanwhile; it lies
-      outside of --within or --outputs-here; or it is there and is not to be
-      replaced
+  5   standard output or a file can't be written, or isn't to be: two files are
+      one, another command holds it, it has changed meanwhile, it is there, or it
+      lies outside of --within or --outputs-here
   6   the image of a disk is wrong, or for check and disk its directory; or what
       was asked of disk can't be done; nothing is written
   7   SOURCE has a fault, which is named with its line; OUT isn't touched
