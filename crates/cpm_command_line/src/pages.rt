@@ -44,11 +44,11 @@ Options:
               Without it the limit is 1000000 steps, and with --keyboard there
               is none. A step is an instruction, or a part of a system call
   --keys SCRIPT
-              press the keys of SCRIPT, each line of which is empty, a comment
-              that begins with '#', or a count of steps, a space and the keys
-              that come after so many steps. A character from ' ' to '~' is
-              itself, '^M' is Return, '^C' is Control and C, '^?' is Rubout,
-              and '^~' is a caret
+              press the keys of SCRIPT. A line of it is empty, a comment that
+              begins with '#', or says when keys come: 'N KEYS' after N steps,
+              'wait KEYS' where the program waits for a key, and 'expect \"TEXT\"
+              KEYS' where it does and has shown TEXT. '^M' is Return, '^C' is
+              Control and C, '^?' is Rubout, '^~' a caret, the others themselves
   --disk IMAGE
               the image of the disk in drive A; given again, of those in B, C
               and D; a blank disk is in A where none is given
@@ -339,8 +339,8 @@ Exit status:
   4   a file can't be read, has more than 16 MiB (16,777,216 bytes), or lies
       outside of --within
   5   standard output or a file can't be written, or isn't to be: two files are
-      one, another command holds it, it has changed meanwhile, it is there, or it
-      lies outside of --within or --outputs-here
+      one, another command holds it, it changed meanwhile, it is there, or it lies
+      outside of --within or --outputs-here
   6   the image of a disk is wrong, or for check and disk its directory; or what
       was asked of disk can't be done; nothing is written
   7   SOURCE has a fault, which is named with its line; OUT isn't touched
