@@ -339,8 +339,8 @@ Exit status:
   4   a file can't be read, has more than 16 MiB (16,777,216 bytes), or lies
       outside of --within
   5   standard output or a file can't be written, or isn't to be: two files are
-      one, another command holds it, it changed meanwhile, it is there, or it lies
-      outside of --within or --outputs-here
+      one, another command holds it, it changed meanwhile, it is there already,
+      or it lies outside of --within or --outputs-here
   6   the image of a disk is wrong, or for check and disk its directory; or what
       was asked of disk can't be done; nothing is written
   7   SOURCE has a fault, which is named with its line; OUT isn't touched
