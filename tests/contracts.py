@@ -9,7 +9,7 @@ import glob
 import os
 import re
 
-ROOT = os.path.dirname(os.path.dirname(os.path.realpath(__file__)))
+from lib import ROOT
 
 NAME = r"[^\W\d][\w'-]*"
 TOKEN = re.compile(rf"--.*|//.*|\"(?:[^\"\\]|\\.)*\"|\.{NAME}|\.\d+|{NAME}|\d\w*|\S")

@@ -1,6 +1,6 @@
-"""What the tests share: the programs, the files of a test, what is found wrong, terminals, processes that are traced, cpmtools.
+"""What the tests share: the programs, the files of a test, what is found wrong, terminals, processes that are traced, cpmtools, code that is read.
 
-A test makes its files in a folder of its own (`folder`), tells what is wrong (`wrong`, `check`), and ends with the status of `ended`.
+A test makes its files in a folder of its own (`folder`), reports what is wrong (`wrong`, `check`), and ends with the status of `ended`.
 It needs Python 3.9 or later.
 """
 
@@ -51,6 +51,10 @@ def check(holds, what):
         wrong(what)
 
 
+def skip(what, why):
+    print(f"{NAME}: skipped: {what}, since {why}")
+
+
 def stop(what):
     sys.exit(f"{NAME}: {what}")
 
@@ -84,6 +88,11 @@ def text_of(name):
         return file.read()
 
 
+def files_beside():
+    """The names of the files in this folder that the program makes beside those that it writes."""
+    return [name for name in os.listdir(".") if name.startswith(".cpmhost-")]
+
+
 @contextlib.contextmanager
 def folder():
     """A new folder for the files of a test, which works in it meanwhile."""
@@ -113,10 +122,15 @@ class Ran(NamedTuple):
     status: int
 
 
+def run_command(*words, given=b"", **how):
+    """What a command did, with this on standard input; `how` is for subprocess.run."""
+    done = subprocess.run(words, input=given, capture_output=True, timeout=SECONDS, **how)
+    return Ran(done.stdout, done.stderr, done.returncode)
+
+
 def run(*words, given=b"", before=None):
     """What the program did by these words, with this on standard input; `before` is called in the new process."""
-    done = subprocess.run([CPMHOST, *words], input=given, capture_output=True, preexec_fn=before, timeout=SECONDS)
-    return Ran(done.stdout, done.stderr, done.returncode)
+    return run_command(CPMHOST, *words, given=given, preexec_fn=before)
 
 
 def did(*words, given=b""):
@@ -125,6 +139,27 @@ def did(*words, given=b""):
     if ran.status:
         stop(f"{' '.join(words)} ended with status {ran.status}: {(ran.err + ran.out).decode(errors='replace')[-300:]}")
     return ran
+
+
+# ---- code that is read
+
+# what is no code: comments, texts, and characters, which are one between two quotes
+NO_CODE = re.compile(r"//[^\n]*|/\*.*?\*/|b?\"(?:\\.|[^\"\\])*\"|b?'(?:\\[^']+|[^'\\\n])'", re.DOTALL)
+
+
+def without_texts(code):
+    """The code with blanks for comments, texts and characters."""
+    return NO_CODE.sub(lambda found: re.sub(r"[^\n]", " ", found.group()), code)
+
+
+def after_braces(code, place):
+    """The place after the braces that open here."""
+    depth = 0
+    for at in range(place, len(code)):
+        depth += (code[at] == "{") - (code[at] == "}")
+        if depth == 0:
+            return at + 1
+    raise ValueError("braces that nothing closes")
 
 
 # ---- terminals
