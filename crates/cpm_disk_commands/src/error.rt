@@ -21,7 +21,7 @@ pub enum DiskCommandError {
     #[error("HO1 '{0}' gives no file another name: NEW.TYP=OLD.TYP is wanted")]
     NotPair(ShownWord),
     /// Two files of the host would be one file of a disk.
-    #[error("HO1 '{word}' would be {file} again, which a file before it is already; give one of them another name: FILE=NAME.TYP")]
+    #[error("HO1 '{word}' would be {file}, as an earlier file is; give one of them another name: FILE=NAME.TYP")]
     PutTwice {
         word: ShownWord,
         file: NamedFile,
