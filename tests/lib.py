@@ -141,6 +141,11 @@ def did(*words, given=b""):
     return ran
 
 
+def last_line(error):
+    """The last line of a text, as the one on standard error that says how a program ended."""
+    return error.decode().splitlines()[-1]
+
+
 # ---- code that is read
 
 # what is no code: comments, texts, and characters, which are one between two quotes
