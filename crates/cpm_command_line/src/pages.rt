@@ -81,8 +81,8 @@ where its program counter then stood, as in 'end Exited count 7 pc E406':
   Running   its steps or the typing ended, or it waited under --stop-idle
   CountEnd  its count of steps can't rise any more
 
-With --keyboard or --stop-idle its last word is 'waiting' where the program
-waited for a key. The line before 'end Illegal' has the bytes that it came to.
+With --stop-idle its last word is 'waiting' where the program waited for a key.
+The line before 'end Illegal' has the bytes that it came to.
 ";
 
 /// The page of `asm`.
