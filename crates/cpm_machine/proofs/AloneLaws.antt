@@ -1,5 +1,5 @@
 -- A machine does the same whatever output waits, and so is the machine run alone whatever was taken.
-use Rattle.std.proofs.Common.{◌≡◌, ℕ, zero, suc, Bool, true, false, List, [], ◌∷◌, ◌++◌, length, take, drop, min, Option, Some, None, refl, sym, ap, ◌∙◌}
+use Rattle.std.proofs.Common.{◌≡◌, ℕ, zero, suc, ◌+◌, Bool, true, false, List, [], ◌∷◌, ◌++◌, length, take, drop, min, Option, Some, None, refl, sym, ap, ◌∙◌, if◌then◌else◌}
 use Rattle.std.proofs.lemmas.List.{append_assoc, take-append-drop}
 use Rattle.cpm_flags.specs.declared.regs.Cpu.{Cpu}
 use Rattle.cpm_geom.specs.Disk.{Disk}
@@ -14,10 +14,12 @@ use Rattle.cpm_machine.specs.declared.trap.Trap.{Trap}
 use Rattle.cpm_machine.specs.declared.trap.Trap.TheVariants.{CommandProcessor, Bdos, Bios}
 use Rattle.cpm_machine.specs.Trap.{trap_at}
 use Rattle.cpm_machine.specs.MachineState.{MachineState}
-use Rattle.cpm_machine.specs.Step.{PartResult, part, part_in, at_trap, by_call, after_part, step_if, is_running, step, after}
+use Rattle.cpm_machine.specs.Step.{PartResult, part, part_in, at_trap, by_call, after_part, step_if, is_running, can_step, step, after}
 use Rattle.cpm_machine.specs.Serve.{executed, taken, taken_list, takes_key, keyed}
 use Rattle.cpm_machine.specs.Alone.{alone}
 use Rattle.cpm_machine.specs.Calls.{Call, Key, Grant, GrantUntil, Take, TakeList, LookAt, Peek, Account, no_account, served_key, serve, entered, state_after, account_after, state_behind}
+use Rattle.cpm_machine.specs.MachineCalls.{MachineCall, SlotCall, OneStep, GrantToWait, state_after_call, account_after_call, state_after_all, account_after_all}
+use Rattle.cpm_machine.specs.ToWait.{executed_to_wait}
 use Rattle.cpm_machine.specs.Until.{executed_until}
 use Rattle.cpm_machine.proofs.PressLaws.{AllCame, with_keys-nil, alone-add, alone-pressed, AllCame-pressed, AllCame-later}
 
@@ -84,19 +86,19 @@ after-key system true key a s start h = record {
 }
 after-key system false key a s start h = h
 
+-- some steps more
+after-steps : (system : Disk) (k : ℕ) (a : Account) (s start : MachineState) → IsAlone system a s start → IsAlone system (record a { executed = a.executed + k }) (after system k s) start
+after-steps system k a s start h = record {
+  state = sym (after-behind system a.screen a.printer k s) ∙ ap (after system k) h.state ∙ sym (alone-add system a.presses a.executed k start h.came);
+  came = AllCame-later a.presses a.executed k h.came;
+}
+
 -- one call more
 after-call : (system : Disk) (call : Call) (a : Account) (s start : MachineState) → IsAlone system a s start → IsAlone system (entered a call (serve system call s).answer) (serve system call s).state start
 unfolding serve
 after-call system (Key key) a s start h = after-key system (takes_key s) key a s start h
-after-call system (Grant steps) a s start h = record {
-  state = sym (after-behind system a.screen a.printer (executed system steps s) s) ∙ ap (after system (executed system steps s)) h.state ∙ sym (alone-add system a.presses a.executed (executed system steps s) start h.came);
-  came = AllCame-later a.presses a.executed (executed system steps s) h.came;
-}
-after-call system (GrantUntil steps pc) a s start h = record {
-  state = sym (after-behind system a.screen a.printer (executed_until system pc steps s) s) ∙ ap (after system (executed_until system pc steps s)) h.state
-      ∙ sym (alone-add system a.presses a.executed (executed_until system pc steps s) start h.came);
-  came = AllCame-later a.presses a.executed (executed_until system pc steps s) h.came;
-}
+after-call system (Grant steps) a s start h = after-steps system (executed system steps s) a s start h
+after-call system (GrantUntil steps pc) a s start h = after-steps system (executed_until system pc steps s) a s start h
 after-call system (Take room) a s start h = record { state = taken-behind a.screen a.printer room s ∙ h.state; came = h.came }
 after-call system (TakeList room) a s start h = record { state = taken_list-behind a.screen a.printer room s ∙ h.state; came = h.came }
 after-call system LookAt a s start h = h
@@ -110,3 +112,23 @@ after-calls system (call ∷ calls) a s start h =
 pub alone-after : (system : Disk) (calls : List Call) (start : MachineState) → let a = account_after system calls no_account start in state_behind a.screen a.printer (state_after system calls start) ≡ alone system a.presses a.executed start
 alone-after system calls start =
     (after-calls system calls no_account start start (record { state = sym (with_keys-nil start); came = λ i past. refl })).state
+
+-- ---- with the calls that only a machine has
+
+step-if : (system : Disk) (can : Bool) (a : Account) (s start : MachineState) → IsAlone system a s start → IsAlone system (record a { executed = a.executed + (if can then 1 else 0) }) (if can then step system s else s) start
+step-if system true a s start h = after-steps system 1 a s start h
+step-if system false a s start h = after-steps system 0 a s start h
+
+after-any : (system : Disk) (call : MachineCall) (a : Account) (s start : MachineState) → IsAlone system a s start → IsAlone system (account_after_call system call a s) (state_after_call system call s) start
+after-any system (SlotCall call) a s start h = after-call system call a s start h
+after-any system OneStep a s start h = step-if system (can_step s) a s start h
+after-any system (GrantToWait steps) a s start h = after-steps system (executed_to_wait system steps s) a s start h
+
+after-all : (system : Disk) (calls : List MachineCall) (a : Account) (s start : MachineState) → IsAlone system a s start → IsAlone system (account_after_all system calls a s) (state_after_all system calls s) start
+after-all system [] a s start h = h
+after-all system (call ∷ calls) a s start h =
+    after-all system calls (account_after_call system call a s) (state_after_call system call s) start (after-any system call a s start h)
+
+pub alone-after_all : (system : Disk) (calls : List MachineCall) (start : MachineState) → let a = account_after_all system calls no_account start in state_behind a.screen a.printer (state_after_all system calls start) ≡ alone system a.presses a.executed start
+alone-after_all system calls start =
+    (after-all system calls no_account start start (record { state = sym (with_keys-nil start); came = λ i past. refl })).state

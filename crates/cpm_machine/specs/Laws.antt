@@ -10,9 +10,11 @@ use Rattle.cpm_machine.specs.MachineState.{MachineState}
 use Rattle.cpm_machine.specs.Step.{step, after, can_step, after_part, part_made}
 use Rattle.cpm_machine.specs.Serve.{executed, look_of}
 use Rattle.cpm_machine.specs.ToWait.{can_work, executed_to_wait}
+use Rattle.cpm_machine.specs.Until.{can_go_on, executed_until}
 use Rattle.cpm_machine.specs.Waits.{WaitsWhereItSays}
 use Rattle.cpm_machine.specs.Alone.{Press, due, alone}
 use Rattle.cpm_machine.specs.Calls.{Call, no_account, account_after, state_after, state_behind}
+use Rattle.cpm_machine.specs.MachineCalls.{MachineCall, account_after_all, state_after_all}
 
 -- the number is the greatest up to n below which the test holds everywhere
 pub record IsLongest (test : ℕ → Bool) (n k : ℕ) : Type 0 where
@@ -27,6 +29,10 @@ Greatest = (system : Disk) (n : ℕ) (s : MachineState) → IsLongest (λ k. can
 -- a grant up to a wait executes the greatest number of steps of which each can be made and waits for no key
 abbrev pub GreatestToWait : Type 0
 GreatestToWait = (system : Disk) (n : ℕ) (s : MachineState) → IsLongest (λ k. can_work (after system k s)) n (executed_to_wait system n s)
+
+-- a grant up to an address executes the greatest number of steps of which each can be made and none but the first begins there in the program
+abbrev pub GreatestUntil : Type 0
+GreatestUntil = (system : Disk) (pc n : ℕ) (s : MachineState) → IsLongest (λ k. can_go_on pc k (after system k s)) n (executed_until system pc n s)
 
 -- two grants are one of the sum
 abbrev pub Cutting : Type 0
@@ -57,6 +63,12 @@ abbrev pub Alone : Type 0
 Alone = (system : Disk) (calls : List Call) (start : MachineState) →
     let a = account_after system calls no_account start in
     state_behind a.screen a.printer (state_after system calls start) ≡ alone system a.presses a.executed start
+
+-- And so it is with all calls that a machine has, single steps and grants up to a wait among them.
+abbrev pub AloneByAllCalls : Type 0
+AloneByAllCalls = (system : Disk) (calls : List MachineCall) (start : MachineState) →
+    let a = account_after_all system calls no_account start in
+    state_behind a.screen a.printer (state_after_all system calls start) ≡ alone system a.presses a.executed start
 
 -- a step of a machine that waits for a key changes its count alone, and its end by that
 abbrev pub WaitingSteps : Type 0

@@ -11,4 +11,5 @@ pub mod Runner
 pub mod Laws
 pub mod Opening
 pub mod Calls
+pub mod MachineCalls
 pub mod Parts

@@ -1,7 +1,7 @@
 //! Laws of machines, as contracts.
 
-ghost use Rattle.cpm_machine.specs.Laws.{Alone, BoundedSteps, Cutting, Greatest, GreatestToWait, KeysFromFront, KeysLeave};
-ghost use Rattle.cpm_machine.specs.Laws.{LateKeys, WaitingSteps, WaitsExactly};
+ghost use Rattle.cpm_machine.specs.Laws.{Alone, AloneByAllCalls, BoundedSteps, Cutting, Greatest, GreatestToWait, GreatestUntil};
+ghost use Rattle.cpm_machine.specs.Laws.{KeysFromFront, KeysLeave, LateKeys, WaitingSteps, WaitsExactly};
 
 /// A grant executes the greatest number of steps that can be made.
 pub fn greatest()
@@ -11,6 +11,12 @@ pub fn greatest()
 /// A grant up to a wait executes the greatest number of steps of which each can be made and waits for no key.
 pub fn greatest_to_wait()
     ensures { GreatestToWait }
+{}
+
+/// A grant up to an address executes the greatest number of steps of which each can be made and none but the first begins there in the
+/// program.
+pub fn greatest_until()
+    ensures { GreatestUntil }
 {}
 
 /// Cutting a grant changes nothing.
@@ -38,6 +44,11 @@ pub fn keys_from_front()
 /// were taken.
 pub fn alone()
     ensures { Alone }
+{}
+
+/// So it is with all calls that a machine has, single steps and grants up to a wait among them.
+pub fn alone_by_all_calls()
+    ensures { AloneByAllCalls }
 {}
 
 /// A step of a machine that waits for a key changes its count alone, and its end by that.
