@@ -267,8 +267,10 @@ impl<'a, R: LockableFiles> MachineFiles<'a, R> {
         self.batch
     }
 
-    /// The refusal of a run that the last call ended, and why that failed, if it did.
-    pub fn refused(&self, error: RunError) -> CommandRefusal {
+    /// The refusal of a run that ended so, and why the last call failed, if it did. Nothing is left of what was made: a run may end after some of its files
+    /// were, where memory is refused between two of them.
+    pub fn refuse(&mut self, error: RunError) -> CommandRefusal {
+        self.batch.remove(self.rt);
         let error = match (error, self.changed) {
             (RunError::WriteFault(_), Some(name)) => RunError::WriteFault(name),
             (error, _) => error,

@@ -33,7 +33,7 @@ pub fn judge(
     }
     match judged {
         Ok(()) => Ok(check_frames(config)?),
-        Err(error) => Err(files.refused(error)),
+        Err(error) => Err(files.refuse(error)),
     }
 }
 

@@ -142,7 +142,7 @@ fn play_sessions(
     teller.end();
     match ran {
         Ok(report) => Ok((report, files.into_batch())),
-        Err(error) => Err(files.refused(error)),
+        Err(error) => Err(files.refuse(error)),
     }
 }
 
