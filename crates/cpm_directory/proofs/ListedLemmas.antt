@@ -1,5 +1,5 @@
 -- The list of an image's entries, where the image is written.
-use Rattle.std.proofs.Common.{◌≡◌, ◌≢◌, ℕ, ◌/◌, ◌%◌, ◌<◌, ◌≤◌, [], List, get_or, set, refl, sym, ap, ◌∙◌, inl, inr, arith}
+use Rattle.std.proofs.Common.{◌≡◌, ◌≢◌, ℕ, ◌/◌, ◌%◌, ◌<◌, ◌≤◌, [], List, Option, None, Some, IfSome, Box, Global, get_or, set, refl, sym, ap, ◌∙◌, inl, inr, arith, subst}
 use Rattle.std.proofs.lemmas.List.{ext_get_or, get_or-set_same, get_or-set_other, length-set}
 use Rattle.std.proofs.lemmas.Bool.{cases_eq}
 use Rattle.cpm_geom.specs.declared.format.Format.{Format}
@@ -31,6 +31,15 @@ still_lists es old new lists format same =
       size = lists.size;
       at = λ i h. lists.at i (rw format at h) ∙ ap (λ (xs : List Entry). entry_at xs i) (sym same);
     }
+
+-- and so do those that are kept
+pub still_kept : (kept : Option (Box (List Entry) Global)) (old new : Disk) → IfSome kept (λ es. Lists es.value old) → new.format ≡ old.format → entries_of new ≡ entries_of old → IfSome kept (λ es. Lists es.value new)
+still_kept None old new lists format same = tt
+still_kept (Some es) old new lists format same = still_lists es.value old new lists format same
+
+-- what is kept is there
+pub kept_lists : (kept : Option (Box (List Entry) Global)) (es : Box (List Entry) Global) (disk : Disk) → IfSome kept (λ x. Lists x.value disk) → kept ≡ Some es → Lists es.value disk
+kept_lists kept es disk lists is = subst (λ o. IfSome o (λ (x : Box (List Entry) Global). Lists x.value disk)) is lists
 
 -- one entry is written
 pub one_entry : (old new : Disk) (index : ℕ) (e : Entry) (es : List Entry) → Lists es old → new.format ≡ old.format → index ≤ (dpb_of old.format).last_entry → e ≡ entry_at (entries_of new) index → ((k : ℕ) → k ≢ index → entry_at (entries_of new) k ≡ entry_at (entries_of old) k) → Lists (set es index e) new

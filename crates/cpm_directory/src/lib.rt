@@ -20,6 +20,6 @@ pub use cpm_volume::{Entry, Extent, Fcb};
 pub use directory::{DirectoryError, entry, find, first_free, put_entry};
 pub use fault::DriveFault;
 pub use lent::LentImage;
-pub use listed::ListedImage;
+pub use listed::{EntryRoom, ListedImage};
 pub use pattern::{Pattern, is_named};
 pub use reserved::{Reserved, login, without_files};

@@ -9,21 +9,46 @@ ghost use Rattle.cpm_directory.specs.Directory.{entries_of, Lists, PutsEntry};
 use crate::directory;
 use crate::lent::LentImage;
 use cpm_geom::{Format, GeomError, Image};
-use cpm_volume::Entry;
+use cpm_volume::{Entry, Extent};
 use std::alloc::{AllocError, Global};
 use std::marker::Model;
 
 /// The most entries that the directory of a format has.
 pub(crate) const MOST_ENTRIES: usize = 256;
 
-/// An image, seen as its disk, with the entries of its directory. They are those in its records at all times.
+/// An entry that is not in use.
+const NO_ENTRY: Entry = Entry {
+    user: 0xe5,
+    extent: Extent {
+        name: [0xe5; 11],
+        ex: 0xe5,
+        s1: 0xe5,
+        s2: 0xe5,
+        record_count: 0xe5,
+        blocks: [0; 16],
+    },
+};
+
+/// Room for the entries of a directory. It is on the heap, since it takes 8 KiB.
+#[derive(Drop)]
+pub struct EntryRoom(Box<[Entry; MOST_ENTRIES]>);
+
+impl EntryRoom {
+    /// New room; refused if out of memory.
+    pub fn new(alloc: Global) -> Result<EntryRoom, AllocError> {
+        Ok(EntryRoom(boxed(alloc, [NO_ENTRY; MOST_ENTRIES])?))
+    }
+}
+
+/// An image, seen as its disk. The entries of its directory may be kept beside it: they are those in its records at all times.
 #[derive(Drop)]
 pub struct ListedImage {
     image: Image,
-    entries: [Entry; MOST_ENTRIES],
+    entries: Option<Box<[Entry; MOST_ENTRIES]>>,
 }
 
 impl Model for ListedImage {
+    ghost use Rattle.std.specs.Prelude.{IfSome};
     ghost use Rattle.cpm_geom.specs.Disk.{Disk};
     ghost use Rattle.cpm_directory.specs.Directory.{Lists};
 
@@ -31,16 +56,27 @@ impl Model for ListedImage {
 
     ghost view = { λ listed. listed.image };
 
-    ghost invariant = { λ listed. Lists listed.entries listed.image };
+    ghost invariant = { λ listed. IfSome listed.entries (λ entries. Lists entries.value listed.image) };
 }
 
 impl ListedImage {
-    /// Lists the entries of an image. It takes no memory.
+    /// An image whose entries aren't kept yet. It takes no memory.
     pub fn new(image: Image) -> ListedImage
         ensures { result ≡ image }
     {
-        let entries = entries_in(&image);
-        ListedImage { image, entries }
+        ListedImage {
+            image,
+            entries: None,
+        }
+    }
+
+    /// Keeps the entries in this room from now on. They are found sooner then, and nothing else is changed.
+    pub fn keep_entries(&mut self, room: EntryRoom)
+        ensures { self.new ≡ self.old }
+    {
+        let EntryRoom(mut entries) = room;
+        *entries = entries_in(&self.image);
+        self.entries = Some(entries);
     }
 
     /// An equal image, with its entries; refused if out of memory.
@@ -48,10 +84,11 @@ impl ListedImage {
         ensures { IfOk result (λ listed. listed ≡ self.now) }
     {
         let image = self.image.copy(alloc)?;
-        Ok(ListedImage {
-            image,
-            entries: self.entries,
-        })
+        let entries = match &self.entries {
+            Some(entries) => Some(boxed(alloc, **entries)?),
+            None => None,
+        };
+        Ok(ListedImage { image, entries })
     }
 
     /// The image alone.
@@ -73,7 +110,10 @@ impl ListedImage {
     pub fn lent(&self) -> LentImage<'_>
         ensures { result ≡ self.now }
     {
-        LentImage::with_entries(&self.image, &self.entries)
+        match &self.entries {
+            Some(entries) => LentImage::with_entries(&self.image, entries),
+            None => LentImage::new(&self.image),
+        }
     }
 
     /// The image's format.
@@ -98,7 +138,10 @@ impl ListedImage {
         requires { index ≤ (dpb_of self.now.format).last_entry }
         ensures value { result ≡ entry_at (entries_of self.now) index }
     {
-        self.entries[usize::from(index)]
+        match &self.entries {
+            Some(entries) => entries[usize::from(index)],
+            None => directory::entry(&self.image, index),
+        }
     }
 
     /// Writes the entry at an index, and no other.
@@ -107,8 +150,9 @@ impl ListedImage {
         ensures { PutsEntry self.old index entry.now self.new }
     {
         directory::put_entry(&mut self.image, index, entry);
-        let place = usize::from(index);
-        self.entries[place] = directory::entry(&self.image, index);
+        if let Some(entries) = &mut self.entries {
+            entries[usize::from(index)] = directory::entry(&self.image, index);
+        }
     }
 
     /// Writes a record, and no other sector. The entries are listed anew where it is one of the directory's.
@@ -119,8 +163,10 @@ impl ListedImage {
     {
         let dpb = self.image.format().dpb();
         self.image.put_record(number, data)?;
-        if number <= dpb.last_entry / 4 {
-            self.entries = entries_in(&self.image);
+        if number <= dpb.last_entry / 4
+            && let Some(entries) = &mut self.entries
+        {
+            **entries = entries_in(&self.image);
         }
         Ok(())
     }
@@ -133,11 +179,23 @@ impl ListedImage {
     {
         let dpb = self.image.format().dpb();
         self.image.put_sector(track, sector, data)?;
-        if track == dpb.track_offset {
-            self.entries = entries_in(&self.image);
+        if track == dpb.track_offset
+            && let Some(entries) = &mut self.entries
+        {
+            **entries = entries_in(&self.image);
         }
         Ok(())
     }
+}
+
+/// Entries on the heap; refused if out of memory.
+fn boxed(
+    alloc: Global,
+    entries: [Entry; MOST_ENTRIES],
+) -> Result<Box<[Entry; MOST_ENTRIES]>, AllocError>
+    ensures { IfOk result (λ b. b.value ≡ entries) }
+{
+    Ok(Box::new(alloc, entries)?)
 }
 
 /// The entries of an image. The places after them have the first one again.

@@ -8,6 +8,7 @@ mod files;
 mod function;
 mod lent;
 mod own;
+mod rooms;
 mod search;
 mod sectors;
 mod selecting;
@@ -15,4 +16,5 @@ mod vectors;
 
 pub use disks::Disks;
 pub use function::FileFunction;
+pub use rooms::EntryRooms;
 pub use search::Search;

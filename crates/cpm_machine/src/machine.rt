@@ -20,6 +20,7 @@ use cpm_bdos::Session;
 use cpm_ccp::{Tail, leave_tail};
 use cpm_console::Console;
 use cpm_decode::DecodeCache;
+use cpm_drives::EntryRooms;
 use cpm_geom::Image;
 use cpm_memory::layout::{COMMAND_PROCESSOR, PROGRAM, STACK};
 use cpm_memory::{FlatMemory, Memory, set_run, set_word};
@@ -39,6 +40,7 @@ struct Parts {
     console: Console,
     memory: FlatMemory,
     cache: DecodeCache,
+    rooms: EntryRooms,
 }
 
 impl Model for Machine {
@@ -67,7 +69,7 @@ impl Machine {
         if let Some(fault) = opening.fault() {
             return Err((opening, fault));
         }
-        match allocate(alloc, opening.quota) {
+        match allocate(alloc, &opening) {
             Ok(parts) => Ok(Self::opened(opening, parts)),
             Err(_) => Err((opening, OpenError::OutOfMemory)),
         }
@@ -88,7 +90,7 @@ impl Machine {
         if let Some(fault) = opening.fault_with(program.as_slice()) {
             return Err((opening, program, fault));
         }
-        match allocate(alloc, opening.quota) {
+        match allocate(alloc, &opening) {
             Ok(parts) => {
                 let mut machine = Self::opened(opening, parts);
                 machine.load(program.as_slice());
@@ -127,10 +129,13 @@ impl Machine {
             console,
             memory,
             cache,
+            rooms,
         } = parts;
+        let mut session = Session::new(console, drives);
+        session.disks.keep_entries(rooms);
         let runner = Runner {
             cpu,
-            session: Session::new(console, drives),
+            session,
             quota,
             count: 0,
             ended: End::Running,
@@ -259,14 +264,15 @@ impl Machine {
     }
 }
 
-/// What a machine takes memory for: its console, its memory, of which so many pages may be written, and its decoded instructions.
-fn allocate(alloc: Global, quota: u16) -> Result<Parts, AllocError>
-    requires { quota ≤ 256 }
-    ensures { IfOk result (AreNew quota) }
+/// What a machine of this opening takes memory for: its console, its memory, its decoded instructions, and the entries of its drives.
+fn allocate(alloc: Global, opening: &Opening) -> Result<Parts, AllocError>
+    requires { opening.now.quota ≤ 256 }
+    ensures { IfOk result (AreNew opening.now.quota) }
 {
     Ok(Parts {
         console: Console::new(alloc)?,
-        memory: FlatMemory::with_limit(alloc, quota)?,
+        memory: FlatMemory::with_limit(alloc, opening.quota)?,
         cache: DecodeCache::new(alloc)?,
+        rooms: EntryRooms::new(alloc, opening.drives.len())?,
     })
 }

@@ -25,6 +25,7 @@ use crate::slots::{
 use cpm_bdos::Session;
 use cpm_console::{Console, Device};
 use cpm_decode::DecodeCache;
+use cpm_drives::EntryRooms;
 use cpm_geom::Image;
 use cpm_machine::steps::Runner;
 use cpm_machine::{Closed, End, Granted, Look, OpenError, Opening};
@@ -156,6 +157,9 @@ impl Host {
         let Ok(cache) = DecodeCache::new(alloc) else {
             return Err((opening, OpenError::OutOfMemory));
         };
+        let Ok(rooms) = EntryRooms::new(alloc, opening.drives.len()) else {
+            return Err((opening, OpenError::OutOfMemory));
+        };
         if self.slots.try_reserve(1).is_err() {
             return Err((opening, OpenError::OutOfMemory));
         }
@@ -163,7 +167,7 @@ impl Host {
             return Err((opening, OpenError::NoFrames));
         };
         let id = self.openings;
-        let runner = opened(opening, console, cache);
+        let runner = opened(opening, console, cache, rooms);
         self.slots.push_reserved(Slot { id, runner, table });
         self.openings += 1;
         Ok(SlotId(id))
@@ -342,16 +346,18 @@ impl Host {
     }
 }
 
-/// A session at its opening, with this console and this cache.
-fn opened(opening: Opening, console: Console, cache: DecodeCache) -> Runner
+/// A session at its opening, with this console, this cache and this room for the entries of its drives.
+fn opened(opening: Opening, console: Console, cache: DecodeCache, rooms: EntryRooms) -> Runner
     requires { console ≡ blank_terminal }
     ensures state { state_of result (memory_opening opening.quota) ≡ opened_slot opening }
     ensures cache { result.cache ≡ cache }
 {
     let Opening { cpu, quota, drives } = opening;
+    let mut session = Session::new(console, drives);
+    session.disks.keep_entries(rooms);
     Runner {
         cpu,
-        session: Session::new(console, drives),
+        session,
         quota,
         count: 0,
         ended: End::Running,
