@@ -49,9 +49,17 @@ impl Disks {
 fn keep(drive: &mut Option<Drive>, room: Option<EntryRoom>)
     ensures { drive.new ≡ drive.old }
 {
-    if let Some(drive) = drive
-        && let Some(room) = room
-    {
-        drive.image.keep_entries(room);
+    let Some(room) = room else {
+        return;
+    };
+    if let Some(drive) = drive.as_mut() {
+        keep_in(drive, room);
     }
+}
+
+/// Keeps the entries of a drive in this room.
+fn keep_in(drive: &mut Drive, room: EntryRoom)
+    ensures { drive.new ≡ drive.old }
+{
+    drive.image.keep_entries(room);
 }
