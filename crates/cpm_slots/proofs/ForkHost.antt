@@ -18,7 +18,7 @@ use Rattle.cpm_slots.specs.Index.{IsAtIndex}
 use Rattle.cpm_slots.specs.Slots.{contents_at, slot_of, slots_of, tables_of, host_with_store, HaveTables}
 use Rattle.cpm_slots.proofs.CloseSlots.{slot-at}
 use Rattle.cpm_slots.proofs.CallLaws.{same-host}
-use Rattle.cpm_slots.proofs.OpenHost.{hosted, IsAdding}
+use Rattle.cpm_slots.proofs.OpenHost.{hosted, has-room, IsAdding}
 use Rattle.cpm_slots.proofs.OpenIndexes.{slots-at}
 use Rattle.cpm_slots.proofs.OpenSlots.{none-at}
 use Rattle.cpm_slots.proofs.OrderLaws.{HasPlace, has-fork}
@@ -73,24 +73,10 @@ module _ (system : Disk) (frames openings : ℕ) (now : Host) (store : Frames) (
   pub source-place : lacks_slot now ≡ false → lacks_frames now p.runner.quota ≡ false → HasPlace now p.runner.quota
   source-place slot frame = has-fork now source_state (sym (ap (fork_fault now) source-there) ∙ source-fits slot frame)
 
-  -- what all slots have reserved is their quotas
-  quotas-same : (xs : List Slot) → quotas_of (slots_of (memories store) xs) ≡ sum_by (λ x. x.runner.quota) xs
-  quotas-same [] = refl
-  quotas-same (x ∷ xs) =
-      let rest = quotas-same xs in
-      let whole = sum_by-cons (λ (y : SlotState). y.state.quota) (slot_of (memories store) x) (slots_of (memories store) xs) in
-      let one = sum_by-cons (λ (y : Slot). y.runner.quota) x xs in
-      omega arith
-
   -- so the store has as many frames
   pub source-room : lacks_slot now ≡ false → lacks_frames now p.runner.quota ≡ false → frames < reserved_in (memories store) + reserved_by (table_at store p.table) → ⊥
   source-room slot frame less =
-      let place = (source-place slot frame).frames in
-      let quotas : quotas_of now.slots ≡ sum_by (λ x. x.runner.quota) slots = ap (λ (h : Host). quotas_of h.slots) (sym k.view) ∙ quotas-same slots in
-      let wide : now.frames ≡ frames = ap (λ (h : Host). h.frames) (sym k.view) in
-      let reserved = k.have_tables.reserved in
-      let limit = source-limit in
-      omega (arith, place, quotas, wide, reserved, limit, less)
+      has-room system frames openings now (memories store) slots p.runner.quota k.view k.have_tables (source-place slot frame) (subst (λ n. frames < reserved_in (memories store) + n) source-limit less)
 
   pub source-forked : with_forked now (slot_at id now.slots) ≡ with_added now source_state
   source-forked = ap (with_forked now) source-there
@@ -139,6 +125,11 @@ adding system frames now old new slots items id index p s k = record {
   };
   pushed = k.pushed;
 }
+
+-- the tables of the others stay
+pub tables-more : (slots : List Slot) (s : Slot) → tables_of (slots ++ s ∷ []) ≡ tables_of slots ++ record { id = s.id; table = s.table } ∷ []
+tables-more [] s = refl
+tables-more (x ∷ xs) s = ap (λ t. record { id = x.id; table = x.table } ∷ t) (tables-more xs s)
 
 -- the table of a slot that is added
 pub table-new : (n : ℕ) (m : List (Option Contents)) (slots : List Slot) (s : Slot) → AllBelow n (slots_of m slots) → s.id ≡ n → table_of n (tables_of (slots ++ s ∷ [])) ≡ Some s.table

@@ -1,12 +1,14 @@
 -- What a slot that is added leaves of a host.
-use Rattle.std.proofs.Common.{◌≡◌, ℕ, ◌+◌, List, [], ◌∷◌, ◌++◌, Option, sym, ap, ◌∙◌, subst}
+use Rattle.std.proofs.Common.{◌≡◌, ℕ, ◌+◌, ◌<◌, List, [], ◌∷◌, ◌++◌, sum_by, Option, refl, sym, ap, ◌∙◌, subst, arith}
+use Rattle.std.proofs.lemmas.List.Sums.{sum_by-cons}
 use Rattle.cpm_geom.specs.Disk.{Disk}
 use Rattle.cpm_memory.specs.Contents.{Contents}
+use Rattle.cpm_memory.specs.Reserved.{reserved_in}
 use Rattle.cpm_machine.specs.MachineState.{MachineState}
 use Rattle.cpm_machine.specs.declared.steps.Runner.{Runner}
 use Rattle.cpm_slots.specs.declared.slots.Slot.{Slot}
-use Rattle.cpm_slots.specs.Host.{Host, SlotState, with_added, IsHost}
-use Rattle.cpm_slots.specs.Slots.{slots_of, HaveTables}
+use Rattle.cpm_slots.specs.Host.{Host, SlotState, quotas_of, with_added, IsHost}
+use Rattle.cpm_slots.specs.Slots.{slot_of, slots_of, HaveTables}
 use Rattle.cpm_slots.proofs.OrderLaws.{HasPlace, IsHost-added}
 use Rattle.cpm_slots.proofs.OpenSlots.{IsAdded, HaveTables-added, slots-more}
 
@@ -16,6 +18,25 @@ new_slot id runner table = record { id = id; runner = runner; table = table }
 
 abbrev pub hosted : Disk → ℕ → ℕ → List SlotState → Host
 hosted system frames openings slots = record { system = system; frames = frames; openings = openings; slots = slots }
+
+-- what all slots have reserved is their quotas
+quotas-same : (m : List (Option Contents)) (xs : List Slot) → quotas_of (slots_of m xs) ≡ sum_by (λ x. x.runner.quota) xs
+quotas-same m [] = refl
+quotas-same m (x ∷ xs) =
+    let rest = quotas-same m xs in
+    let whole = sum_by-cons (λ (y : SlotState). y.state.quota) (slot_of m x) (slots_of m xs) in
+    let one = sum_by-cons (λ (y : Slot). y.runner.quota) x xs in
+    omega arith
+
+-- so the store has as many frames as a slot reserves for which there is a place
+pub has-room : (system : Disk) (frames openings : ℕ) (now : Host) (m : List (Option Contents)) (slots : List Slot) (quota : ℕ) →
+    hosted system frames openings (slots_of m slots) ≡ now → HaveTables m slots → HasPlace now quota → frames < reserved_in m + quota → ⊥
+has-room system frames openings now m slots quota view have_tables has_place less =
+    let place = has_place.frames in
+    let quotas : quotas_of now.slots ≡ sum_by (λ x. x.runner.quota) slots = ap (λ (h : Host). quotas_of h.slots) (sym view) ∙ quotas-same m slots in
+    let wide : now.frames ≡ frames = ap (λ (h : Host). h.frames) (sym view) in
+    let reserved = have_tables.reserved in
+    omega (arith, place, quotas, wide, reserved, less)
 
 -- the parts of a host as they were, and a slot for which there is a place
 pub record IsAdding (system : Disk) (frames : ℕ) (now : Host) (old new : List (Option Contents)) (slots items : List Slot) (s : Slot) (memory : Contents) (state : MachineState) : Type 0 where

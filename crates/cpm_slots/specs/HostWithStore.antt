@@ -1,6 +1,6 @@
 -- A host with its store, and where the memories of its slots lie. (own)
 use Rattle.std.specs.Prelude.{◌≡◌, ℕ, ◌+◌, ◌/◌, ◌%◌, ◌<◌, ◌≤◌, true, false, ◌==◌, if◌then◌else◌, List}
-use Rattle.std.specs.Prelude.{[], ◌∷◌, sum_by, Option, Some, None, IfSome, Result, Ok, Err, slice_index}
+use Rattle.std.specs.Prelude.{[], ◌∷◌, ◌++◌, sum_by, Option, Some, None, IfSome, Result, Ok, Err, slice_index}
 use Rattle.cpm_memory.specs.Contents.{byte_at, is_written, room_of}
 use Rattle.cpm_memory.specs.Frames.{Frames, IsTableTaken, boot_of, frame_of_page, frame_of, memory_of, owners_of, used_of, KeepsPlaces}
 use Rattle.cpm_memory.specs.Opening.{opening_byte}
@@ -79,6 +79,8 @@ pub record SharesPages (old new : HostWithStore) (id child : ℕ) : Type 0 where
   pub shared : ℕ
   pub named : table_of id old.tables ≡ Some table
   pub child_named : table_of child new.tables ≡ Some shared
+  -- the tables of the other slots stay
+  pub tables : new.tables ≡ old.tables ++ record { id = child; table = shared } ∷ []
   pub places : (page : ℕ) → frame_of_page new.store shared page ≡ frame_of_page old.store table page
   pub others : KeepsPlaces old.store new.store shared
   pub frames : new.store.frames ≡ old.store.frames

@@ -164,7 +164,7 @@ impl Host {
             return Err((opening, OpenError::OutOfMemory));
         }
         let Ok(table) = self.store.reserve(opening.quota) else {
-            return Err((opening, OpenError::NoFrames));
+            unreachable!();
         };
         let id = self.openings;
         let runner = opened(opening, console, cache, rooms);

@@ -11,7 +11,7 @@ use Rattle.cpm_slots.specs.HostWithStore.{HostWithStore, table_of}
 use Rattle.cpm_slots.specs.Index.{IsAtIndex}
 use Rattle.cpm_slots.specs.Slots.{contents_at, slots_of, tables_of, host_with_store}
 use Rattle.cpm_slots.proofs.CachedSlots.{AllCached-more}
-use Rattle.cpm_slots.proofs.ForkHost.{IsSource, IsForking, adding, same-slot, source-of, source-forked, source-taken, source-fits, source-room, within-slots, table-new}
+use Rattle.cpm_slots.proofs.ForkHost.{IsSource, IsForking, adding, same-slot, source-of, source-forked, source-taken, source-fits, source-room, within-slots, tables-more, table-new}
 use Rattle.cpm_slots.proofs.OpenHost.{new_slot, added-host, added-have_tables, added-is}
 use Rattle.cpm_slots.proofs.SlotTables.{index-table}
 use Rattle.cpm_slots.proofs.host.Host.fork.Goals as goal
@@ -136,6 +136,7 @@ returns-clause-pages c =
       named = ap (λ (x : HostWithStore). table_of c.args.id.0 x.tables) (sym c.self.view_is)
           ∙ index-table c.args.id.0 c.in-Some.index p.table (memories i.store) i.slots.items c.self.invariant.0.ordered (all (memories i.store)) at;
       child_named = ap (λ xs. table_of i.openings (tables_of xs)) pushed ∙ table-new i.openings (memories i.store) i.slots.items s c.self.invariant.0.below refl;
+      tables = ap tables_of pushed ∙ tables-more i.slots.items s ∙ ap (λ (x : HostWithStore). x.tables ++ record { id = i.openings; table = child } ∷ []) c.self.view_is;
       places = λ page. c.in-Ok-share.ensures.places page ∙ ap (λ (x : HostWithStore). frame_of_page x.store p.table page) c.self.view_is;
       others = λ t page ne. c.in-Ok-share.ensures.others t page ne ∙ ap (λ (x : HostWithStore). frame_of_page x.store t page) c.self.view_is;
       frames = c.share.ensures.frames ∙ ap (λ (x : HostWithStore). x.store.frames) c.self.view_is;

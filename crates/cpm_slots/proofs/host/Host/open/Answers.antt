@@ -1,6 +1,7 @@
-use Rattle.std.proofs.Common.{◌≡◌, ℕ, List, [], ◌∷◌, ◌++◌, get_or, sym, ap, ◌∙◌, subst}
+use Rattle.std.proofs.Common.{◌≡◌, ℕ, ◌+◌, ◌<◌, List, [], ◌∷◌, ◌++◌, get_or, refl, sym, ap, ◌∙◌, subst}
 use Rattle.cpm_memory.specs.Contents.{Contents}
 use Rattle.cpm_memory.specs.Frames.{Frames, memories}
+use Rattle.cpm_memory.specs.Reserved.{reserved_in}
 use Rattle.cpm_memory.specs.Opening.{opening}
 use Rattle.cpm_decode.specs.Cache.{IsRightFor}
 use Rattle.cpm_decode.specs.declared.cache.DecodeCache.{DecodeCache}
@@ -8,10 +9,17 @@ use Rattle.cpm_machine.specs.MachineState.{MachineState}
 use Rattle.cpm_slots.specs.Host.{opened_slot}
 use Rattle.cpm_slots.proofs.CallLaws.{same-host}
 use Rattle.cpm_slots.proofs.OrderLaws.{has-index}
-use Rattle.cpm_slots.proofs.OpenHost.{new_slot, IsAdding, added-host, added-have_tables, added-is}
+use Rattle.cpm_slots.proofs.OpenHost.{new_slot, has-room, IsAdding, added-host, added-have_tables, added-is}
 use Rattle.cpm_slots.proofs.OpenSlots.{IsSound-opened, has-quota, none-at}
 use Rattle.cpm_slots.proofs.CachedSlots.{AllCached-more}
 use Rattle.cpm_slots.proofs.host.Host.open.Goals as goal
+
+pub unreachable-requires : goal.unreachable-requires
+unreachable-requires c =
+    let i = c.self.inside in
+    let o = c.args.opening in
+    has-room i.system i.frames i.openings c.args.self.now.host (memories i.store) i.slots.items o.quota (same-host c.self.view_is) c.self.invariant.1 (has-index c.args.self.now.host o (sym c.in_default.ensures.refusal))
+    (subst (λ n. n < reserved_in (memories i.store) + o.quota) c.self.invariant.2 (c.in_default-reserve.ensures.refused.0 refl))
 
 pub invariant_of-self-2 : goal.invariant_of-self-2
 invariant_of-self-2 c =
