@@ -3,7 +3,7 @@ ghost use Rattle.std.specs.Prelude.{⊤, ◌≡◌, ◌≤◌, ◌⊎◌, None, 
 ghost use Rattle.cpm_host.specs.Refusals.{IsFileRefusal, IsOutRefusal};
 ghost use Rattle.cpm_store.specs.Files.{CountsFailure};
 
-use crate::batch::{Batch, Taking};
+use crate::batch::{Batch, NamingRule};
 use crate::guard::Guard;
 use crate::held::{HeldFiles, LockableFiles};
 use crate::output::Outputs;
@@ -11,7 +11,8 @@ use crate::place::script_paths;
 use crate::refused::{CommandRefusal, RefusalDetail};
 use crate::rehearsals::Rehearsals;
 use cpm_host::{
-    Config, HostError, RunError, SessionConfig, ShownWord, Store, StoreError, read_whole, shown,
+    Config, HostError, MOST_FILE, RunError, SessionConfig, ShownWord, Store, StoreError,
+    read_whole, shown,
 };
 use std::alloc::{AllocError, Global};
 use std::io::ErrorKind;
@@ -20,7 +21,7 @@ use std::{fs, io};
 
 /// All bytes of a file.
 pub fn whole_file(rt: &impl Files, alloc: Global, name: &str) -> io::Result<Vec<u8>>
-    ensures small { IfOk result (λ bytes. vec_len bytes ≤ 16777216) }
+    ensures small { IfOk result (λ bytes. vec_len bytes ≤ MOST_FILE) }
 {
     let mut file = fs::open(rt, name)?;
     read_whole(alloc, &mut file)
@@ -29,7 +30,7 @@ pub fn whole_file(rt: &impl Files, alloc: Global, name: &str) -> io::Result<Vec<
 /// All bytes of a file. It fails where the file can't be read, or has more than 16,777,216 bytes, and
 /// if out of memory.
 pub fn read_file(rt: &(impl Files + AllocGlobal), name: &str) -> Result<Vec<u8>, HostError>
-    ensures small { IfOk result (λ bytes. vec_len bytes ≤ 16777216) }
+    ensures small { IfOk result (λ bytes. vec_len bytes ≤ MOST_FILE) }
     ensures refusal { IfErr result IsFileRefusal }
 {
     whole_file(rt, rt.alloc(), name).map_err(|reason| unreadable(name, reason))
@@ -45,7 +46,7 @@ pub fn add_file(
     ensures refusal { IfErr result (λ e. IsOutRefusal e ⊎ (e ≡ HostError.OutOfMemory)) }
 {
     batch
-        .add(rt, name, Taking::Replacing(None), bytes)
+        .add(rt, name, NamingRule::Replacing(None), bytes)
         .map_err(|reason| unwritable(name, reason))
 }
 
@@ -60,7 +61,7 @@ pub fn add_held(
     ensures refusal { IfErr result (λ e. IsOutRefusal e ⊎ (e ≡ HostError.OutOfMemory)) }
 {
     batch
-        .add(rt, name, Taking::Replacing(held.mark_of(name)), bytes)
+        .add(rt, name, NamingRule::Replacing(held.mark_of(name)), bytes)
         .map_err(|reason| unwritable(name, reason))
 }
 

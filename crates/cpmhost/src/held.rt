@@ -16,9 +16,9 @@ use std::time::Duration;
 use std::{fs, io, thread};
 
 /// How often a file that another command holds is asked for again, and after how many milliseconds each time: 10 seconds in all.
-const MOST_PAUSES: u32 = 1000;
+const MOST_LOCK_PAUSES: u32 = 1000;
 
-const PAUSE: u64 = 10;
+const LOCK_PAUSE: u64 = 10;
 
 /// What holding files asks of the system: files that can be locked, a clock to wait by, standard output and error, and memory.
 pub trait LockableFiles: Files<File = File> + Clock + Print + StandardError + AllocGlobal {}
@@ -135,11 +135,11 @@ pub fn hold(
     outs: &[&str],
 ) -> Result<HeldFiles, CommandRefusal> {
     let mut attempt = try_hold(rt, reads, outs)?;
-    for _pause in 0..MOST_PAUSES {
+    for _pause in 0..MOST_LOCK_PAUSES {
         if let Attempt::Held(_) = &attempt {
             break;
         }
-        thread::sleep(rt, Duration::from_millis(PAUSE));
+        thread::sleep(rt, Duration::from_millis(LOCK_PAUSE));
         attempt = try_hold(rt, reads, outs)?;
     }
     match attempt {

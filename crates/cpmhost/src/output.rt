@@ -91,8 +91,8 @@ fn open_file_at(
     if !is_number(number) {
         return Ok(None);
     }
-    match real_path(rt, folder.as_str())? {
-        Some(folder) if is_folder_of_open_files(folder.as_path().as_str()) => {
+    match real_path(rt, folder)? {
+        Ok(folder) if is_folder_of_open_files(folder.as_path().as_str()) => {
             Ok(Some(folder.as_path().join(rt.alloc(), number)?))
         }
         _ => Ok(None),
