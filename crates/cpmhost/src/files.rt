@@ -36,6 +36,22 @@ pub fn read_file(rt: &(impl Files + AllocGlobal), name: &str) -> Result<Vec<u8>,
     whole_file(rt, rt.alloc(), name).map_err(|reason| unreadable(name, reason))
 }
 
+/// What was found at the name of a file that is read. It fails where the file couldn't be looked at. But nothing was found of one that can't be opened
+/// either: that is refused where it is read, in its turn.
+pub fn found_of_input<T: Drop>(
+    rt: &impl Files,
+    name: &str,
+    looked: io::Result<Option<T>>,
+) -> Result<Option<T>, HostError> {
+    match looked {
+        Ok(found) => Ok(found),
+        Err(reason) if reason.kind() != ErrorKind::OutOfMemory && fs::open(rt, name).is_err() => {
+            Ok(None)
+        }
+        Err(reason) => Err(unreadable(name, reason)),
+    }
+}
+
 /// Makes a file of these bytes in a batch: they replace all that the file of the name held.
 pub fn add_file(
     rt: &impl LockableFiles,
