@@ -146,6 +146,20 @@ fn check_files(rt: &impl LockableFiles, outputs: Outputs, names: &[String]) -> R
     Ok(())
 }
 
+/// Fails where the record of typed keys can't be written, if there is to be one.
+pub fn check_record(
+    rt: &impl LockableFiles,
+    outputs: Outputs,
+    record: Option<&str>,
+) -> Result<(), HostError>
+    ensures refusal { IfErr result (λ e. IsOutRefusal e ⊎ (e ≡ HostError.OutOfMemory)) }
+{
+    match record {
+        Some(name) => check_file(rt, outputs, name),
+        None => Ok(()),
+    }
+}
+
 /// Fails where one of the scripts that a run is to write to a folder can't be written.
 pub fn check_scripts(
     rt: &impl LockableFiles,
@@ -255,6 +269,8 @@ pub struct MachineFiles<'a, R: LockableFiles> {
     reason: Option<io::Error>,
     /// The file that another program has changed.
     changed: Option<ShownWord>,
+    /// Why the script that was read last is refused.
+    refusal: Option<HostError>,
 }
 
 impl<'a, R: LockableFiles> MachineFiles<'a, R> {
@@ -276,6 +292,7 @@ impl<'a, R: LockableFiles> MachineFiles<'a, R> {
             failures: 0,
             reason: None,
             changed: None,
+            refusal: None,
         }
     }
 
@@ -288,6 +305,9 @@ impl<'a, R: LockableFiles> MachineFiles<'a, R> {
     /// were, where memory is refused between two of them.
     pub fn refuse(&mut self, error: RunError) -> CommandRefusal {
         self.batch.remove(self.rt);
+        if let Some(refusal) = self.refusal {
+            return CommandRefusal::from(refusal);
+        }
         let error = match (error, self.changed) {
             (RunError::WriteFault(_), Some(name)) => RunError::WriteFault(name),
             (error, _) => error,
@@ -339,6 +359,10 @@ impl<R: LockableFiles> Store for MachineFiles<'_, R> {
     ghost does = { λ _ _ _. ⊤ };
 
     fn read(&mut self, alloc: Global, name: &str) -> Result<Vec<u8>, StoreError> {
+        if let Some(refusal) = self.rehearsals.refusal_of(name) {
+            self.refusal = Some(refusal);
+            return Err(self.fault(io::Error::from(ErrorKind::InvalidData)));
+        }
         if let Some(script) = self.rehearsals.script_named(name) {
             return copied(alloc, script).map_err(|_| StoreError::OutOfMemory);
         }
