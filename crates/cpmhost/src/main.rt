@@ -123,8 +123,11 @@ fn run_config(
         batch.remove(rt);
         return Err(refused);
     }
-    batch.take_names(rt)?;
-    Ok(print_report(rt, rehearsals, &report)?)
+    let named = batch.take_names(rt);
+    // (what was played is told also where a file can't have its name)
+    let printed = print_report(rt, rehearsals, &report);
+    named?;
+    Ok(printed?)
 }
 
 /// Runs the sessions of a configuration, and gives how each ended, and the files that they write.
