@@ -10,8 +10,8 @@ from disturbed.calls import calls_of
 from disturbed.commands import Link
 from lib import CPMHOST, SECONDS, Ran, read, write
 
-# the name of a file beside one that is to be replaced
-BESIDE = re.compile(r"\.cpmhost-[0-9a-f]{16}")
+# the name of a file beside one that is to be replaced, and of one that is kept since it can't have its name, which begins with that
+BESIDE = re.compile(r".*\.cpmhost-[0-9a-f]{16}")
 # where strace writes the calls, beside the folder of the command
 TRACE = "../trace"
 
@@ -23,6 +23,11 @@ class Known(NamedTuple):
     new: dict
     out: bytes
     calls: list
+
+    @property
+    def written(self):
+        """The files that it makes or changes."""
+        return [name for name, what in self.new.items() if self.old.get(name) != what]
 
     @property
     def locks(self):
@@ -125,10 +130,10 @@ def is_begun(known, data):
 
 
 def killed_wrong(known, found):
-    """What is wrong with the files after a kill."""
+    """What is wrong with the files after a kill. All files of a command are made beside before the first has its name, and tried one by one before."""
     yield from files_wrong(known, found)
     left = beside(found)
-    if len(left) > 1 or not all(is_begun(known, found[name][1]) for name in left):
+    if len(left) > max(len(known.written), 1) or not all(is_begun(known, found[name][1]) for name in left):
         yield f"beside stay {[(name, len(found[name][1])) for name in left]}"
 
 

@@ -16,12 +16,15 @@ pub fn asm(
     out: &str,
     list: Option<&str>,
 ) -> Result<(), CommandRefusal> {
-    let text = read_file(rt, source)?;
+    check_file(rt, outputs, out)?;
+    if let Some(list) = list {
+        check_file(rt, outputs, list)?;
+    }
     check_asm(rt, source, out, list)?;
+    let text = read_file(rt, source)?;
     let mut batch = Batch::new(rt, outputs);
     match list {
         Some(list) => {
-            check_file(rt, outputs, list)?;
             let listed = run_asm_listed(rt.alloc(), text.as_slice())?;
             add_file(rt, &mut batch, out, listed.image.as_slice())?;
             add_file(rt, &mut batch, list, listed.listing.as_slice())?;

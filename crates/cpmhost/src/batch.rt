@@ -12,7 +12,7 @@ use std::rt::Files;
 
 /// How a file takes its name.
 #[derive(Clone, Copy, Debug, Drop)]
-pub enum Taking {
+pub enum NamingRule {
     /// It replaces what has the name; where that was read it must still be what it was then.
     Replacing(Option<Mark>),
     /// It replaces what has the name, and nobody can execute it.
@@ -21,12 +21,12 @@ pub enum Taking {
     New,
 }
 
-impl Taking {
+impl NamingRule {
     /// The permissions that it keeps of the file that it replaces.
     fn mask(self) -> u32 {
         match self {
-            Taking::ReplacingPlain => PLAIN_PERMISSIONS,
-            Taking::Replacing(_) | Taking::New => PERMISSIONS,
+            NamingRule::ReplacingPlain => PLAIN_PERMISSIONS,
+            NamingRule::Replacing(_) | NamingRule::New => PERMISSIONS,
         }
     }
 }
@@ -37,7 +37,7 @@ struct WholeFile {
     /// The name by which it is written.
     name: ShownWord,
     beside: Replacement,
-    taking: Taking,
+    naming: NamingRule,
 }
 
 impl WholeFile {
@@ -51,8 +51,8 @@ impl WholeFile {
 
     /// Fails where the file that it is to replace is no longer what it was when it was read.
     fn check(&self, rt: &impl Files) -> Result<(), HostError> {
-        match self.taking {
-            Taking::Replacing(Some(mark)) => mark
+        match self.naming {
+            NamingRule::Replacing(Some(mark)) => mark
                 .check(rt, self.beside.target())
                 .map_err(|reason| self.unwritable(reason)),
             _ => Ok(()),
@@ -65,9 +65,9 @@ impl WholeFile {
             let _ = self.beside.remove(rt);
             return Err(CommandRefusal::from(error));
         }
-        let taken = match self.taking {
-            Taking::New => self.beside.take_new_name(rt),
-            Taking::Replacing(_) | Taking::ReplacingPlain => self.beside.take_name(rt),
+        let taken = match self.naming {
+            NamingRule::New => self.beside.take_new_name(rt),
+            NamingRule::Replacing(_) | NamingRule::ReplacingPlain => self.beside.take_name(rt),
         };
         let Err(reason) = taken else {
             return Ok(());
@@ -105,10 +105,10 @@ impl Batch {
         &mut self,
         rt: &impl LockableFiles,
         name: &str,
-        taking: Taking,
+        naming: NamingRule,
         bytes: &[u8],
     ) -> io::Result<()> {
-        let added = self.try_add(rt, name, taking, bytes);
+        let added = self.try_add(rt, name, naming, bytes);
         if added.is_err() {
             self.remove(rt);
         }
@@ -120,16 +120,16 @@ impl Batch {
         &mut self,
         rt: &impl LockableFiles,
         name: &str,
-        taking: Taking,
+        naming: NamingRule,
         bytes: &[u8],
     ) -> io::Result<()> {
         self.all.reserve(1)?;
         let outputs = self.outputs.nth(self.all.len());
-        if let Some(beside) = outputs.make(rt, name, taking.mask(), bytes)? {
+        if let Some(beside) = outputs.make(rt, name, naming.mask(), bytes)? {
             self.all.push(WholeFile {
                 name: shown(name),
                 beside,
-                taking,
+                naming,
             })?;
         }
         Ok(())

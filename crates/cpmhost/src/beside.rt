@@ -1,6 +1,7 @@
 //! Files that lie beside the ones whose names they are to take.
 
 use std::alloc::{AllocError, Global};
+use std::fs::Metadata;
 use std::io::ErrorKind;
 use std::path::{Path, PathBuf};
 use std::rt::Files;
@@ -49,7 +50,7 @@ impl Replacement {
     /// Leaves it under a name that a person can see, and says where it is: beside the one that it was to replace, by that one's name and its own. Where it can
     /// have no such name, it is where it was. None where it is there no more.
     pub fn keep(self, rt: &(impl Files + AllocGlobal)) -> Option<PathBuf> {
-        if fs::symlink_metadata(rt, self.path()).is_err() {
+        if is_missing(fs::symlink_metadata(rt, self.path())) {
             return None;
         }
         match self.visible_path(rt.alloc()) {
@@ -70,13 +71,21 @@ impl Replacement {
     }
 }
 
+/// Whether a look at a path says that nothing is there. What can't be looked at may be there.
+pub fn is_missing(looked: io::Result<Metadata>) -> bool {
+    match looked {
+        Ok(_) => false,
+        Err(error) => error.kind() == ErrorKind::NotFound,
+    }
+}
+
 /// Gives the file of a path another name too, if nothing has that: by a link, since a renaming would replace what has it. Where the file system has no second
 /// names, the file is renamed.
 fn give_name(rt: &impl Files, path: Path<'_>, name: Path<'_>) -> io::Result<()> {
     match fs::hard_link(rt, path, name) {
         Ok(()) => Ok(()),
         Err(error) if error.kind() == ErrorKind::AlreadyExists => Err(error),
-        Err(_) if fs::symlink_metadata(rt, name).is_err() => fs::rename(rt, path, name),
+        Err(_) if is_missing(fs::symlink_metadata(rt, name)) => fs::rename(rt, path, name),
         Err(error) => Err(error),
     }
 }

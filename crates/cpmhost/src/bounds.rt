@@ -6,6 +6,7 @@ use crate::files::unreadable;
 use crate::output::{is_open_already, target_of};
 use crate::place::script_paths;
 use crate::refused::{CommandRefusal, RefusalDetail};
+use crate::stream::real_path;
 use cpm_host::{Config, HostError, Origin, ReadError, RunError, RunTask, SessionConfig, shown};
 use std::alloc::{AllocError, Global};
 use std::io::ErrorKind;
@@ -72,21 +73,6 @@ impl<'a> CheckedName<'a> {
             error: HostError::from(error),
             behind,
         }
-    }
-}
-
-/// A path without links that leads where this one does, or why there is none. The empty path is that of the current folder.
-fn real_path(
-    rt: &(impl Files + AllocGlobal),
-    path: Path<'_>,
-) -> Result<io::Result<PathBuf>, AllocError> {
-    let path = match path.as_str() {
-        "" => Path::new("."),
-        _ => path,
-    };
-    match fs::canonicalize(rt, path) {
-        Err(error) if error.kind() == ErrorKind::OutOfMemory => Err(AllocError),
-        found => Ok(found),
     }
 }
 

@@ -4,7 +4,7 @@ ghost use Rattle.cpm_host.specs.Cued.{AreFit};
 
 use crate::batch::Batch;
 use crate::disk::read_image;
-use crate::files::{add_held, check_file, read_file};
+use crate::files::{add_held, check_file, check_record, read_file};
 use crate::held::{HeldFiles, LockableFiles, hold};
 use crate::output::Outputs;
 use crate::patient::{PatientError, PatientInput, PatientOutput, StandardError};
@@ -35,10 +35,11 @@ pub fn com(
     task: &ComTask<'_>,
     terminals: Terminals,
 ) -> Result<(), CommandRefusal> {
-    let held = hold(rt, &task.drives, &task.outs)?;
-    let start = start_of(rt, task)?;
+    let tail = tail_if_any(rt, task)?;
+    check_outs(rt, outputs, task)?;
     check_com(rt, task)?;
-    check_outs(rt, outputs, &task.outs)?;
+    let held = hold(rt, &task.drives, &task.outs)?;
+    let start = start_of(rt, task, tail)?;
     // (before a key is recorded)
     start.check()?;
     let is_at_line_start = Cell::new(true);
@@ -62,21 +63,25 @@ pub fn com(
     Ok(())
 }
 
-/// Fails where one of the files of these names can't be written.
-fn check_outs(rt: &impl LockableFiles, outputs: Outputs, outs: &[&str]) -> Result<(), HostError> {
-    for out in outs {
+/// Fails where a drive or the record can't be written to its file.
+fn check_outs(
+    rt: &impl LockableFiles,
+    outputs: Outputs,
+    task: &ComTask<'_>,
+) -> Result<(), HostError> {
+    for out in &task.outs {
         check_file(rt, outputs, out)?;
     }
-    Ok(())
+    check_record(rt, outputs, task.record)
 }
 
 /// What the program runs with.
 fn start_of(
     rt: &(impl Files + AllocGlobal),
     task: &ComTask<'_>,
+    tail: Option<Tail>,
 ) -> Result<ProgramStart, CommandRefusal> {
     let program = read_file(rt, task.file)?;
-    let tail = tail_if_any(rt, task)?;
     let drives = drives_of(rt, &task.drives)?;
     Ok(ProgramStart {
         cpu: task.cpu,

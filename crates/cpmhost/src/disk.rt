@@ -3,7 +3,7 @@
 ghost use Rattle.std.specs.Prelude.{◌≡◌, ◌<◌};
 ghost use Rattle.cpm_command_line.specs.DiskLine.{HasUser};
 
-use crate::batch::{Batch, Taking};
+use crate::batch::{Batch, NamingRule};
 use crate::files::{read_file, unwritable, write_held};
 use crate::get::{GetOptions, get};
 use crate::held::{LockableFiles, hold};
@@ -122,7 +122,7 @@ fn new(
     let image = new_image(rt.alloc(), is_large)?;
     let mut batch = Batch::new(rt, outputs);
     batch
-        .add(rt, name, Taking::New, &image.into_bytes())
+        .add(rt, name, NamingRule::New, &image.into_bytes())
         .map_err(|reason| unwritable(name, reason))?;
     batch.take_names(rt)
 }

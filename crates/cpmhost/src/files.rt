@@ -3,7 +3,7 @@ ghost use Rattle.std.specs.Prelude.{⊤, ◌≡◌, ◌≤◌, ◌⊎◌, None, 
 ghost use Rattle.cpm_host.specs.Refusals.{IsFileRefusal, IsOutRefusal};
 ghost use Rattle.cpm_store.specs.Files.{CountsFailure};
 
-use crate::batch::{Batch, Taking};
+use crate::batch::{Batch, NamingRule};
 use crate::guard::Guard;
 use crate::held::{HeldFiles, LockableFiles};
 use crate::output::Outputs;
@@ -11,7 +11,8 @@ use crate::place::script_paths;
 use crate::refused::{CommandRefusal, RefusalDetail};
 use crate::rehearsals::Rehearsals;
 use cpm_host::{
-    Config, HostError, RunError, SessionConfig, ShownWord, Store, StoreError, read_whole, shown,
+    Config, HostError, MOST_FILE, RunError, SessionConfig, ShownWord, Store, StoreError,
+    read_whole, shown,
 };
 use std::alloc::{AllocError, Global};
 use std::io::ErrorKind;
@@ -20,7 +21,7 @@ use std::{fs, io};
 
 /// All bytes of a file.
 pub fn whole_file(rt: &impl Files, alloc: Global, name: &str) -> io::Result<Vec<u8>>
-    ensures small { IfOk result (λ bytes. vec_len bytes ≤ 16777216) }
+    ensures small { IfOk result (λ bytes. vec_len bytes ≤ MOST_FILE) }
 {
     let mut file = fs::open(rt, name)?;
     read_whole(alloc, &mut file)
@@ -29,10 +30,26 @@ pub fn whole_file(rt: &impl Files, alloc: Global, name: &str) -> io::Result<Vec<
 /// All bytes of a file. It fails where the file can't be read, or has more than 16,777,216 bytes, and
 /// if out of memory.
 pub fn read_file(rt: &(impl Files + AllocGlobal), name: &str) -> Result<Vec<u8>, HostError>
-    ensures small { IfOk result (λ bytes. vec_len bytes ≤ 16777216) }
+    ensures small { IfOk result (λ bytes. vec_len bytes ≤ MOST_FILE) }
     ensures refusal { IfErr result IsFileRefusal }
 {
     whole_file(rt, rt.alloc(), name).map_err(|reason| unreadable(name, reason))
+}
+
+/// What was found at the name of a file that is read. It fails where the file couldn't be looked at. But nothing was found of one that can't be opened
+/// either: that is refused where it is read, in its turn.
+pub fn found_of_input<T: Drop>(
+    rt: &impl Files,
+    name: &str,
+    looked: io::Result<Option<T>>,
+) -> Result<Option<T>, HostError> {
+    match looked {
+        Ok(found) => Ok(found),
+        Err(reason) if reason.kind() != ErrorKind::OutOfMemory && fs::open(rt, name).is_err() => {
+            Ok(None)
+        }
+        Err(reason) => Err(unreadable(name, reason)),
+    }
 }
 
 /// Makes a file of these bytes in a batch: they replace all that the file of the name held.
@@ -45,7 +62,7 @@ pub fn add_file(
     ensures refusal { IfErr result (λ e. IsOutRefusal e ⊎ (e ≡ HostError.OutOfMemory)) }
 {
     batch
-        .add(rt, name, Taking::Replacing(None), bytes)
+        .add(rt, name, NamingRule::Replacing(None), bytes)
         .map_err(|reason| unwritable(name, reason))
 }
 
@@ -60,7 +77,7 @@ pub fn add_held(
     ensures refusal { IfErr result (λ e. IsOutRefusal e ⊎ (e ≡ HostError.OutOfMemory)) }
 {
     batch
-        .add(rt, name, Taking::Replacing(held.mark_of(name)), bytes)
+        .add(rt, name, NamingRule::Replacing(held.mark_of(name)), bytes)
         .map_err(|reason| unwritable(name, reason))
 }
 
@@ -127,6 +144,20 @@ fn check_files(rt: &impl LockableFiles, outputs: Outputs, names: &[String]) -> R
         check_file(rt, outputs, name.as_str())?;
     }
     Ok(())
+}
+
+/// Fails where the record of typed keys can't be written, if there is to be one.
+pub fn check_record(
+    rt: &impl LockableFiles,
+    outputs: Outputs,
+    record: Option<&str>,
+) -> Result<(), HostError>
+    ensures refusal { IfErr result (λ e. IsOutRefusal e ⊎ (e ≡ HostError.OutOfMemory)) }
+{
+    match record {
+        Some(name) => check_file(rt, outputs, name),
+        None => Ok(()),
+    }
 }
 
 /// Fails where one of the scripts that a run is to write to a folder can't be written.
@@ -238,6 +269,8 @@ pub struct MachineFiles<'a, R: LockableFiles> {
     reason: Option<io::Error>,
     /// The file that another program has changed.
     changed: Option<ShownWord>,
+    /// Why the script that was read last is refused.
+    refusal: Option<HostError>,
 }
 
 impl<'a, R: LockableFiles> MachineFiles<'a, R> {
@@ -259,6 +292,7 @@ impl<'a, R: LockableFiles> MachineFiles<'a, R> {
             failures: 0,
             reason: None,
             changed: None,
+            refusal: None,
         }
     }
 
@@ -271,6 +305,9 @@ impl<'a, R: LockableFiles> MachineFiles<'a, R> {
     /// were, where memory is refused between two of them.
     pub fn refuse(&mut self, error: RunError) -> CommandRefusal {
         self.batch.remove(self.rt);
+        if let Some(refusal) = self.refusal {
+            return CommandRefusal::from(refusal);
+        }
         let error = match (error, self.changed) {
             (RunError::WriteFault(_), Some(name)) => RunError::WriteFault(name),
             (error, _) => error,
@@ -322,6 +359,10 @@ impl<R: LockableFiles> Store for MachineFiles<'_, R> {
     ghost does = { λ _ _ _. ⊤ };
 
     fn read(&mut self, alloc: Global, name: &str) -> Result<Vec<u8>, StoreError> {
+        if let Some(refusal) = self.rehearsals.refusal_of(name) {
+            self.refusal = Some(refusal);
+            return Err(self.fault(io::Error::from(ErrorKind::InvalidData)));
+        }
         if let Some(script) = self.rehearsals.script_named(name) {
             return copied(alloc, script).map_err(|_| StoreError::OutOfMemory);
         }

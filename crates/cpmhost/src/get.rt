@@ -2,7 +2,7 @@
 
 ghost use Rattle.std.specs.Prelude.{◌<◌};
 
-use crate::batch::{Batch, Taking};
+use crate::batch::{Batch, NamingRule};
 use crate::disk::{files_named, read_image};
 use crate::files::{check_file, unwritable};
 use crate::held::LockableFiles;
@@ -137,16 +137,16 @@ fn write_all(
     all: &[Extraction],
     is_forced: bool,
 ) -> Result<(), CommandRefusal> {
-    let taking = if is_forced {
-        Taking::ReplacingPlain
+    let naming = if is_forced {
+        NamingRule::ReplacingPlain
     } else {
-        Taking::New
+        NamingRule::New
     };
     let mut batch = Batch::new(rt, outputs);
     for taken in all {
         let path = taken.path.as_str();
         batch
-            .add(rt, path, taking, &taken.bytes)
+            .add(rt, path, naming, &taken.bytes)
             .map_err(|reason| unwritable(path, reason))?;
     }
     batch.take_names(rt)

@@ -2,11 +2,12 @@
 
 ghost use Rattle.std.specs.Prelude.{◌≤◌, IfOk, vec_len};
 
-use crate::batch::{Batch, Taking};
+use crate::batch::{Batch, NamingRule};
 use crate::bounds::Bounds;
 use crate::files::whole_file;
 use crate::held::{HeldFiles, LockableFiles};
 use crate::screen::{is_own_terminal, write_shown};
+use cpm_host::MOST_FILE;
 use std::alloc::Global;
 use std::io;
 use std::rt::Files;
@@ -29,7 +30,7 @@ impl Guard<'_> {
         alloc: Global,
         name: &str,
     ) -> io::Result<Vec<u8>>
-        ensures small { IfOk result (λ bytes. vec_len bytes ≤ 16777216) }
+        ensures small { IfOk result (λ bytes. vec_len bytes ≤ MOST_FILE) }
     {
         self.bounds.admit(rt, name)?;
         whole_file(rt, alloc, name)
@@ -47,6 +48,11 @@ impl Guard<'_> {
         if self.shows_controls && is_own_terminal(rt, name) {
             return write_shown(rt, name, bytes);
         }
-        batch.add(rt, name, Taking::Replacing(self.held.mark_of(name)), bytes)
+        batch.add(
+            rt,
+            name,
+            NamingRule::Replacing(self.held.mark_of(name)),
+            bytes,
+        )
     }
 }

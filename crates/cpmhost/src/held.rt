@@ -1,7 +1,7 @@
 //! Files that are read and then replaced. A command holds such a file from its reading to its replacement, so that of two commands that change one file
 //! each has what the other one did; and it replaces the file only where that still is what it was when it was read.
 
-use crate::files::unreadable;
+use crate::files::{found_of_input, unreadable, unwritable};
 use crate::output::{is_open_already, target_of};
 use crate::patient::StandardError;
 use crate::refused::CommandRefusal;
@@ -16,9 +16,9 @@ use std::time::Duration;
 use std::{fs, io, thread};
 
 /// How often a file that another command holds is asked for again, and after how many milliseconds each time: 10 seconds in all.
-const MOST_PAUSES: u32 = 1000;
+const MOST_LOCK_PAUSES: u32 = 1000;
 
-const PAUSE: u64 = 10;
+const LOCK_PAUSE: u64 = 10;
 
 /// What holding files asks of the system: files that can be locked, a clock to wait by, standard output and error, and memory.
 pub trait LockableFiles: Files<File = File> + Clock + Print + StandardError + AllocGlobal {}
@@ -51,6 +51,7 @@ impl Mark {
     pub fn check(&self, rt: &impl Files, path: Path<'_>) -> io::Result<()> {
         match fs::metadata(rt, path) {
             Ok(found) if Mark::of(&found) == *self => Ok(()),
+            Err(error) if error.kind() != ErrorKind::NotFound => Err(error),
             _ => Err(io::Error::new(
                 ErrorKind::Other,
                 "it changed while this command ran; nothing was written to it; run it again",
@@ -135,11 +136,11 @@ pub fn hold(
     outs: &[&str],
 ) -> Result<HeldFiles, CommandRefusal> {
     let mut attempt = try_hold(rt, reads, outs)?;
-    for _pause in 0..MOST_PAUSES {
+    for _pause in 0..MOST_LOCK_PAUSES {
         if let Attempt::Held(_) = &attempt {
             break;
         }
-        thread::sleep(rt, Duration::from_millis(PAUSE));
+        thread::sleep(rt, Duration::from_millis(LOCK_PAUSE));
         attempt = try_hold(rt, reads, outs)?;
     }
     match attempt {
@@ -197,21 +198,17 @@ fn try_hold(
     Ok(Attempt::Held(all))
 }
 
-/// The files that are read and written, in the order of their numbers, and each once.
+/// The files that are read and written, in the order of their numbers, and each once. It fails where one can't be looked at.
 fn both_of(
     rt: &(impl Files + AllocGlobal),
     reads: &[&str],
     outs: &[&str],
-) -> Result<Vec<RewrittenFile>, AllocError> {
-    let mut inputs: Vec<Spot> = Vec::new(rt.alloc());
-    for name in reads {
-        if let Some(spot) = spot_of(rt, name)? {
-            inputs.push(spot)?;
-        }
-    }
+) -> Result<Vec<RewrittenFile>, CommandRefusal> {
+    let inputs = spots_of(rt, reads)?;
     let mut all: Vec<RewrittenFile> = Vec::new(rt.alloc());
     for (place, name) in outs.iter().enumerate() {
-        if let Some(spot) = spot_of(rt, name)?
+        let spot = spot_of(rt, name).map_err(|reason| unwritable(name, reason))?;
+        if let Some(spot) = spot
             && inputs.iter().any(|input| input.is_one_with(&spot))
         {
             let Spot { device, node, .. } = spot;
@@ -225,6 +222,17 @@ fn both_of(
     all.sort_unstable();
     all.dedup_by_key(|both| (both.device, both.node));
     Ok(all)
+}
+
+/// Where the files lie that are read.
+fn spots_of(rt: &(impl Files + AllocGlobal), names: &[&str]) -> Result<Vec<Spot>, CommandRefusal> {
+    let mut spots: Vec<Spot> = Vec::new(rt.alloc());
+    for name in names {
+        if let Some(spot) = found_of_input(rt, name, spot_of(rt, name))? {
+            spots.push(spot)?;
+        }
+    }
+    Ok(spots)
 }
 
 /// Where a file lies that is replaced where it is written: its path without links, and the numbers of what is there now.
@@ -244,16 +252,15 @@ impl Spot {
     }
 }
 
-/// Where the file of a name lies. None of what is no file of its own, and of what can't be looked at.
-fn spot_of(rt: &(impl Files + AllocGlobal), name: &str) -> Result<Option<Spot>, AllocError> {
+/// Where the file of a name lies. None of what is no file of its own, and where there is none. It fails where it can't be looked at.
+fn spot_of(rt: &(impl Files + AllocGlobal), name: &str) -> io::Result<Option<Spot>> {
     match spot_at(rt, name) {
-        Ok(spot) => Ok(spot),
-        Err(error) if error.kind() == ErrorKind::OutOfMemory => Err(AllocError),
-        Err(_) => Ok(None),
+        Err(error) if error.kind() == ErrorKind::NotFound => Ok(None),
+        found => found,
     }
 }
 
-/// Where the file of a name lies, and none where it is no file of its own. It fails where it can't be looked at.
+/// Where the file of a name lies, and none where it is no file of its own. It fails where there is none, and where it can't be looked at.
 fn spot_at(rt: &(impl Files + AllocGlobal), name: &str) -> io::Result<Option<Spot>> {
     let target = target_of(rt, name)?;
     if is_open_already(target.as_path().as_str()) {

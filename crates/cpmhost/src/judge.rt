@@ -1,4 +1,4 @@
-//! What is judged of a configuration before a person types at one of its sessions.
+//! What is judged of a run before any of its sessions is played.
 
 use crate::files::{MachineFiles, read_file};
 use crate::guard::Guard;
@@ -8,23 +8,28 @@ use crate::refused::CommandRefusal;
 use crate::rehearsals::Rehearsals;
 use crate::rehearse::{place_of, waits_in};
 use cpm_host::{
-    Config, HostError, Origin, RunError, Script, SessionConfig, cues_of, forked_cues_of,
+    Config, HostError, Origin, RunError, RunTask, Script, SessionConfig, cues_of, forked_cues_of,
     judge_host, shown,
 };
+use std::alloc::{AllocError, Global};
 use std::rt::Files;
 
-/// Refuses a configuration that would be refused once the session of this name was typed at: all is read and judged but what is typed, and whether there are
-/// frames for all sessions, forked ones too.
+/// Refuses a run that would be refused once a session of it was played, for what is wrong first: all is read and judged but what is typed, and then whether
+/// there are frames for all sessions, forked ones too. Where there are, and no session is played by itself before, the run itself judges what it reads.
 pub fn judge(
     rt: &impl LockableFiles,
     outputs: Outputs,
     config: &mut Config,
-    name: &str,
+    task: &RunTask<'_>,
     guard: Guard<'_>,
 ) -> Result<(), CommandRefusal> {
-    let aside = set_aside(rt, config, name)?;
-    let rehearsals = Rehearsals::new(rt);
-    let mut files = MachineFiles::new(rt, outputs, &rehearsals, guard);
+    let mut stand_ins = Rehearsals::new(rt);
+    let aside = set_aside(rt, config, task.keyboard, &mut stand_ins)?;
+    let plays_at_once = task.keyboard.is_none() && !task.stops_idle && stand_ins.is_empty();
+    if plays_at_once && check_frames(config).is_ok() {
+        return Ok(());
+    }
+    let mut files = MachineFiles::new(rt, outputs, &stand_ins, guard);
     let judged = judge_host(rt.alloc(), config, &mut files);
     for (session, keys) in config.sessions.iter_mut().zip(aside) {
         if keys.is_some() {
@@ -68,7 +73,7 @@ fn quotas_of(config: &Config) -> u128 {
 
 /// Refuses a configuration that has too few frames for all sessions, by the first that is forked and finds none: all that are opened have theirs before. Where
 /// these find too few themselves, that is for the run to say.
-pub fn check_frames(config: &Config) -> Result<(), HostError> {
+fn check_frames(config: &Config) -> Result<(), HostError> {
     let quotas = quotas_of(config);
     let mut wanted: u128 = 0;
     for session in &config.sessions {
@@ -91,48 +96,75 @@ pub fn check_frames(config: &Config) -> Result<(), HostError> {
     Ok(())
 }
 
-/// Takes from the sessions the scripts that are no keys yet: that of the session of this name, which is typed at, and those that wait, which are judged here.
+/// Takes from the sessions the scripts that are no keys yet: that of the session of this name, which is typed at, and those that wait. These are judged here,
+/// and each has a stand-in, with the refusal of one that has a fault: so that is met where the run would read the script.
 fn set_aside(
     rt: &(impl Files + AllocGlobal),
     config: &mut Config,
-    name: &str,
+    typed: Option<&str>,
+    stand_ins: &mut Rehearsals,
 ) -> Result<Vec<Option<String>>, CommandRefusal> {
     let mut aside: Vec<Option<String>> = Vec::new(rt.alloc());
-    for session in config.sessions.iter_mut() {
-        let is_aside = session.name.as_str() == name || judge_waiting(rt, session)?;
-        aside.push(if is_aside { session.keys.take() } else { None })?;
+    for (place, session) in config.sessions.iter_mut().enumerate() {
+        let keys = if typed == Some(session.name.as_str()) {
+            session.keys.take()
+        } else {
+            match judge_script(rt, session)? {
+                ScriptJudgement::Left => None,
+                ScriptJudgement::Waiting(refusal) => {
+                    let stand_in = stand_ins.add_judged(rt, place, refusal)?;
+                    session.keys.replace(stand_in)
+                }
+            }
+        };
+        aside.push(keys)?;
     }
     Ok(aside)
 }
 
-/// Whether the script of a session waits; refused for its first line with a fault, if it does.
-fn judge_waiting(
+/// What is known of the script of a session once it is judged.
+#[derive(Drop)]
+enum ScriptJudgement {
+    /// It is for the run to judge: there is none, it doesn't wait, or it can't be read.
+    Left,
+    /// It waits, and is refused for its first line with a fault, if there is one.
+    Waiting(Option<HostError>),
+}
+
+/// Judges the script of a session, if it waits.
+fn judge_script(
     rt: &(impl Files + AllocGlobal),
     session: &SessionConfig,
-) -> Result<bool, CommandRefusal> {
+) -> Result<ScriptJudgement, AllocError> {
     let Some(keys) = &session.keys else {
-        return Ok(false);
+        return Ok(ScriptJudgement::Left);
     };
-    let text = read_file(rt, keys.as_str())?;
+    let text = match read_file(rt, keys.as_str()) {
+        Ok(text) => text,
+        Err(HostError::OutOfMemory) => return Err(AllocError),
+        Err(_) => return Ok(ScriptJudgement::Left),
+    };
     if !waits_in(text.as_slice()) {
-        return Ok(false);
+        return Ok(ScriptJudgement::Left);
     }
     let script = Script {
         name: keys.as_str(),
         text: text.as_slice(),
     };
+    Ok(ScriptJudgement::Waiting(fault_of(rt.alloc(), session, script)))
+}
+
+/// Why the script of a session that waits is refused, if it is.
+fn fault_of(alloc: Global, session: &SessionConfig, script: Script<'_>) -> Option<HostError> {
     match &session.origin {
-        Origin::Opened { .. } => {
-            cues_of(rt.alloc(), script)?;
-        }
+        Origin::Opened { .. } => cues_of(alloc, script).err(),
         // (the keys of the session that it is forked from come to it later, and count as none here)
         Origin::Forked { at, .. } => {
             let parent = Script {
                 name: "",
                 text: &[],
             };
-            forked_cues_of(rt.alloc(), parent, *at, script)?;
+            forked_cues_of(alloc, parent, *at, script).err()
         }
     }
-    Ok(true)
 }

@@ -38,10 +38,10 @@ use cpm_host::{
     page_text, run_check, run_debug, run_host, run_list,
 };
 use disk::do_disk;
-use files::{MachineFiles, add_scripts, check_outputs, check_scripts, read_file};
+use files::{MachineFiles, add_scripts, check_outputs, check_record, check_scripts, read_file};
 use guard::Guard;
 use held::{LockableFiles, hold_images};
-use judge::{check_frames, judge};
+use judge::judge;
 use output::Outputs;
 use patient::{PatientError, PatientInput, PatientOutput, StandardError};
 use place::check_apart;
@@ -103,6 +103,7 @@ fn run_config(
 ) -> Result<(), CommandRefusal> {
     let bounds = check_bounds(rt, config, task)?;
     check_outputs(rt, outputs, config)?;
+    check_record(rt, outputs, task.record)?;
     check_scripts(rt, outputs, config, task.scripts)?;
     check_apart(rt, task.config, config, task)?;
     let held = hold_images(rt, config)?;
@@ -111,11 +112,10 @@ fn run_config(
         shows_controls: !task.is_raw,
         held: &held,
     };
+    judge(rt, outputs, config, task, guard)?;
     if let Some(name) = task.keyboard {
-        judge(rt, outputs, config, name, guard)?;
         type_in(rt, outputs, config, rehearsals, name, task, terminals)?;
     }
-    check_frames(config)?;
     let form = Form::of(task.has_progress, terminals.is_error_terminal);
     rehearse_all(rt, config, rehearsals, task.stops_idle, form)?;
     let (report, mut batch) = play_sessions(rt, outputs, config, rehearsals, form, guard)?;
@@ -123,8 +123,11 @@ fn run_config(
         batch.remove(rt);
         return Err(refused);
     }
-    batch.take_names(rt)?;
-    Ok(print_report(rt, rehearsals, &report)?)
+    let named = batch.take_names(rt);
+    // (what was played is told also where a file can't have its name)
+    let printed = print_report(rt, rehearsals, &report);
+    named?;
+    Ok(printed?)
 }
 
 /// Runs the sessions of a configuration, and gives how each ended, and the files that they write.

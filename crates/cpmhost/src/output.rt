@@ -1,7 +1,7 @@
 //! Files of the machine that are written whole: what is new is written to a file beside the old one, which then takes its name. So a full
 //! device, a limit on the size of files or a kill leaves the old bytes.
 
-use crate::beside::Replacement;
+use crate::beside::{Replacement, is_missing};
 use crate::held::LockableFiles;
 use crate::stream::{Stream, real_path, stream_of};
 use std::alloc::{AllocError, Global};
@@ -91,8 +91,8 @@ fn open_file_at(
     if !is_number(number) {
         return Ok(None);
     }
-    match real_path(rt, folder.as_str())? {
-        Some(folder) if is_folder_of_open_files(folder.as_path().as_str()) => {
+    match real_path(rt, folder)? {
+        Ok(folder) if is_folder_of_open_files(folder.as_path().as_str()) => {
             Ok(Some(folder.as_path().join(rt.alloc(), number)?))
         }
         _ => Ok(None),
@@ -115,10 +115,21 @@ pub fn target_of(rt: &(impl Files + AllocGlobal), name: &str) -> io::Result<Path
                 path.as_path().as_str(),
                 to.as_path().as_str(),
             )?,
+            Err(error) if is_link(rt, path.as_path(), &error) => return Err(error),
             Err(_) => return Ok(path),
         }
     }
     Err(io::Error::from(ErrorKind::FilesystemLoop))
+}
+
+/// Whether a path is of a link, though this was the answer when it was read as one. (Of most paths the answer says that they are none, or that nothing is
+/// there.)
+fn is_link(rt: &impl Files, path: Path<'_>, answer: &io::Error) -> bool {
+    match answer.kind() {
+        ErrorKind::InvalidInput | ErrorKind::NotFound => false,
+        ErrorKind::OutOfMemory => true,
+        _ => path.is_symlink(rt),
+    }
 }
 
 /// How many names are tried for a file beside another one, where there are files of these names.
@@ -158,7 +169,7 @@ impl<R: LockableFiles> OutputFile<'_, R> {
     /// Whether there is a file that it is to replace.
     pub fn is_to_replace(&self) -> bool {
         match &self.beside {
-            Some(beside) => fs::metadata(self.rt, beside.target()).is_ok(),
+            Some(beside) => !is_missing(fs::metadata(self.rt, beside.target())),
             None => false,
         }
     }
@@ -198,8 +209,10 @@ impl<R: LockableFiles> OutputFile<'_, R> {
         let (Sink::File(file), Some(beside)) = (&self.sink, &self.beside) else {
             return Ok(());
         };
-        let Ok(old) = fs::metadata(self.rt, beside.target()) else {
-            return Ok(());
+        let old = match fs::metadata(self.rt, beside.target()) {
+            Ok(old) => old,
+            Err(error) if error.kind() == ErrorKind::NotFound => return Ok(()),
+            Err(error) => return Err(error),
         };
         let new = file.metadata()?;
         if old.uid() != new.uid() {

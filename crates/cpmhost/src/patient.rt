@@ -10,7 +10,7 @@ use std::time::Duration;
 use std::{fmt, io, thread};
 
 /// After how many milliseconds it is tried again.
-const PAUSE: u64 = 10;
+const STREAM_PAUSE: u64 = 10;
 
 /// Whether a call failed that would have had to wait.
 fn is_to_wait<T>(answer: &io::Result<T>) -> bool {
@@ -22,7 +22,7 @@ fn is_to_wait<T>(answer: &io::Result<T>) -> bool {
 
 /// Waits a little.
 fn pause(clock: &impl Clock) {
-    thread::sleep(clock, Duration::from_millis(PAUSE));
+    thread::sleep(clock, Duration::from_millis(STREAM_PAUSE));
 }
 
 /// Standard output, which is waited for.

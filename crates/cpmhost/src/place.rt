@@ -1,15 +1,16 @@
 //! Which file of the machine a name is of, by whatever spelling or link.
 
+use crate::files::{found_of_input, unwritable};
 use crate::get::Extraction;
 use crate::output::target_of;
 use crate::refused::{CommandRefusal, RefusalDetail};
 use cpm_host::{ComTask, Config, HostError, Origin, RunError, RunTask, SessionConfig, shown};
 use std::alloc::{AllocError, Global};
-use std::fs;
 use std::io::ErrorKind;
 use std::os::unix::fs::MetadataExt;
 use std::path::Path;
 use std::rt::Files;
+use std::{fs, io};
 
 /// Where a file lies: names with one place are of one file.
 #[derive(PartialEq, Eq, Drop)]
@@ -20,11 +21,11 @@ struct FileIdentity {
     name: Option<String>,
 }
 
-/// The place of a file that isn't there yet, where its folder is.
+/// The place of a file that isn't there yet, if its folder is. It fails where that can't be looked at.
 fn place_in_folder(
     rt: &(impl Files + AllocGlobal),
     target: Path<'_>,
-) -> Result<Option<FileIdentity>, AllocError> {
+) -> io::Result<Option<FileIdentity>> {
     let (Some(folder), Some(name)) = (target.parent(), target.file_name()) else {
         return Ok(None);
     };
@@ -32,8 +33,10 @@ fn place_in_folder(
         "" => Path::new("."),
         _ => folder,
     };
-    let Ok(found) = fs::metadata(rt, folder) else {
-        return Ok(None);
+    let found = match fs::metadata(rt, folder) {
+        Ok(found) => found,
+        Err(error) if error.kind() == ErrorKind::NotFound => return Ok(None),
+        Err(error) => return Err(error),
     };
     Ok(Some(FileIdentity {
         device: found.dev(),
@@ -42,16 +45,10 @@ fn place_in_folder(
     }))
 }
 
-/// The place of the file of a name. None of what is no file of its own, as a pipe or a device, and of what can't be looked at.
-fn place_of(
-    rt: &(impl Files + AllocGlobal),
-    name: &str,
-) -> Result<Option<FileIdentity>, AllocError> {
-    let target = match target_of(rt, name) {
-        Ok(target) => target,
-        Err(error) if error.kind() == ErrorKind::OutOfMemory => return Err(AllocError),
-        Err(_) => return Ok(None),
-    };
+/// The place of the file of a name. None of what is no file of its own, as a pipe or a device, and of what has no folder. It fails where the file can't be
+/// looked at.
+fn place_of(rt: &(impl Files + AllocGlobal), name: &str) -> io::Result<Option<FileIdentity>> {
+    let target = target_of(rt, name)?;
     match fs::metadata(rt, target.as_path()) {
         Ok(found) if found.is_file() => Ok(Some(FileIdentity {
             device: found.dev(),
@@ -61,7 +58,8 @@ fn place_of(
         Err(error) if error.kind() == ErrorKind::NotFound => {
             place_in_folder(rt, target.as_path())
         }
-        _ => Ok(None),
+        Ok(_) => Ok(None),
+        Err(error) => Err(error),
     }
 }
 
@@ -94,7 +92,7 @@ impl<'a> RunFiles<'a> {
         name: &'a str,
         is_image: bool,
     ) -> Result<(), CommandRefusal> {
-        if let Some(place) = place_of(rt, name)? {
+        if let Some(place) = found_of_input(rt, name, place_of(rt, name))? {
             self.inputs.push(RunFile {
                 name,
                 place,
@@ -111,7 +109,8 @@ impl<'a> RunFiles<'a> {
         name: &'a str,
         is_image: bool,
     ) -> Result<(), CommandRefusal> {
-        if let Some(place) = place_of(rt, name)? {
+        let place = place_of(rt, name).map_err(|reason| unwritable(name, reason))?;
+        if let Some(place) = place {
             self.check_new(&place, name, is_image)?;
             self.outputs.push(RunFile {
                 name,

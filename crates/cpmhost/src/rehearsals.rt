@@ -1,6 +1,7 @@
-//! The sessions of a run that were played by themselves before, each with the script of the keys that came.
+//! The sessions of a run that were played by themselves before, each with the script of the keys that came; or what stands for such scripts where a run is
+//! judged.
 
-use cpm_host::{Key, LiveResult, key_line};
+use cpm_host::{HostError, Key, LiveResult, key_line};
 use std::alloc::{AllocError, Global};
 
 /// A session that was played by itself.
@@ -14,6 +15,8 @@ struct Rehearsal {
     script: Vec<u8>,
     /// Whether it ended where it waits and no key comes.
     is_idle: bool,
+    /// Why the script that it stands for is refused, where it is.
+    refusal: Option<HostError>,
 }
 
 /// The sessions that were played by themselves.
@@ -34,6 +37,12 @@ impl Rehearsals {
     pub fn script_named(&self, name: &str) -> Option<&[u8]> {
         let found = self.all.iter().find(|one| one.name.as_str() == name)?;
         Some(found.script.as_slice())
+    }
+
+    /// Why the script of this name is refused, if it is.
+    pub fn refusal_of(&self, name: &str) -> Option<HostError> {
+        let found = self.all.iter().find(|one| one.name.as_str() == name)?;
+        found.refusal
     }
 
     /// The script of the session at a place, if that was played by itself.
@@ -77,8 +86,33 @@ impl Rehearsals {
             name,
             script,
             is_idle,
+            refusal: None,
         })?;
         Ok(again)
+    }
+
+    /// Notes what stands for the script of the session at a place while a run is judged, and gives its name: one without keys, or with why that is refused.
+    pub fn add_judged(
+        &mut self,
+        rt: &impl AllocGlobal,
+        place: usize,
+        refusal: Option<HostError>,
+    ) -> Result<String, AllocError> {
+        let name = name_at(rt.alloc(), place)?;
+        let again = String::from_str(rt.alloc(), name.as_str())?;
+        self.all.push(Rehearsal {
+            place,
+            name,
+            script: Vec::new(rt.alloc()),
+            is_idle: false,
+            refusal,
+        })?;
+        Ok(again)
+    }
+
+    /// Whether there is none.
+    pub fn is_empty(&self) -> bool {
+        self.all.is_empty()
     }
 }
 

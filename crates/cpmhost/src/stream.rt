@@ -7,7 +7,7 @@ use crate::held::LockableFiles;
 use crate::patient::{PatientError, PatientOutput};
 use std::alloc::AllocError;
 use std::io::{ErrorKind, Write};
-use std::path::PathBuf;
+use std::path::{Path, PathBuf};
 use std::rt::Files;
 use std::{fs, io};
 
@@ -33,25 +33,28 @@ impl Stream {
 /// The folders in which this process has what it has open, each under its number.
 const OWN_FOLDERS: [&str; 2] = ["/proc/self/fd", "/proc/thread-self/fd"];
 
-/// A path without links that leads where this one does; none where there is no such.
+/// A path without links that leads where this one does, or why there is none. The empty path is that of the current folder.
 pub fn real_path(
     rt: &(impl Files + AllocGlobal),
-    path: &str,
-) -> Result<Option<PathBuf>, AllocError> {
+    path: Path<'_>,
+) -> Result<io::Result<PathBuf>, AllocError> {
+    let path = match path.as_str() {
+        "" => Path::new("."),
+        _ => path,
+    };
     match fs::canonicalize(rt, path) {
-        Ok(path) => Ok(Some(path)),
         Err(error) if error.kind() == ErrorKind::OutOfMemory => Err(AllocError),
-        Err(_) => Ok(None),
+        found => Ok(found),
     }
 }
 
 /// Whether a folder is one in which this process has what it has open.
-fn is_own_folder(rt: &(impl Files + AllocGlobal), folder: &str) -> Result<bool, AllocError> {
-    let Some(folder) = real_path(rt, folder)? else {
+fn is_own_folder(rt: &(impl Files + AllocGlobal), folder: Path<'_>) -> Result<bool, AllocError> {
+    let Ok(folder) = real_path(rt, folder)? else {
         return Ok(false);
     };
     for own in OWN_FOLDERS {
-        if let Some(own) = real_path(rt, own)?
+        if let Ok(own) = real_path(rt, Path::new(own))?
             && own.as_path().as_str() == folder.as_path().as_str()
         {
             return Ok(true);
@@ -65,7 +68,8 @@ pub fn stream_of(
     rt: &(impl Files + AllocGlobal),
     path: &str,
 ) -> Result<Option<Stream>, AllocError> {
-    let Some((folder, number)) = path.rsplit_once('/') else {
+    let path = Path::new(path);
+    let (Some(folder), Some(number)) = (path.parent(), path.file_name()) else {
         return Ok(None);
     };
     let stream = match number {
