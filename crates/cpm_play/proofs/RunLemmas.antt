@@ -1,6 +1,5 @@
 -- Steps that are executed in turns, whose output is taken after each, and those up to a wait.
 use Rattle.std.proofs.Common.{◌≡◌, ℕ, ◌+◌, ◌-◌, ◌<◌, ◌≤◌, ◌&&◌, nat_le, not, min, Bool, true, false, true≢false, ◌⊎◌, inl, inr, ⊎_elim, Option, List, [], ◌++◌, length, refl, sym, ap, ap₂, ◌∙◌, subst, arith, append-nil}
-use Rattle.std.proofs.lemmas.List.{append_assoc}
 use Rattle.std.proofs.lemmas.Bool.{cases_lt}
 use Rattle.std.specs.Io.KnownBytes.{Appends}
 use Rattle.cpm_geom.specs.Disk.{Disk}

@@ -11,7 +11,7 @@ use Rattle.std.specs.Str.{bytes_eq}
 use Rattle.std.specs.declared.alloc.Global.{Global}
 use Rattle.memchr.specs.Find.{FindsNeedle, OccursAt}
 use Rattle.cpm_script.specs.declared.cue.Cue.{Cue}
-use Rattle.cpm_script.specs.declared.cue.Cue.TheVariants.{Key as Timed, Wait, Press}
+use Rattle.cpm_script.specs.declared.cue.Cue.TheVariants.{Wait}
 use Rattle.cpm_play.specs.Cued.{HasShown}
 use Rattle.cpm_play.specs.Shown.{AreNoted, HasGrown, IsFound, IsAwaited, IsHeld, MayStandAt, StandsFor, is_found}
 use Rattle.cpm_play.specs.declared.shown.Shown.{Shown}

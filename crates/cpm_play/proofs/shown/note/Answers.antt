@@ -1,6 +1,5 @@
-use Rattle.std.proofs.Common.{◌≡◌, ◌∷◌, ◌<◌, not, ap, refl, sym, ◌∙◌, subst, max}
+use Rattle.std.proofs.Common.{◌≡◌, ◌∷◌, not, ap, ◌∙◌}
 use Rattle.cpm_script.specs.declared.cue.Cue.TheVariants.{Wait}
-use Rattle.cpm_play.specs.Cued.{HasShown}
 use Rattle.cpm_play.proofs.ShownLemmas.{find-none, find-some, noting-found, noting-other}
 use Rattle.cpm_play.proofs.shown.note.Goals as goal
 

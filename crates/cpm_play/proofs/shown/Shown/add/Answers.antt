@@ -1,4 +1,4 @@
-use Rattle.std.proofs.Common.{[], ◌++◌, not, ap, refl, subst, ◌∙◌, append-nil}
+use Rattle.std.proofs.Common.{not, ap, refl, subst, ◌∙◌, append-nil}
 use Rattle.cpm_play.specs.Shown.{HasGrown}
 use Rattle.cpm_play.proofs.ShownLemmas.{grown-added, grown-on, if-true}
 use Rattle.cpm_play.proofs.shown.Shown.add.Goals as goal
