@@ -4,7 +4,7 @@ use Rattle.std.proofs.lemmas.Bool.{cases_lt}
 use Rattle.std.proofs.lemmas.List.Folds.{list_any-append}
 use Rattle.std.proofs.Math.Bool.{or-true}
 use Rattle.std.proofs.lemmas.Slice.Eq.{bytes_eq-Decides}
-use Rattle.std.proofs.lemmas.List.{append_assoc, get_or-append-add, get_or_append_left, length-append, length-take-le, take-append-drop}
+use Rattle.std.proofs.lemmas.List.{append_assoc, get_or-append-add, get_or_append_left, length-append, length-drop, length-take-le, take-append-drop}
 use Rattle.std.specs.Borrow.{Bor}
 use Rattle.std.specs.Prelude.{slice_index}
 use Rattle.std.specs.Str.{bytes_eq}
@@ -13,7 +13,7 @@ use Rattle.memchr.specs.Find.{FindsNeedle, OccursAt}
 use Rattle.cpm_script.specs.declared.cue.Cue.{Cue}
 use Rattle.cpm_script.specs.declared.cue.Cue.TheVariants.{Wait}
 use Rattle.cpm_play.specs.Cued.{HasShown}
-use Rattle.cpm_play.specs.Shown.{AreNoted, HasGrown, IsFound, IsAwaited, IsHeld, MayStandAt, StandsFor, is_found}
+use Rattle.cpm_play.specs.Shown.{AreAtMost, AreNoted, HasGrown, IsFound, IsAwaited, IsHeld, IsShort, MayStandAt, StandsFor, is_found}
 use Rattle.cpm_play.specs.declared.shown.Shown.{Shown}
 
 -- ---- places of a text
@@ -121,6 +121,17 @@ grown-added old now bytes cues tail found = record {
   };
 }
 
+-- ---- how much is kept
+
+pub short-nothing : (kept : Shown) → kept.tail.items ≡ [] → kept.cut_at ≡ 65536 → IsShort kept
+short-nothing kept none at = record { below = let empty = ap length none in omega arith; most = λ n all. omega arith }
+
+pub short-cut : (kept : Shown) (tail : List ℕ) (longest gone : ℕ) → kept.tail.items ≡ drop gone tail → gone ≡ length tail - (longest - 1) → kept.cut_at ≡ length kept.tail.items + 65536 →
+    ((n : ℕ) → AreAtMost n kept.cues.now → longest ≤ n) → IsShort kept
+short-cut kept tail longest gone is dropped at least =
+    let left : length kept.tail.items ≡ length tail - gone = ap length is ∙ length-drop gone tail in
+    record { below = omega arith; most = λ n all. let long = least n all in omega arith }
+
 -- ---- the beginning is dropped
 
 module _ (old now : Shown) (longest n : ℕ) (noted : AreNoted old.cues.now old.tail.items longest old.found.items now.found.items)
@@ -188,9 +199,11 @@ pub record IsNoting (cues rest : List Cue) (tail : List ℕ) (longest : ℕ) (ol
   pub kept : (text : List ℕ) → IsFound text old → IsFound text now
   pub found : (text : List ℕ) → IsFound text now → IsFound text old ⊎ HasShown text tail
   pub others : (text : List ℕ) → IsAwaited text cues → IsAwaited text rest ⊎ (IsFound text now ⊎ ((length text ≤ longest) × (HasShown text tail → ⊥)))
+  pub least : (n : ℕ) → AreAtMost n cues → longest ≤ n
+  pub of_rest : (text : List ℕ) → IsAwaited text rest → IsAwaited text cues
 
 pub noting-start : (cues : List Cue) (tail : List ℕ) (old : List (Bor (List ℕ))) → IsNoting cues cues tail 0 old old
-noting-start cues tail old = record { kept = λ text there. there; found = λ text there. inl there; others = λ text awaited. inl awaited }
+noting-start cues tail old = record { kept = λ text there. there; found = λ text there. inl there; others = λ text awaited. inl awaited; least = λ n most. omega arith; of_rest = λ text awaited. awaited }
 
 pub noting-end : {cues rest : List Cue} {tail : List ℕ} {longest : ℕ} {old now : List (Bor (List ℕ))} → IsNoting cues rest tail longest old now → ((text : List ℕ) → IsAwaited text rest → ⊥) →
     AreNoted cues tail longest old now
@@ -198,13 +211,14 @@ noting-end noting none = record {
   kept = noting.kept;
   found = noting.found;
   others = λ text awaited. ⊎_elim (λ left. absurd (none text left)) (λ done. done) (noting.others text awaited);
+  least = noting.least;
 }
 
 module _ {cues rest after : List Cue} {tail : List ℕ} {longest : ℕ} {old now : List (Bor (List ℕ))} (noting : IsNoting cues rest tail longest old now) (awaited : Vec ℕ Global) (next : rest ≡ Wait awaited ∷ after) where
   -- whose others are no longer
   step : (more : List (Bor (List ℕ))) (most : ℕ) → longest ≤ most → ((text : List ℕ) → IsFound text now → IsFound text more) → ((text : List ℕ) → IsFound text more → IsFound text now ⊎ HasShown text tail) →
-      IsFound awaited.items more ⊎ ((length awaited.items ≤ most) × (HasShown awaited.items tail → ⊥)) → IsNoting cues after tail most old more
-  step more most longer kept found this = record {
+      IsFound awaited.items more ⊎ ((length awaited.items ≤ most) × (HasShown awaited.items tail → ⊥)) → ((n : ℕ) → AreAtMost n cues → most ≤ n) → IsNoting cues after tail most old more
+  step more most longer kept found this least = record {
     kept = λ text there. kept text (noting.kept text there);
     found = λ text there. ⊎_elim (λ had. noting.found text had) (λ shown. inr shown) (found text there);
     others = λ text wanted.
@@ -212,16 +226,27 @@ module _ {cues rest after : List Cue} {tail : List ℕ} {longest : ℕ} {old now
         ⊎_elim (λ left. ⊎_elim (λ is. inr (subst P (sym is) this)) (λ later. inl later) (subst (IsAwaited text) next left))
         (λ done. inr (⊎_elim (λ had. inl (kept text had)) (λ lacks. let short = lacks.0 in inr (omega arith, lacks.1)) done))
         (noting.others text wanted);
+    least = least;
+    of_rest = λ text wanted. noting.of_rest text (subst (IsAwaited text) (sym next) (inr wanted));
   }
 
   pub noting-other : (most : ℕ) (needle : List ℕ) → most ≡ max longest (length needle) → needle ≡ awaited.items → (HasShown needle tail → ⊥) → IsNoting cues after tail most old now
   noting-other most needle at is lacks =
       let long = ap length is in
       step now most (omega arith) (λ text there. there) (λ text there. inl there) (inr (omega arith, λ there. lacks (subst (λ t. HasShown t tail) (sym is) there)))
+      (λ n all.
+      let had = noting.least n all in
+      let this : length awaited.items ≤ n = all awaited.items (noting.of_rest awaited.items (subst (IsAwaited awaited.items) (sym next) (inl refl))) in
+      omega arith)
+
+  pub noting-known : (needle : List ℕ) (known : List (Bor (List ℕ))) → known ≡ now → needle ≡ awaited.items → is_found needle known ≡ true → IsNoting cues after tail longest old now
+  noting-known needle known same is holds =
+      step now longest (omega arith) (λ text there. there) (λ text there. inl there)
+      (inl (subst (λ t. IsFound t now) is (subst (λ texts. is_found needle texts ≡ true) same holds))) noting.least
 
   pub noting-found : (more : List (Bor (List ℕ))) (last : Bor (List ℕ)) → more ≡ now ++ last ∷ [] → last.now ≡ awaited.items → HasShown last.now tail → IsNoting cues after tail longest old more
   noting-found more last is same there =
       subst (IsNoting cues after tail longest old) (sym is)
       (step (now ++ last ∷ []) longest (omega arith) (λ text had. found-more text now (last ∷ []) had)
       (λ text had. ⊎_elim (λ before. inl before) (λ new. inr (subst (λ t. HasShown t tail) new there)) (found-before text now last had))
-      (inl (found-pushed awaited.items now last same)))
+      (inl (found-pushed awaited.items now last same)) noting.least)

@@ -1,5 +1,5 @@
 -- What a script that may wait keeps of what was shown since the last key. All of it is own.
-use Rattle.std.specs.Prelude.{◌≡◌, ℕ, ◌≤◌, ◌⊎◌, Bool, true, List, [], ◌∷◌, ◌++◌, length}
+use Rattle.std.specs.Prelude.{◌≡◌, ℕ, ◌+◌, ◌<◌, ◌≤◌, ◌⊎◌, Bool, true, List, [], ◌∷◌, ◌++◌, length}
 use Rattle.std.specs.Borrow.{Bor}
 use Rattle.std.specs.List.{list_any}
 use Rattle.std.specs.Str.{bytes_eq}
@@ -40,14 +40,24 @@ pub record StandsFor (kept : Shown) (shown : List ℕ) : Type 0 where
 abbrev pub IsHeld : Shown → List ℕ → Type 0
 IsHeld kept text = HasShown text kept.tail.items ⊎ IsFound text kept.found.items
 
+-- no text that is waited for is longer
+abbrev pub AreAtMost : ℕ → List Cue → Type 0
+AreAtMost n cues = (text : List ℕ) → IsAwaited text cues → length text ≤ n
+
+-- What is kept is shorter than the length at which it is cut. That is at most 64 KiB more than the longest text that is waited for.
+pub record IsShort (kept : Shown) : Type 0 where
+  pub below : length kept.tail.items < kept.cut_at
+  pub most : (n : ℕ) → AreAtMost n kept.cues.now → kept.cut_at ≤ 65536 + n
+
 -- more was shown
 pub record HasGrown (old now : Shown) (text : List ℕ) : Type 0 where
   pub cues : now.cues.now ≡ old.cues.now
   pub shown : (shown : List ℕ) → StandsFor old shown → StandsFor now (shown ++ text)
 
 -- The texts that are waited for were looked for in what is kept. Those that were found there are among the found ones,
--- and each other is at most so long, or was found before.
+-- and each other is at most so long, which is no more than needed, or was found before.
 pub record AreNoted (cues : List Cue) (tail : List ℕ) (longest : ℕ) (old now : List (Bor (List ℕ))) : Type 0 where
   pub kept : (text : List ℕ) → IsFound text old → IsFound text now
   pub found : (text : List ℕ) → IsFound text now → IsFound text old ⊎ HasShown text tail
   pub others : (text : List ℕ) → IsAwaited text cues → IsFound text now ⊎ ((length text ≤ longest) × (HasShown text tail → ⊥))
+  pub least : (n : ℕ) → AreAtMost n cues → longest ≤ n

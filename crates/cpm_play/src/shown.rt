@@ -1,7 +1,7 @@
 //! What a script that may wait keeps of what was shown since the last key.
 
 ghost use Rattle.std.specs.Prelude.{◌≡◌, [], true, false, IfOk};
-ghost use Rattle.cpm_play.specs.Shown.{AreNoted, HasGrown, IsHeld, StandsFor, is_found};
+ghost use Rattle.cpm_play.specs.Shown.{AreNoted, HasGrown, IsHeld, IsShort, StandsFor, is_found};
 
 use cpm_script::Cue;
 use memchr::memmem;
@@ -55,6 +55,7 @@ impl<'a> Shown<'a> {
     /// Nothing was shown, and the script goes on with these cues.
     pub(crate) fn new(alloc: Global, cues: &'a [Cue]) -> Self
         ensures nothing { StandsFor result [] }
+        ensures short { IsShort result }
         ensures cues { result.cues.now ≡ cues.now }
     {
         Shown {
@@ -68,6 +69,7 @@ impl<'a> Shown<'a> {
     /// The same after a key.
     pub(crate) fn restart(&mut self, cues: &'a [Cue])
         ensures nothing { StandsFor self.new [] }
+        ensures short { IsShort self.new }
         ensures cues { self.new.cues.now ≡ cues.now }
     {
         self.cues = cues;
@@ -78,7 +80,8 @@ impl<'a> Shown<'a> {
 
     /// More is shown; says whether there was memory for it.
     pub(crate) fn add(&mut self, bytes: &[u8]) -> bool
-        ensures { result ≡ true → HasGrown self.old self.new bytes.now }
+        ensures grown { result ≡ true → HasGrown self.old self.new bytes.now }
+        ensures short { result ≡ true → IsShort self.old → IsShort self.new }
     {
         if self.tail.extend_from_slice(bytes).is_err() {
             return false;
@@ -88,7 +91,8 @@ impl<'a> Shown<'a> {
 
     /// Drops all but the end in which a text may have begun; says whether there was memory for the texts that were found.
     fn cut(&mut self) -> bool
-        ensures { result ≡ true → HasGrown self.old self.new [] }
+        ensures grown { result ≡ true → HasGrown self.old self.new [] }
+        ensures short { result ≡ true → IsShort self.new }
     {
         let Ok(longest) = note(self.cues, self.tail.as_slice(), &mut self.found) else {
             return false;
