@@ -17,10 +17,13 @@ use Rattle.cpm_machine.proofs.PressLaws.{alone-pressed}
 use Rattle.cpm_play.specs.Cued.{AreAscii, Comes, HasIdled, HasMissed, HasNoWait, HasPressed, HasShown, IsCued, IsCuedFrom, IsCueMet, key_count, last_count, looks_back, runs_at, screen_at, waits_at}
 use Rattle.cpm_play.specs.Live.{IsGoing}
 use Rattle.cpm_play.specs.Playing.{presses_of, IsFresh}
+use Rattle.cpm_play.specs.Shown.{HasGrown, IsAwaited, IsHeld, StandsFor}
+use Rattle.cpm_play.specs.declared.shown.Shown.{Shown}
 use Rattle.cpm_play.proofs.AloneLemmas.{after-ended, after-pending, presses-more}
 use Rattle.cpm_play.proofs.CuedLemmas.{going-run, going-runs, going-waits, idle-busy, idle-going, idle-none, idle-shows, idle-waits, last-more}
 use Rattle.cpm_play.proofs.GoingLemmas.{going-key, going-start}
 use Rattle.cpm_play.proofs.RunLemmas.{bare, ended-waits}
+use Rattle.cpm_play.proofs.ShownLemmas.{held-shown, shown-held}
 
 -- ---- small facts
 
@@ -54,29 +57,33 @@ none-empty text e = nil_from_length text (by_test (length text == 0) refl e)
 
 -- ---- how a script is followed
 
+-- what is kept is kept for the texts of these cues too
+abbrev pub Awaits : Shown → List Cue → Type 0
+Awaits shown cues = (text : List ℕ) → IsAwaited text cues → IsAwaited text shown.cues.now
+
 -- The session goes, its keys are those of the cues so far, and those of the other cues make them the script's.
 pub record IsFollowing (system : Disk) (start : MachineState) (steps waits_from most : ℕ) (cues : List Cue) (now : MachineState) (before written unrecorded record_now : Option (List ℕ))
-    (keys : List Key) (done : ℕ) (rest : List Cue) (shown : List ℕ) : Type 0 where
+    (keys : List Key) (done : ℕ) (rest : List Cue) (shown : Shown) : Type 0 where
   pub going : IsGoing system steps most start now before written unrecorded record_now keys done
   pub mark : ℕ
   pub marked : mark ≤ length (screen_at system start keys done)
   pub cued : (ks : List Key) → IsCuedFrom system start steps waits_from keys done mark rest ks → IsCued system start steps waits_from cues ks
-  pub kept : looks_back rest ≡ true → shown ≡ drop mark (screen_at system start keys done)
+  pub kept : looks_back rest ≡ true → StandsFor shown (drop mark (screen_at system start keys done)) × Awaits shown rest
   pub busy : HasNoWait system start keys (max waits_from (last_count 0 keys)) done
   pub ascii : AreAscii rest
   pub room : length keys + key_count rest ≤ most
   pub pending : length now.session.console.keys ≤ length keys
 
-pub follow-start : (system : Disk) (start : MachineState) (steps waits_from : ℕ) (cues : List Cue) (written record_now : Option (List ℕ)) (keys : List Key) (shown : List ℕ) → IsFresh start → AreAscii cues → keys ≡ [] → shown ≡ [] →
+pub follow-start : (system : Disk) (start : MachineState) (steps waits_from : ℕ) (cues : List Cue) (written record_now : Option (List ℕ)) (keys : List Key) (shown : Shown) → IsFresh start → AreAscii cues → keys ≡ [] → StandsFor shown [] → shown.cues.now ≡ cues →
     IsFollowing system start steps waits_from (key_count cues) cues start written written record_now record_now keys 0 cues shown
-follow-start system start steps waits_from cues written record_now keys shown fresh ascii none empty =
+follow-start system start steps waits_from cues written record_now keys shown fresh ascii none nothing same =
     let P : List Key → Type 0 = λ ks. IsFollowing system start steps waits_from (key_count cues) cues start written written record_now record_now ks 0 cues shown in
     subst P (sym none) (record {
       going = going-start system steps (key_count cues) start written record_now fresh;
       mark = 0;
       marked = omega arith;
       cued = λ ks is. is;
-      kept = λ looks. empty ∙ sym fresh.screen;
+      kept = λ looks. (subst (StandsFor shown) (sym fresh.screen) nothing, λ text awaited. subst (IsAwaited text) (sym same) awaited);
       busy = λ i low high. absurd (omega arith);
       ascii = ascii;
       room = omega arith;
@@ -98,7 +105,7 @@ pub record IsKeyCue (system : Disk) (start : MachineState) (steps waits_from mos
       ⊎ ((Comes system start steps keys key.count → ⊥) × (ks ≡ keys)) → IsCued system start steps waits_from cues ks
 
 module _ {system : Disk} {start : MachineState} {steps waits_from most : ℕ} {cues : List Cue} {now : MachineState} {before written unrecorded record_now : Option (List ℕ)}
-    {keys : List Key} {done : ℕ} {shown : List ℕ} where
+    {keys : List Key} {done : ℕ} {shown : Shown} where
   -- the next cue is this one
   at-cue : (x y : Cue) (rest others : List Cue) → rest ≡ x ∷ others → x ≡ y → IsFollowing system start steps waits_from most cues now before written unrecorded record_now keys done rest shown →
       IsFollowing system start steps waits_from most cues now before written unrecorded record_now keys done (y ∷ others) shown
@@ -138,10 +145,10 @@ module _ {system : Disk} {start : MachineState} {steps waits_from most : ℕ} {c
         grind (arith, nat_tests)
 
     -- a key that comes
-    pub follow-pressed : (next : MachineState) (written_then record_then : Option (List ℕ)) (more : List Key) (count : ℕ) (left : List ℕ) → key.count < steps → steps < 2 ^ 64 → count ≡ key.count →
-        HasPressed system key (key.count - done) now next written written_then record_now record_then → more ≡ keys ++ key ∷ [] → left ≡ [] →
+    pub follow-pressed : (next : MachineState) (written_then record_then : Option (List ℕ)) (more : List Key) (count : ℕ) (left : Shown) → key.count < steps → steps < 2 ^ 64 → count ≡ key.count →
+        HasPressed system key (key.count - done) now next written written_then record_now record_then → more ≡ keys ++ key ∷ [] → StandsFor left [] → left.cues.now ≡ others →
         IsFollowing system start steps waits_from most cues next before written_then unrecorded record_then more count others left
-    follow-pressed next written_then record_then more count left within fits at pressed is empty =
+    follow-pressed next written_then record_then more count left within fits at pressed is nothing awaits =
         let low = cue.later in
         let k = key.count - done in
         let there : done + k ≡ key.count = omega arith in
@@ -163,7 +170,7 @@ module _ {system : Disk} {start : MachineState} {steps waits_from most : ℕ} {c
           mark = mark;
           marked = omega arith;
           cued = λ ks h. cue.cued ks (inl (runs, subst (λ gs. IsCuedFrom system start steps waits_from gs key.count mark others ks) is h));
-          kept = λ looks. empty ∙ sym (drop_all mark (screen_at system start more key.count) (omega arith));
+          kept = λ looks. (subst (StandsFor left) (sym (drop_all mark (screen_at system start more key.count) (omega arith))) nothing, λ text awaited. subst (IsAwaited text) (sym awaits) awaited);
           busy = λ i from until. let last = ap (last_count 0) is ∙ last-more 0 keys key in absurd (omega arith);
           ascii = cue.others_ascii;
           room = omega arith;
@@ -218,9 +225,9 @@ module _ {system : Disk} {start : MachineState} {steps waits_from most : ℕ} {c
 
   -- steps up to a wait that counts, whose text was kept if it is looked for
   module _ {text : Vec ℕ Global} {others : List Cue} (following : IsFollowing system start steps waits_from most cues now before written unrecorded record_now keys done (Wait text ∷ others) shown)
-      {done_now : ℕ} {next : MachineState} {written_then : Option (List ℕ)} (left : List ℕ) (within_steps : done_now ≤ steps)
+      {done_now : ℕ} {next : MachineState} {written_then : Option (List ℕ)} (left : Shown) (within_steps : done_now ≤ steps)
       (idled : HasIdled system steps waits_from done done_now now next written written_then)
-      (kept : looks_back (Wait text ∷ others) ≡ true → left ≡ shown ++ (after system (done_now - done) now).session.console.screen) where
+      (kept : looks_back (Wait text ∷ others) ≡ true → HasGrown shown left (after system (done_now - done) now).session.console.screen) where
     pub wait-going : IsGoing system steps most start next before written_then unrecorded record_now keys done_now
     wait-going = idle-going following.going idled keys refl within_steps
 
@@ -236,19 +243,23 @@ module _ {system : Disk} {start : MachineState} {steps waits_from most : ℕ} {c
     grows : screen_at system start keys done_now ≡ screen_at system start keys done ++ (after system (done_now - done) now).session.console.screen
     grows = idle-shows following.going idled
 
-    seen : looks_back (Wait text ∷ others) ≡ true → left ≡ drop following.mark (screen_at system start keys done_now)
+    seen : looks_back (Wait text ∷ others) ≡ true → StandsFor left (drop following.mark (screen_at system start keys done_now))
     seen looks =
-        kept looks ∙ ap (λ xs. xs ++ (after system (done_now - done) now).session.console.screen) (following.kept looks)
-        ∙ sym (drop-append-le following.mark (screen_at system start keys done) (after system (done_now - done) now).session.console.screen following.marked)
-        ∙ ap (drop following.mark) (sym grows)
+        subst (StandsFor left)
+        (sym (drop-append-le following.mark (screen_at system start keys done) (after system (done_now - done) now).session.console.screen following.marked)
+        ∙ ap (drop following.mark) (sym grows))
+        ((kept looks).shown (drop following.mark (screen_at system start keys done)) (following.kept looks).0)
 
-    shown-there : (b : Bool) → looks_back (Wait text ∷ others) ≡ b → HasShown text.items left → HasShown text.items (drop following.mark (screen_at system start keys done_now))
-    shown-there true looks found = subst (λ xs. HasShown text.items xs) (seen looks) found
+    awaits : looks_back (Wait text ∷ others) ≡ true → Awaits left (Wait text ∷ others)
+    awaits looks wanted awaited = subst (IsAwaited wanted) (sym (kept looks).cues) ((following.kept looks).1 wanted awaited)
+
+    shown-there : (b : Bool) → looks_back (Wait text ∷ others) ≡ b → IsHeld left text.items → HasShown text.items (drop following.mark (screen_at system start keys done_now))
+    shown-there true looks found = held-shown (seen looks) text.items found
     shown-there false looks found = empty-shown text.items (drop following.mark (screen_at system start keys done_now)) (none-empty text.items (or-left (not (length text.items == 0)) (looks_back others) looks))
 
-    shown-here : (b : Bool) → looks_back (Wait text ∷ others) ≡ b → HasShown text.items (drop following.mark (screen_at system start keys done_now)) → HasShown text.items left
-    shown-here true looks found = subst (λ xs. HasShown text.items xs) (sym (seen looks)) found
-    shown-here false looks found = empty-shown text.items left (none-empty text.items (or-left (not (length text.items == 0)) (looks_back others) looks))
+    shown-here : (b : Bool) → looks_back (Wait text ∷ others) ≡ b → HasShown text.items (drop following.mark (screen_at system start keys done_now)) → IsHeld left text.items
+    shown-here true looks found = shown-held (seen looks) text.items (awaits looks text.items (inl refl)) found
+    shown-here false looks found = inl (empty-shown text.items left.tail.items (none-empty text.items (or-left (not (length text.items == 0)) (looks_back others) looks)))
 
     -- a wait within the steps counts
     counts : done_now < steps → (look_of next).waiting ≡ true → waits_from ≤ done_now
@@ -256,7 +267,7 @@ module _ {system : Disk} {start : MachineState} {steps waits_from most : ℕ} {c
         (λ halts. ⊎_elim (λ ended. absurd (true≢false (sym waits ∙ ended-waits next ended))) (λ counted. counted.0) halts) idled.why
 
     -- where it waits, and has shown the text
-    pub follow-met : done_now < steps → (look_of next).waiting ≡ true → HasShown text.items left →
+    pub follow-met : done_now < steps → (look_of next).waiting ≡ true → IsHeld left text.items →
         IsFollowing system start steps waits_from most cues next before written_then unrecorded record_now keys done_now others left
     follow-met within waits found = record {
       going = wait-going;
@@ -275,7 +286,9 @@ module _ {system : Disk} {start : MachineState} {steps waits_from most : ℕ} {c
         },
         h,
       ));
-      kept = λ looks. seen (or-right (not (length text.items == 0)) (looks_back others) looks);
+      kept = λ looks.
+          let back = or-right (not (length text.items == 0)) (looks_back others) looks in
+          (seen back, λ wanted awaited. awaits back wanted (inr awaited));
       busy = wait-busy;
       ascii = following.ascii;
       room = following.room;
@@ -287,7 +300,7 @@ module _ {system : Disk} {start : MachineState} {steps waits_from most : ℕ} {c
     }
 
     -- and where not, it never does so within the steps
-    never-met : (steps ≤ done_now) ⊎ (((look_of next).waiting ≡ false) ⊎ (HasShown text.items left → ⊥)) → (at : ℕ) → IsCueMet system start steps waits_from keys done following.mark text.items at → ⊥
+    never-met : (steps ≤ done_now) ⊎ (((look_of next).waiting ≡ false) ⊎ (IsHeld left text.items → ⊥)) → (at : ℕ) → IsCueMet system start steps waits_from keys done following.mark text.items at → ⊥
     never-met why at met =
         let low = met.next.later in
         let high = met.within in
@@ -311,7 +324,7 @@ module _ {system : Disk} {start : MachineState} {steps waits_from most : ℕ} {c
             true≢false (sym met.next.waits ∙ quiet)
 
         waits-never : (at : ℕ) → done_now ≤ at → IsCueMet system start steps waits_from keys done following.mark text.items at →
-            ((look_of next).waiting ≡ false) ⊎ (HasShown text.items left → ⊥) → waits_from ≤ done_now → (look_of next).waiting ≡ true → ⊥
+            ((look_of next).waiting ≡ false) ⊎ (IsHeld left text.items → ⊥) → waits_from ≤ done_now → (look_of next).waiting ≡ true → ⊥
         waits-never at late met other counted waits =
             let low = idled.low in
             let here : at ≡ done_now = ⊎_elim (λ (past : done_now < at). absurd (true≢false (sym (waits-there ∙ waits) ∙ met.next.first done_now (omega arith) past))) (λ (upto : at ≤ done_now). omega arith) (cases_lt done_now at) in
@@ -319,27 +332,21 @@ module _ {system : Disk} {start : MachineState} {steps waits_from most : ℕ} {c
             let found = shown-here (looks_back (Wait text ∷ others)) refl (subst P here met.shown) in
             ⊎_elim (λ still. true≢false (sym waits ∙ still)) (λ lacks. lacks found) other
 
-    -- the same of the slices in which it is looked for
-    module _ (needle hay : List ℕ) (is_text : needle ≡ text.items) (is_left : hay ≡ left) where
-      met-slices : HasShown needle hay → HasShown text.items left
-      met-slices found = subst (λ xs. HasShown xs left) is_text (subst (λ xs. HasShown needle xs) is_left found)
-
-      unmet-slices : (HasShown needle hay → ⊥) → HasShown text.items left → ⊥
-      unmet-slices lacks found = lacks (subst (λ xs. HasShown needle xs) (sym is_left) (subst (λ xs. HasShown xs left) (sym is_text) found))
-
-      pub follow-found : done_now < steps → ((look_of next).waiting ≡ true) × HasShown needle hay →
+    -- the same of the slice that is looked for
+    module _ (needle : List ℕ) (is_text : needle ≡ text.items) where
+      pub follow-found : done_now < steps → ((look_of next).waiting ≡ true) × IsHeld left needle →
           IsFollowing system start steps waits_from most cues next before written_then unrecorded record_now keys (done_now) others left
-      follow-found within met = follow-met within met.0 (met-slices met.1)
+      follow-found within met = follow-met within met.0 (subst (IsHeld left) is_text met.1)
 
-      pub unfound-cued : ((look_of next).waiting ≡ false) ⊎ (HasShown needle hay → ⊥) → IsCued system start steps waits_from cues keys
-      unfound-cued why = following.cued keys (inr (never-met (inr (⊎_elim (λ still. inl still) (λ lacks. inr (unmet-slices lacks)) why)), refl))
+      pub unfound-cued : ((look_of next).waiting ≡ false) ⊎ (IsHeld left needle → ⊥) → IsCued system start steps waits_from cues keys
+      unfound-cued why = following.cued keys (inr (never-met (inr (⊎_elim (λ still. inl still) (λ lacks. inr (λ held. lacks (subst (IsHeld left) (sym is_text) held))) why)), refl))
 
     pub past-cued : steps ≤ done_now → IsCued system start steps waits_from cues keys
     past-cued past = following.cued keys (inr (never-met (inl past), refl))
 
 -- behind the last cue
 pub follow-end : {system : Disk} {start : MachineState} {steps waits_from most : ℕ} {cues : List Cue} {now : MachineState} {before written unrecorded record_now : Option (List ℕ)}
-    {keys : List Key} {done : ℕ} {rest : List Cue} {shown : List ℕ} → rest ≡ [] → IsFollowing system start steps waits_from most cues now before written unrecorded record_now keys done rest shown → IsCued system start steps waits_from cues keys
+    {keys : List Key} {done : ℕ} {rest : List Cue} {shown : Shown} → rest ≡ [] → IsFollowing system start steps waits_from most cues now before written unrecorded record_now keys done rest shown → IsCued system start steps waits_from cues keys
 follow-end {system} {start} {steps} {waits_from} {most} {cues} {now} {before} {written} {unrecorded} {record_now} {keys} {done} {rest} {shown} none following =
     let P : List Cue → Type 0 = λ r. IsCuedFrom system start steps waits_from keys done following.mark r keys in
     following.cued keys (subst P (sym none) refl)

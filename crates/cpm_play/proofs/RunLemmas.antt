@@ -1,9 +1,7 @@
 -- Steps that are executed in turns, whose output is taken after each, and those up to a wait.
-use Rattle.std.proofs.Common.{◌≡◌, ℕ, ◌+◌, ◌-◌, ◌<◌, ◌≤◌, ◌&&◌, nat_le, not, min, Bool, true, false, true≢false, ◌⊎◌, inl, inr, ⊎_elim, Option, Some, None, is_some, List, [], ◌++◌, length, refl, sym, ap, ap₂, ◌∙◌, subst, arith, append-nil}
-use Rattle.std.proofs.lemmas.List.{append_assoc}
+use Rattle.std.proofs.Common.{◌≡◌, ℕ, ◌+◌, ◌-◌, ◌<◌, ◌≤◌, ◌&&◌, nat_le, not, min, Bool, true, false, true≢false, ◌⊎◌, inl, inr, ⊎_elim, Option, List, [], ◌++◌, length, refl, sym, ap, ap₂, ◌∙◌, subst, arith, append-nil}
 use Rattle.std.proofs.lemmas.Bool.{cases_lt}
 use Rattle.std.specs.Io.KnownBytes.{Appends}
-use Rattle.memchr.specs.Find.{FindsNeedle}
 use Rattle.cpm_geom.specs.Disk.{Disk}
 use Rattle.cpm_bdos.specs.Waiting.{is_waiting}
 use Rattle.cpm_console.specs.Terminal.{Terminal, has_room}
@@ -14,13 +12,16 @@ use Rattle.cpm_machine.specs.Step.{after, can_step, is_running}
 use Rattle.cpm_machine.specs.ToWait.{can_work, executed_to_wait}
 use Rattle.cpm_machine.proofs.AloneLaws.{after-behind}
 use Rattle.cpm_machine.proofs.GrantLaws.{after-add, longest-is}
-use Rattle.cpm_play.specs.Cued.{HasIdled, HasExecuted, HasShown, HasStopped, IsBusyFor, IsRunCut, IsOutputTaken, IsUntaken}
+use Rattle.cpm_play.specs.Cued.{HasIdled, HasExecuted, HasStopped, IsBusyFor, IsRunCut, IsOutputTaken, IsUntaken}
 use Rattle.cpm_play.specs.declared.live.LiveError.{LiveError}
 use Rattle.cpm_play.specs.declared.live.LiveError.TheVariants.{Unreadable, Unwritable, Unrecorded, OutOfMemory}
 use Rattle.cpm_play.specs.Pacing.{without_list, without_text}
 use Rattle.cpm_play.specs.Playing.{IsQuiet}
+use Rattle.cpm_play.specs.Shown.{HasGrown}
+use Rattle.cpm_play.specs.declared.shown.Shown.{Shown}
 use Rattle.cpm_play.proofs.AloneLemmas.{after-ended}
 use Rattle.cpm_play.proofs.WaitLemmas.{waits-output}
+use Rattle.cpm_play.proofs.ShownLemmas.{grown-none, grown-on}
 use Rattle.cpm_play.proofs.TextLemmas.{appends_more, appends_none, both_empty, keeps_all}
 
 -- ---- output that is taken
@@ -40,12 +41,6 @@ quiet-taken old now before written taken = record {
   printer = ap (λ (s : MachineState). s.session.console.printer) taken.state;
 }
 
--- ---- a text that is looked for
-
-pub find-none : (shown text : List ℕ) (r : Option ℕ) → FindsNeedle shown text 0 r → is_some r ≡ false → HasShown text shown → ⊥
-find-none shown text None nowhere none found = let fits = found.1.fits in nowhere found.0 (omega arith) (omega arith) found.1
-find-none shown text (Some place) first none found = absurd (let bad : ⊥ = cc in bad)
-
 -- ---- one turn more
 
 pub run-none : (system : Disk) (s : MachineState) (written : Option (List ℕ)) → IsQuiet s → HasExecuted system 0 s s written written
@@ -54,8 +49,8 @@ run-none system s written quiet = record {
   text = subst (λ xs. Appends written written xs) (sym quiet.screen) (appends_none written);
 }
 
-pub kept-none : (s : MachineState) (old : List ℕ) → IsQuiet s → old ≡ old ++ s.session.console.screen
-kept-none s old quiet = sym (append-nil old) ∙ ap (λ xs. old ++ xs) (sym quiet.screen)
+pub kept-none : (s : MachineState) (old : Shown) → IsQuiet s → HasGrown old old s.session.console.screen
+kept-none s old quiet = grown-none old s.session.console.screen quiet.screen
 
 module _ (system : Disk) (k : ℕ) (old mid : MachineState) (before middle : Option (List ℕ)) (run : HasExecuted system k old mid before middle) where
   -- with the output that was taken put back in front the steps go on
@@ -93,11 +88,11 @@ module _ (system : Disk) (k : ℕ) (old mid : MachineState) (before middle : Opt
   run-cut steps j turned next written OutOfMemory fits is cut = (k + j, fits, run-more j turned next written is cut)
 
   -- what is kept grows with what is shown
-  pub kept-more : (j : ℕ) (turned : MachineState) (start kept more : List ℕ) → turned ≡ after system j mid → kept ≡ start ++ (after system k old).session.console.screen → more ≡ kept ++ turned.session.console.screen →
-      more ≡ start ++ (after system (k + j) old).session.console.screen
+  pub kept-more : (j : ℕ) (turned : MachineState) (start kept more : Shown) → turned ≡ after system j mid → HasGrown start kept (after system k old).session.console.screen →
+      HasGrown kept more turned.session.console.screen → HasGrown start more (after system (k + j) old).session.console.screen
   kept-more j turned start kept more turns had is =
-      is ∙ ap (λ (s : MachineState). kept ++ s.session.console.screen) turns ∙ ap (λ xs. xs ++ (after system j mid).session.console.screen) had ∙ append_assoc start (after system k old).session.console.screen (after system j mid).session.console.screen
-      ∙ ap (λ xs. start ++ xs) (sym (ap (λ (s : MachineState). s.session.console.screen) (run-on j)))
+      subst (HasGrown start more) (sym (ap (λ (s : MachineState). s.session.console.screen) (run-on j)))
+      (grown-on had (subst (λ (s : MachineState). HasGrown kept more s.session.console.screen) turns is))
 
 -- ---- waits
 
@@ -260,8 +255,8 @@ module _ (system : Disk) (steps waits_from done pause k j : ℕ) (old mid next :
             (λ ended. inr (inl (ended_then ended))) stopped
 
     -- and what is kept is what both showed
-    pub pause-kept : (start kept more : List ℕ) → kept ≡ start ++ (after system k old).session.console.screen → more ≡ kept ++ (after system j mid).session.console.screen →
-        more ≡ start ++ (after system ((done + k + j) - done) old).session.console.screen
+    pub pause-kept : (start kept more : Shown) → HasGrown start kept (after system k old).session.console.screen → HasGrown kept more (after system j mid).session.console.screen →
+        HasGrown start more (after system ((done + k + j) - done) old).session.console.screen
     pause-kept start kept more had is =
-        let P : ℕ → Type 0 = λ n. more ≡ start ++ (after system n old).session.console.screen in
+        let P : ℕ → Type 0 = λ n. HasGrown start more (after system n old).session.console.screen in
         subst P (sym together) (kept-more system k old mid before middle run j (after system j mid) start kept more refl had is)

@@ -5,6 +5,9 @@ use Rattle.std.specs.Io.KnownBytes.{Appends, Keeps}
 use Rattle.cpm_machine.specs.MachineState.{MachineState}
 use Rattle.cpm_machine.specs.Serve.{taken}
 use Rattle.cpm_play.specs.Playing.{HasText}
+use Rattle.cpm_play.specs.Shown.{HasGrown}
+use Rattle.cpm_play.specs.declared.shown.Shown.{Shown}
+use Rattle.cpm_play.proofs.ShownLemmas.{grown-none, grown-on}
 
 -- the state with other bytes on its console, or on its list device
 abbrev pub with_text : List ℕ → MachineState → MachineState
@@ -54,23 +57,23 @@ moved_more start now next before middle grown kept room chunk moved is state wri
     }
 
 -- some of them, which were kept too if there was memory for them
-pub record IsMovedKept (start now : MachineState) (before after : Option (List ℕ)) (old held : List ℕ) (whole : Bool) : Type 0 where
+pub record IsMovedKept (start now : MachineState) (before after : Option (List ℕ)) (old held : Shown) (whole : Bool) : Type 0 where
   pub moved : IsMoved start now before after
-  pub kept : whole ≡ true → held ≡ old ++ moved.text
+  pub kept : whole ≡ true → HasGrown old held moved.text
 
-pub kept_none : (start : MachineState) (written : Option (List ℕ)) (old : List ℕ) (whole : Bool) → IsMovedKept start start written written old old whole
+pub kept_none : (start : MachineState) (written : Option (List ℕ)) (old : Shown) (whole : Bool) → IsMovedKept start start written written old old whole
 kept_none start written old whole = record {
   moved = record { text = []; written = appends_none written; whole = refl; state = refl };
-  kept = λ yes. sym (append-nil old);
+  kept = λ yes. grown-none old [] refl;
 }
 
-pub kept_more : (start now next : MachineState) (before middle grown held : Option (List ℕ)) (room : ℕ) (chunk old kept more : List ℕ) (had whole : Bool) → IsMovedKept start now before middle old kept had
+pub kept_more : (start now next : MachineState) (before middle grown held : Option (List ℕ)) (room : ℕ) (chunk : List ℕ) (old kept more : Shown) (had whole : Bool) → IsMovedKept start now before middle old kept had
     → chunk ≡ take (min room (length now.session.console.screen)) now.session.console.screen → next ≡ taken room now → Appends middle grown chunk → Keeps grown held
-    → (whole ≡ true → had ≡ true) → (whole ≡ true → more ≡ kept ++ chunk) → IsMovedKept start next before held old more whole
+    → (whole ≡ true → had ≡ true) → (whole ≡ true → HasGrown kept more chunk) → IsMovedKept start next before held old more whole
 unfolding moved_more
 kept_more start now next before middle grown held room chunk old kept more had whole so_far is state writes keeps all keeps_it = record {
   moved = moved_more start now next before middle grown held room chunk so_far.moved is state writes keeps;
-  kept = λ yes. keeps_it yes ∙ ap (λ v. v ++ chunk) (so_far.kept (all yes)) ∙ append_assoc old so_far.moved.text chunk;
+  kept = λ yes. grown-on (so_far.kept (all yes)) (keeps_it yes);
 }
 
 -- what lies in the buffer after bytes were taken into it

@@ -6,3 +6,4 @@ pub mod Players
 pub mod Typing
 pub mod Live
 pub mod Cued
+pub mod Shown

@@ -5,20 +5,21 @@ ghost use Rattle.std.specs.Io.KnownBytes.{Appends};
 ghost use Rattle.cpm_script.specs.Recording.{recorded};
 ghost use Rattle.cpm_machine.specs.Serve.{look_of, takes_key};
 ghost use Rattle.cpm_machine.specs.Step.{after, is_running};
-ghost use Rattle.cpm_play.specs.Cued.{AreAscii, HasEndedCued, HasIdled, HasMissed, HasNoWait, HasPressed, HasExecuted, HasShown, HasStopped};
+ghost use Rattle.cpm_play.specs.Cued.{AreAscii, HasEndedCued, HasIdled, HasMissed, HasNoWait, HasPressed, HasExecuted, HasStopped};
 ghost use Rattle.cpm_play.specs.Cued.{IsCued, IsCutOff, IsPressCut, IsRunCut, IsOutputTaken, IsUntaken, key_count, last_count, looks_back, waits_at};
 ghost use Rattle.cpm_play.specs.Live.{AreGiven, IsGoing};
 ghost use Rattle.cpm_play.specs.Pacing.{without_text};
 ghost use Rattle.cpm_play.specs.Playing.{EndsAs, HasText, IsFresh, IsQuiet, alone_by};
+ghost use Rattle.cpm_play.specs.Shown.{HasGrown, IsHeld};
 ghost use Rattle.cpm_script.specs.Script.{most_keys};
 
 use crate::live::{LiveError, LivePlay, show};
 use crate::machine::{CHUNK, QUANTUM, drop_list, quantum_of};
 use crate::progress::{Watcher, progress_of_one};
+use crate::shown::Shown;
 use cpm_geom::Image;
 use cpm_machine::{End, Machine};
 use cpm_script::{Cue, Key};
-use memchr::memmem;
 use std::alloc::Global;
 use std::io;
 use std::io::Write;
@@ -51,19 +52,23 @@ fn looks_back(cues: &[Cue]) -> bool
     false
 }
 
-/// Keeps more bytes; says whether all were kept, where those before were.
-fn keep(kept: &mut Vec<u8>, whole: bool, bytes: &[u8]) -> bool
+/// Keeps more bytes; says whether there was memory for all, where there was for those before.
+fn keep(shown: &mut Shown<'_>, whole: bool, bytes: &[u8]) -> bool
     ensures whole { result ≡ true → whole ≡ true }
-    ensures kept { result ≡ true → kept.new.items ≡ kept.old.items ++ bytes.now }
+    ensures kept { result ≡ true → HasGrown shown.old shown.new bytes.now }
 {
-    kept.extend_from_slice(bytes).is_ok() && whole
+    shown.add(bytes) && whole
 }
 
 /// Moves all console bytes to the writer, and keeps them; says whether there was memory for all.
-fn move_kept<W: Write>(machine: &mut Machine, kept: &mut Vec<u8>, out: &mut W) -> io::Result<bool>
+fn move_kept<W: Write>(
+    machine: &mut Machine,
+    shown: &mut Shown<'_>,
+    out: &mut W,
+) -> io::Result<bool>
     ensures state { OnOk result (machine.new ≡ without_text machine.old) }
     ensures text { OnOk result (Appends (W.contents out.old) (W.contents out.new) machine.old.session.console.screen) }
-    ensures kept { IfOk result (λ whole. whole ≡ true → kept.new.items ≡ kept.old.items ++ machine.old.session.console.screen) }
+    ensures kept { IfOk result (λ whole. whole ≡ true → HasGrown shown.old shown.new machine.old.session.console.screen) }
     ensures refused { OnErr result (HasText machine.old) }
 {
     let mut chunk = [0u8; CHUNK];
@@ -75,7 +80,7 @@ fn move_kept<W: Write>(machine: &mut Machine, kept: &mut Vec<u8>, out: &mut W) -
         }
         out.write_all(&chunk[..count])?;
         out.flush()?;
-        whole = keep(kept, whole, &chunk[..count]);
+        whole = keep(shown, whole, &chunk[..count]);
     }
 }
 
@@ -83,17 +88,17 @@ fn move_kept<W: Write>(machine: &mut Machine, kept: &mut Vec<u8>, out: &mut W) -
 fn show_kept<W: Write>(
     machine: &mut Machine,
     keeps: bool,
-    kept: &mut Vec<u8>,
+    shown: &mut Shown<'_>,
     out: &mut W,
 ) -> Result<(), LiveError>
     ensures taken { OnOk result (IsOutputTaken machine.old machine.new (W.contents out.old) (W.contents out.new)) }
-    ensures kept { OnOk result (keeps ≡ true → kept.new.items ≡ kept.old.items ++ machine.old.session.console.screen) }
+    ensures kept { OnOk result (keeps ≡ true → HasGrown shown.old shown.new machine.old.session.console.screen) }
     ensures refused { IfErr result (IsUntaken machine.old machine.new (W.contents out.old) (W.contents out.new)) }
 {
     if !keeps {
         return show(machine, out);
     }
-    match move_kept(machine, kept, out) {
+    match move_kept(machine, shown, out) {
         Err(error) => Err(LiveError::Unwritable(error)),
         Ok(whole) => {
             drop_list(machine);
@@ -114,7 +119,7 @@ fn run<W: Write, T: Watcher>(
     steps: u64,
     to_wait: bool,
     keeps: bool,
-    kept: &mut Vec<u8>,
+    shown: &mut Shown<'_>,
     out: &mut W,
     until: u64,
     watcher: &mut T,
@@ -123,7 +128,7 @@ fn run<W: Write, T: Watcher>(
     ensures within { IfOk result (λ k. k ≤ steps) }
     ensures run { IfOk result (λ k. HasExecuted system.now k machine.old machine.new (W.contents out.old) (W.contents out.new)) }
     ensures stopped { IfOk result (λ k. HasStopped to_wait system.now steps k machine.old machine.new) }
-    ensures kept { IfOk result (λ k. keeps ≡ true → kept.new.items ≡ kept.old.items ++ (after system.now k machine.old).session.console.screen) }
+    ensures kept { IfOk result (λ k. keeps ≡ true → HasGrown shown.old shown.new (after system.now k machine.old).session.console.screen) }
     ensures refused { IfErr result (IsRunCut system.now steps machine.old machine.new (W.contents out.old) (W.contents out.new)) }
 {
     let mut executed = 0;
@@ -140,7 +145,7 @@ fn run<W: Write, T: Watcher>(
             return Ok(executed);
         }
         executed += granted;
-        show_kept(machine, keeps, kept, out)?;
+        show_kept(machine, keeps, shown, out)?;
         watcher.see(progress_of_one(machine.look().count, until));
     }
     Ok(executed)
@@ -157,22 +162,22 @@ fn runs(machine: &Machine) -> bool
 }
 
 /// Whether the machine waits for a key and this text was shown.
-fn has_met(machine: &Machine, text: &[u8], shown: &[u8]) -> bool
-    ensures met { result ≡ true → ((look_of machine.now).waiting ≡ true) × HasShown text.now shown.now }
-    ensures unmet { result ≡ false → ((look_of machine.now).waiting ≡ false) ⊎ (HasShown text.now shown.now → ⊥) }
+fn has_met(machine: &Machine, text: &[u8], shown: &Shown<'_>) -> bool
+    ensures met { result ≡ true → ((look_of machine.now).waiting ≡ true) × IsHeld shown.now text.now }
+    ensures unmet { result ≡ false → ((look_of machine.now).waiting ≡ false) ⊎ (IsHeld shown.now text.now → ⊥) }
 {
-    machine.look().waiting && memmem::find(shown, text).is_some()
+    machine.look().waiting && shown.has(text)
 }
 
 impl LivePlay {
-    /// Presses a key at its count, if the machine then runs and that is within the steps; says whether it is. What was shown before is then forgotten.
+    /// Presses a key at its count, if the machine then runs and that is within the steps; says whether it is.
     fn press<W: Write, S: Write, T: Watcher>(
         &mut self,
         system: &Image,
         machine: &mut Machine,
         key: Key,
         steps: u64,
-        shown: &mut Vec<u8>,
+        shown: &mut Shown<'_>,
         out: &mut W,
         record: &mut S,
         watcher: &mut T,
@@ -185,7 +190,6 @@ impl LivePlay {
             (W.contents out.old) (W.contents out.new) (S.contents record.old) (S.contents record.new)) }
         ensures count { IfOk result (λ comes. comes ≡ true → (key.count < steps) × (self.new.steps ≡ key.count)) }
         ensures keys { IfOk result (λ comes. comes ≡ true → self.new.keys.items ≡ self.old.keys.items ++ key ∷ []) }
-        ensures forgotten { IfOk result (λ comes. comes ≡ true → shown.new.items ≡ []) }
         ensures missed { IfOk result (λ comes. comes ≡ false → HasMissed system.now key steps self.old.steps self.new.steps machine.old machine.new
             (W.contents out.old) (W.contents out.new)) }
         ensures still { IfOk result (λ comes. comes ≡ false → (self.new.keys.items ≡ self.old.keys.items) × (S.contents record.new ≡ S.contents record.old)) }
@@ -203,7 +207,6 @@ impl LivePlay {
             return Ok(false);
         }
         self.give(machine, key.byte, record)?;
-        shown.clear();
         Ok(true)
     }
 
@@ -215,7 +218,7 @@ impl LivePlay {
         steps: u64,
         waits_from: u64,
         keeps: bool,
-        shown: &mut Vec<u8>,
+        shown: &mut Shown<'_>,
         out: &mut W,
         watcher: &mut T,
     ) -> Result<(), LiveError>
@@ -226,7 +229,7 @@ impl LivePlay {
         ensures within { OnOk result (self.new.steps ≤ steps) }
         ensures still { self.new.keys.items ≡ self.old.keys.items }
         ensures kept { OnOk result (keeps ≡ true
-            → shown.new.items ≡ shown.old.items ++ (after system.now (self.new.steps - self.old.steps) machine.old).session.console.screen) }
+            → HasGrown shown.old shown.new (after system.now (self.new.steps - self.old.steps) machine.old).session.console.screen) }
         ensures refused { IfErr result (IsRunCut system.now (steps - self.old.steps) machine.old machine.new (W.contents out.old) (W.contents out.new)) }
     {
         let pause = waits_from.min(steps).saturating_sub(self.steps);
@@ -267,7 +270,7 @@ fn follow<W: Write, S: Write, T: Watcher>(
         keys: Vec::new(alloc),
         steps: 0,
     };
-    let mut shown = Vec::new(alloc);
+    let mut shown = Shown::new(alloc, cued.cues);
     let mut rest = cued.cues;
     while let Some((cue, after)) = rest.split_first() {
         let keeps = looks_back(rest);
@@ -286,7 +289,7 @@ fn follow<W: Write, S: Write, T: Watcher>(
                     out,
                     watcher,
                 )?;
-                if live.steps < steps && has_met(machine, text.as_slice(), shown.as_slice()) {
+                if live.steps < steps && has_met(machine, text.as_slice(), &shown) {
                     continue;
                 }
                 return Ok(live);
@@ -298,6 +301,7 @@ fn follow<W: Write, S: Write, T: Watcher>(
         )? {
             return Ok(live);
         }
+        shown.restart(rest);
     }
     Ok(live)
 }
@@ -346,7 +350,7 @@ pub fn play_cues<W: Write, S: Write, T: Watcher>(
         steps,
         waits_from,
         false,
-        &mut Vec::new(alloc),
+        &mut Shown::new(alloc, &[]),
         out,
         watcher,
     )?;

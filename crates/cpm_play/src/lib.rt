@@ -12,6 +12,7 @@ mod player;
 mod progress;
 mod rounds;
 mod scripted_slot;
+mod shown;
 mod turn;
 mod typing;
 mod watch;

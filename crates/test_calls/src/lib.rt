@@ -13,3 +13,5 @@ mod runs;
 mod same;
 #[cfg(test)]
 mod texts;
+#[cfg(test)]
+mod waits;

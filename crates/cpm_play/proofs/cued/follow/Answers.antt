@@ -10,8 +10,8 @@ use Rattle.cpm_play.proofs.cued.follow.Goals as goal
 
 pub loop-cue-init : goal.loop-cue-init
 loop-cue-init g c =
-    follow-start c.args.system.now c.args.machine.now c.args.steps c.args.cued.waits_from c.args.cued.cues.now (g.W.Write.contents c.args.out.now) (g.S.Write.contents c.args.record.now) c.new.result.items c.new-shown.result.items
-    c.requires.fresh c.requires.ascii c.new.ensures.items c.new-shown.ensures.items
+    follow-start c.args.system.now c.args.machine.now c.args.steps c.args.cued.waits_from c.args.cued.cues.now (g.W.Write.contents c.args.out.now) (g.S.Write.contents c.args.record.now) c.new.result.items c.new-shown.result
+    c.requires.fresh c.requires.ascii c.new.ensures.items c.new-shown.ensures.nothing c.new-shown.ensures.cues
 
 pub press-requires-clause-ascii : goal.press-requires-clause-ascii
 press-requires-clause-ascii g c =
@@ -52,8 +52,8 @@ loop-cue-preserved g c =
       | in-Press w ↦ inr (w.in-Press.is ∙ sym (ap (λ p. Press p.1) w.count-is), ap (λ p. p.0) w.count-is)
     ]) c.loop-cue.invariant in
     let came = c.in_ok-press.ensures.count c.if-not-branch.false in
-    follow-pressed c.loop-cue.invariant cue c.press.new.machine (g.W.Write.contents c.press.new.out) (g.S.Write.contents c.press.new.record) c.press.new.self.keys.items c.press.new.self.steps c.press.new.shown.items
-    came.0 (let most = c.ranges.steps.fits in omega arith) came.1 (c.in_ok-press.ensures.pressed c.if-not-branch.false) (c.in_ok-press.ensures.keys c.if-not-branch.false) (c.in_ok-press.ensures.forgotten c.if-not-branch.false)
+    follow-pressed c.loop-cue.invariant cue c.press.new.machine (g.W.Write.contents c.press.new.out) (g.S.Write.contents c.press.new.record) c.press.new.self.keys.items c.press.new.self.steps c.restart.new.self
+    came.0 (let most = c.ranges.steps.fits in omega arith) came.1 (c.in_ok-press.ensures.pressed c.if-not-branch.false) (c.in_ok-press.ensures.keys c.if-not-branch.false) c.restart.ensures.nothing c.restart.ensures.cues
 
 pub returns-then-not-branch-clause-going : goal.returns-then-not-branch-clause-going
 returns-then-not-branch-clause-going g c =
@@ -104,14 +104,14 @@ pub loop-cue-preserved-then-has_met : goal.loop-cue-preserved-then-has_met
 loop-cue-preserved-then-has_met g c =
     let next : c.loop-cue.rest.now ≡ Wait c.in-Wait.text ∷ c.in-Some.after.now = c.in-Some.ensures.cases.0 ∙ ap (λ x. x ∷ c.in-Some.after.now) c.in-Wait.is in
     let following = at-wait c.in-Some.cue.now c.in-Wait.text c.loop-cue.rest.now c.in-Some.after.now c.idle.new.self.keys.items c.in-Some.ensures.cases.0 c.in-Wait.is c.idle.ensures.still c.loop-cue.invariant in
-    follow-found following c.idle.new.shown.items c.in_ok-idle-in-Wait.ensures.within c.in_ok-idle-in-Wait.ensures.idled (λ looks. c.in_ok-idle-in-Wait.ensures.kept (c.looks_back-keeps.ensures ∙ ap looks_back next ∙ looks))
-    c.as_slice.result.now c.as_slice-then-live-steps.result.now c.as_slice.ensures.value c.as_slice-then-live-steps.ensures.value c.if-live-steps.true (c.has_met.ensures.met c.if-has_met.true)
+    follow-found following c.idle.new.shown c.in_ok-idle-in-Wait.ensures.within c.in_ok-idle-in-Wait.ensures.idled (λ looks. c.in_ok-idle-in-Wait.ensures.kept (c.looks_back-keeps.ensures ∙ ap looks_back next ∙ looks))
+    c.as_slice.result.now c.as_slice.ensures.value c.if-live-steps.true (c.has_met.ensures.met c.if-has_met.true)
 
 pub returns-in-Wait-clause-going : goal.returns-in-Wait-clause-going
 returns-in-Wait-clause-going g c =
     let next : c.loop-cue.rest.now ≡ Wait c.in-Wait.text ∷ c.in-Some.after.now = c.in-Some.ensures.cases.0 ∙ ap (λ x. x ∷ c.in-Some.after.now) c.in-Wait.is in
     let following = at-wait c.in-Some.cue.now c.in-Wait.text c.loop-cue.rest.now c.in-Some.after.now c.idle.new.self.keys.items c.in-Some.ensures.cases.0 c.in-Wait.is c.idle.ensures.still c.loop-cue.invariant in
-    wait-going following c.idle.new.shown.items c.in_ok-idle-in-Wait.ensures.within c.in_ok-idle-in-Wait.ensures.idled (λ looks. c.in_ok-idle-in-Wait.ensures.kept (c.looks_back-keeps.ensures ∙ ap looks_back next ∙ looks))
+    wait-going following c.idle.new.shown c.in_ok-idle-in-Wait.ensures.within c.in_ok-idle-in-Wait.ensures.idled (λ looks. c.in_ok-idle-in-Wait.ensures.kept (c.looks_back-keeps.ensures ∙ ap looks_back next ∙ looks))
 
 pub returns-in-Wait-clause-keys : goal.returns-in-Wait-clause-keys
 returns-in-Wait-clause-keys g c =
@@ -119,16 +119,16 @@ returns-in-Wait-clause-keys g c =
     let following = at-wait c.in-Some.cue.now c.in-Wait.text c.loop-cue.rest.now c.in-Some.after.now c.idle.new.self.keys.items c.in-Some.ensures.cases.0 c.in-Wait.is c.idle.ensures.still c.loop-cue.invariant in
     elim c.else-live-steps.branch [
       | else-live-steps-via-then-live-steps+else-has_met w ↦
-          unfound-cued following c.idle.new.shown.items c.in_ok-idle-in-Wait.ensures.within c.in_ok-idle-in-Wait.ensures.idled (λ looks. c.in_ok-idle-in-Wait.ensures.kept (c.looks_back-keeps.ensures ∙ ap looks_back next ∙ looks))
-          w.as_slice.result.now w.as_slice-then-live-steps.result.now w.as_slice.ensures.value w.as_slice-then-live-steps.ensures.value (w.has_met.ensures.unmet w.if-has_met.false)
-      | else-live-steps-via-else-live-steps w ↦ past-cued following c.idle.new.shown.items c.in_ok-idle-in-Wait.ensures.within c.in_ok-idle-in-Wait.ensures.idled (λ looks. c.in_ok-idle-in-Wait.ensures.kept (c.looks_back-keeps.ensures ∙ ap looks_back next ∙ looks)) w.if-live-steps.false
+          unfound-cued following c.idle.new.shown c.in_ok-idle-in-Wait.ensures.within c.in_ok-idle-in-Wait.ensures.idled (λ looks. c.in_ok-idle-in-Wait.ensures.kept (c.looks_back-keeps.ensures ∙ ap looks_back next ∙ looks))
+          w.as_slice.result.now w.as_slice.ensures.value (w.has_met.ensures.unmet w.if-has_met.false)
+      | else-live-steps-via-else-live-steps w ↦ past-cued following c.idle.new.shown c.in_ok-idle-in-Wait.ensures.within c.in_ok-idle-in-Wait.ensures.idled (λ looks. c.in_ok-idle-in-Wait.ensures.kept (c.looks_back-keeps.ensures ∙ ap looks_back next ∙ looks)) w.if-live-steps.false
     ]
 
 pub returns-in-Wait-clause-busy : goal.returns-in-Wait-clause-busy
 returns-in-Wait-clause-busy g c =
     let next : c.loop-cue.rest.now ≡ Wait c.in-Wait.text ∷ c.in-Some.after.now = c.in-Some.ensures.cases.0 ∙ ap (λ x. x ∷ c.in-Some.after.now) c.in-Wait.is in
     let following = at-wait c.in-Some.cue.now c.in-Wait.text c.loop-cue.rest.now c.in-Some.after.now c.idle.new.self.keys.items c.in-Some.ensures.cases.0 c.in-Wait.is c.idle.ensures.still c.loop-cue.invariant in
-    inr (wait-busy following c.idle.new.shown.items c.in_ok-idle-in-Wait.ensures.within c.in_ok-idle-in-Wait.ensures.idled (λ looks. c.in_ok-idle-in-Wait.ensures.kept (c.looks_back-keeps.ensures ∙ ap looks_back next ∙ looks)))
+    inr (wait-busy following c.idle.new.shown c.in_ok-idle-in-Wait.ensures.within c.in_ok-idle-in-Wait.ensures.idled (λ looks. c.in_ok-idle-in-Wait.ensures.kept (c.looks_back-keeps.ensures ∙ ap looks_back next ∙ looks)))
 
 pub returns-clause-going : goal.returns-clause-going
 returns-clause-going g c =

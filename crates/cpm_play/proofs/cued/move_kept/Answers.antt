@@ -3,13 +3,13 @@ use Rattle.cpm_play.proofs.TextLemmas.{chunk_taken, kept_more, kept_none, moved_
 use Rattle.cpm_play.proofs.cued.move_kept.Goals as goal
 
 pub loop-chunk-init : goal.loop-chunk-init
-loop-chunk-init g c = kept_none c.args.machine.now (g.W.Write.contents c.args.out.now) c.args.kept.now.items _
+loop-chunk-init g c = kept_none c.args.machine.now (g.W.Write.contents c.args.out.now) c.args.shown.now _
 
 pub loop-chunk-preserved : goal.loop-chunk-preserved
 loop-chunk-preserved g c =
     let l = c.loop-chunk in
     kept_more c.args.machine.now l.machine c.take-count.new.self (g.W.Write.contents c.args.out.now) (g.W.Write.contents l.out)
-    (g.W.Write.contents c.write_all.new.self) (g.W.Write.contents c.flush.new.self) _ _ c.args.kept.now.items l.kept.items c.keep-whole.new.kept.items l.whole c.keep-whole.result l.invariant
+    (g.W.Write.contents c.write_all.new.self) (g.W.Write.contents c.flush.new.self) _ _ c.args.shown.now l.shown c.keep-whole.new.shown l.whole c.keep-whole.result l.invariant
     (chunk_taken l.machine.session.console.screen l.chunk c.take-count.new.out c.take-count.result (length l.chunk) c.take-count.ensures.count c.take-count.ensures.bytes)
     c.take-count.ensures.state c.in_ok-write_all.ensures.bytes c.in_ok-flush.ensures.bytes c.keep-whole.ensures.whole c.keep-whole.ensures.kept
 

@@ -10,7 +10,7 @@ loop-executed-init g c = record {
   run = run-none c.args.system.now c.args.machine.now (g.W.Write.contents c.args.out.now) c.requires;
   quiet = c.requires;
   busy = λ waits i below. absurd (omega arith);
-  kept = λ keeps. kept-none c.args.machine.now c.args.kept.now.items c.requires;
+  kept = λ keeps. kept-none c.args.machine.now c.args.shown.now c.requires;
 }
 
 pub returns-then-granted-eq0-clause-stopped : goal.returns-then-granted-eq0-clause-stopped
@@ -100,7 +100,7 @@ loop-executed-preserved g c =
       busy = λ waits. busy-more c.args.system.now l.executed c.if-to_wait.granted c.args.machine.now l.machine (g.W.Write.contents c.args.out.now) (g.W.Write.contents l.out) l.invariant.run
           (l.invariant.busy waits) (turned.busy waits);
       kept = λ keeps. kept-more c.args.system.now l.executed c.args.machine.now l.machine (g.W.Write.contents c.args.out.now) (g.W.Write.contents l.out) l.invariant.run
-          c.if-to_wait.granted c.if-to_wait.machine c.args.kept.now.items l.kept.items c.show_kept.new.kept.items turned.state (l.invariant.kept keeps) (c.in_ok-show_kept.ensures.kept keeps);
+          c.if-to_wait.granted c.if-to_wait.machine c.args.shown.now l.shown c.show_kept.new.shown turned.state (l.invariant.kept keeps) (c.in_ok-show_kept.ensures.kept keeps);
     }
 
 pub returns-in_err-show_kept-clause-refused : goal.returns-in_err-show_kept-clause-refused

@@ -1,7 +1,8 @@
-use Rattle.std.proofs.Common.{◌≡◌, ◌++◌, ◌-◌, ◌≤◌, true}
+use Rattle.std.proofs.Common.{◌≡◌, ◌-◌, ◌≤◌, true}
 use Rattle.cpm_machine.specs.Step.{after}
 use Rattle.cpm_play.specs.Cued.{HasExecuted, IsBusyFor}
 use Rattle.cpm_play.specs.Playing.{IsQuiet}
+use Rattle.cpm_play.specs.Shown.{HasGrown}
 use Rattle.cpm_play.proofs.cued.run.Given as goal
 
 abbrev pub invariant-loop-executed : goal.invariant-loop-executed
@@ -10,7 +11,7 @@ invariant-loop-executed g l = record {
   run : HasExecuted l.system l.executed l.fn.machine l.machine (g.W.Write.contents l.fn.out) (g.W.Write.contents l.out);
   quiet : IsQuiet l.machine;
   busy : l.to_wait ≡ true → IsBusyFor l.system l.executed l.fn.machine;
-  kept : l.keeps ≡ true → l.kept.items ≡ l.fn.kept.items ++ (after l.system l.executed l.fn.machine).session.console.screen;
+  kept : l.keeps ≡ true → HasGrown l.fn.shown l.shown (after l.system l.executed l.fn.machine).session.console.screen;
 }
 
 abbrev pub decreases-loop-executed : goal.decreases-loop-executed

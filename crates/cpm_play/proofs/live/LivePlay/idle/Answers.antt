@@ -78,4 +78,4 @@ returns-clause-kept g c =
     λ keeps. pause-kept c.args.system.now c.args.steps c.args.waits_from c.args.self.now.steps c.saturating_sub-pause.result c.in_ok-self.field-0 c.in_ok-self-2.field-0 c.args.machine.now c.run.new.machine c.run-2.new.machine (g.W.Write.contents c.args.out.now) (g.W.Write.contents c.run.new.out) (g.W.Write.contents c.run-2.new.out)
     low (omega arith) c.in_ok-self.ensures.within c.in_ok-self.ensures.run
     c.in_ok-self.ensures.stopped c.in_ok-self-2.ensures.within c.in_ok-self-2.ensures.run c.in_ok-self-2.ensures.stopped
-    c.args.shown.now.items c.run.new.kept.items c.run-2.new.kept.items (c.in_ok-self.ensures.kept keeps) (c.in_ok-self-2.ensures.kept keeps)
+    c.args.shown.now c.run.new.shown c.run-2.new.shown (c.in_ok-self.ensures.kept keeps) (c.in_ok-self-2.ensures.kept keeps)
