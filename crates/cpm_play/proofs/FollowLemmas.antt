@@ -17,7 +17,7 @@ use Rattle.cpm_machine.proofs.PressLaws.{alone-pressed}
 use Rattle.cpm_play.specs.Cued.{AreAscii, Comes, HasIdled, HasMissed, HasNoWait, HasPressed, HasShown, IsCued, IsCuedFrom, IsCueMet, key_count, last_count, looks_back, runs_at, screen_at, waits_at}
 use Rattle.cpm_play.specs.Live.{IsGoing}
 use Rattle.cpm_play.specs.Playing.{presses_of, IsFresh}
-use Rattle.cpm_play.specs.Shown.{HasGrown, IsAwaited, IsHeld, StandsFor}
+use Rattle.cpm_play.specs.Shown.{HasGrown, IsAwaited, IsKeptOrFound, StandsFor}
 use Rattle.cpm_play.specs.declared.shown.Shown.{Shown}
 use Rattle.cpm_play.proofs.AloneLemmas.{after-ended, after-pending, presses-more}
 use Rattle.cpm_play.proofs.CuedLemmas.{going-run, going-runs, going-waits, idle-busy, idle-going, idle-none, idle-shows, idle-waits, last-more}
@@ -253,11 +253,11 @@ module _ {system : Disk} {start : MachineState} {steps waits_from most : ℕ} {c
     awaits : looks_back (Wait text ∷ others) ≡ true → Awaits left (Wait text ∷ others)
     awaits looks wanted awaited = subst (IsAwaited wanted) (sym (kept looks).cues) ((following.kept looks).1 wanted awaited)
 
-    shown-there : (b : Bool) → looks_back (Wait text ∷ others) ≡ b → IsHeld left text.items → HasShown text.items (drop following.mark (screen_at system start keys done_now))
+    shown-there : (b : Bool) → looks_back (Wait text ∷ others) ≡ b → IsKeptOrFound left text.items → HasShown text.items (drop following.mark (screen_at system start keys done_now))
     shown-there true looks found = held-shown (seen looks) text.items found
     shown-there false looks found = empty-shown text.items (drop following.mark (screen_at system start keys done_now)) (none-empty text.items (or-left (not (length text.items == 0)) (looks_back others) looks))
 
-    shown-here : (b : Bool) → looks_back (Wait text ∷ others) ≡ b → HasShown text.items (drop following.mark (screen_at system start keys done_now)) → IsHeld left text.items
+    shown-here : (b : Bool) → looks_back (Wait text ∷ others) ≡ b → HasShown text.items (drop following.mark (screen_at system start keys done_now)) → IsKeptOrFound left text.items
     shown-here true looks found = shown-held (seen looks) text.items (awaits looks text.items (inl refl)) found
     shown-here false looks found = inl (empty-shown text.items left.tail.items (none-empty text.items (or-left (not (length text.items == 0)) (looks_back others) looks)))
 
@@ -267,7 +267,7 @@ module _ {system : Disk} {start : MachineState} {steps waits_from most : ℕ} {c
         (λ halts. ⊎_elim (λ ended. absurd (true≢false (sym waits ∙ ended-waits next ended))) (λ counted. counted.0) halts) idled.why
 
     -- where it waits, and has shown the text
-    pub follow-met : done_now < steps → (look_of next).waiting ≡ true → IsHeld left text.items →
+    pub follow-met : done_now < steps → (look_of next).waiting ≡ true → IsKeptOrFound left text.items →
         IsFollowing system start steps waits_from most cues next before written_then unrecorded record_now keys done_now others left
     follow-met within waits found = record {
       going = wait-going;
@@ -300,7 +300,7 @@ module _ {system : Disk} {start : MachineState} {steps waits_from most : ℕ} {c
     }
 
     -- and where not, it never does so within the steps
-    never-met : (steps ≤ done_now) ⊎ (((look_of next).waiting ≡ false) ⊎ (IsHeld left text.items → ⊥)) → (at : ℕ) → IsCueMet system start steps waits_from keys done following.mark text.items at → ⊥
+    never-met : (steps ≤ done_now) ⊎ (((look_of next).waiting ≡ false) ⊎ (IsKeptOrFound left text.items → ⊥)) → (at : ℕ) → IsCueMet system start steps waits_from keys done following.mark text.items at → ⊥
     never-met why at met =
         let low = met.next.later in
         let high = met.within in
@@ -324,7 +324,7 @@ module _ {system : Disk} {start : MachineState} {steps waits_from most : ℕ} {c
             true≢false (sym met.next.waits ∙ quiet)
 
         waits-never : (at : ℕ) → done_now ≤ at → IsCueMet system start steps waits_from keys done following.mark text.items at →
-            ((look_of next).waiting ≡ false) ⊎ (IsHeld left text.items → ⊥) → waits_from ≤ done_now → (look_of next).waiting ≡ true → ⊥
+            ((look_of next).waiting ≡ false) ⊎ (IsKeptOrFound left text.items → ⊥) → waits_from ≤ done_now → (look_of next).waiting ≡ true → ⊥
         waits-never at late met other counted waits =
             let low = idled.low in
             let here : at ≡ done_now = ⊎_elim (λ (past : done_now < at). absurd (true≢false (sym (waits-there ∙ waits) ∙ met.next.first done_now (omega arith) past))) (λ (upto : at ≤ done_now). omega arith) (cases_lt done_now at) in
@@ -334,12 +334,12 @@ module _ {system : Disk} {start : MachineState} {steps waits_from most : ℕ} {c
 
     -- the same of the slice that is looked for
     module _ (needle : List ℕ) (is_text : needle ≡ text.items) where
-      pub follow-found : done_now < steps → ((look_of next).waiting ≡ true) × IsHeld left needle →
+      pub follow-found : done_now < steps → ((look_of next).waiting ≡ true) × IsKeptOrFound left needle →
           IsFollowing system start steps waits_from most cues next before written_then unrecorded record_now keys (done_now) others left
-      follow-found within met = follow-met within met.0 (subst (IsHeld left) is_text met.1)
+      follow-found within met = follow-met within met.0 (subst (IsKeptOrFound left) is_text met.1)
 
-      pub unfound-cued : ((look_of next).waiting ≡ false) ⊎ (IsHeld left needle → ⊥) → IsCued system start steps waits_from cues keys
-      unfound-cued why = following.cued keys (inr (never-met (inr (⊎_elim (λ still. inl still) (λ lacks. inr (λ held. lacks (subst (IsHeld left) (sym is_text) held))) why)), refl))
+      pub unfound-cued : ((look_of next).waiting ≡ false) ⊎ (IsKeptOrFound left needle → ⊥) → IsCued system start steps waits_from cues keys
+      unfound-cued why = following.cued keys (inr (never-met (inr (⊎_elim (λ still. inl still) (λ lacks. inr (λ held. lacks (subst (IsKeptOrFound left) (sym is_text) held))) why)), refl))
 
     pub past-cued : steps ≤ done_now → IsCued system start steps waits_from cues keys
     past-cued past = following.cued keys (inr (never-met (inl past), refl))

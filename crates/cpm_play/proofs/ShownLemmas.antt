@@ -13,7 +13,7 @@ use Rattle.memchr.specs.Find.{FindsNeedle, OccursAt}
 use Rattle.cpm_script.specs.declared.cue.Cue.{Cue}
 use Rattle.cpm_script.specs.declared.cue.Cue.TheVariants.{Wait}
 use Rattle.cpm_play.specs.Cued.{HasShown}
-use Rattle.cpm_play.specs.Shown.{AreAtMost, AreNoted, HasGrown, IsFound, IsAwaited, IsHeld, IsShort, MayStandAt, StandsFor, is_found}
+use Rattle.cpm_play.specs.Shown.{AreAtMost, AreNoted, HasGrown, IsFound, IsAwaited, IsKeptOrFound, IsShort, MayStandAt, StandsFor, is_found}
 use Rattle.cpm_play.specs.declared.shown.Shown.{Shown}
 
 -- ---- places of a text
@@ -70,17 +70,17 @@ stands-nothing kept tail found = record {
 
 -- a text neither stands in it nor was found
 pub held-not : (kept : Shown) (text hay : List ℕ) (known : List (Bor (List ℕ))) → hay ≡ kept.tail.items → known ≡ kept.found.items → (HasShown text hay → ⊥) → is_found text known ≡ false →
-    IsHeld kept text → ⊥
+    IsKeptOrFound kept text → ⊥
 held-not kept text hay known is same lacks none (inl there) = lacks (subst (HasShown text) (sym is) there)
 held-not kept text hay known is same lacks none (inr found) = true≢false (sym found ∙ sym (ap (is_found text) same) ∙ none)
 
 -- a text stands in it, if it stands in all that was shown
 module _ {kept : Shown} {shown : List ℕ} (stands : StandsFor kept shown) (text : List ℕ) where
-  pub held-shown : IsHeld kept text → HasShown text shown
+  pub held-shown : IsKeptOrFound kept text → HasShown text shown
   held-shown (inl there) = subst (HasShown text) (sym stands.parts) (length stands.gone + there.0, occurs-behind stands.gone kept.tail.items text there.0 there.1)
   held-shown (inr among) = stands.found text among
 
-  pub shown-held : IsAwaited text kept.cues.now → HasShown text shown → IsHeld kept text
+  pub shown-held : IsAwaited text kept.cues.now → HasShown text shown → IsKeptOrFound kept text
   shown-held awaited there =
       ⊎_elim (λ among. inr among)
       (λ past.

@@ -37,8 +37,8 @@ pub record StandsFor (kept : Shown) (shown : List ℕ) : Type 0 where
       IsFound text kept.found.items ⊎ ((place : ℕ) → MayStandAt text shown place → length gone ≤ place)
 
 -- a text stands in what is kept, or was found before
-abbrev pub IsHeld : Shown → List ℕ → Type 0
-IsHeld kept text = HasShown text kept.tail.items ⊎ IsFound text kept.found.items
+abbrev pub IsKeptOrFound : Shown → List ℕ → Type 0
+IsKeptOrFound kept text = HasShown text kept.tail.items ⊎ IsFound text kept.found.items
 
 -- no text that is waited for is longer
 abbrev pub AreAtMost : ℕ → List Cue → Type 0

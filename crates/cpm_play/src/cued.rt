@@ -10,7 +10,7 @@ ghost use Rattle.cpm_play.specs.Cued.{IsCued, IsCutOff, IsPressCut, IsRunCut, Is
 ghost use Rattle.cpm_play.specs.Live.{AreGiven, IsGoing};
 ghost use Rattle.cpm_play.specs.Pacing.{without_text};
 ghost use Rattle.cpm_play.specs.Playing.{EndsAs, HasText, IsFresh, IsQuiet, alone_by};
-ghost use Rattle.cpm_play.specs.Shown.{HasGrown, IsHeld};
+ghost use Rattle.cpm_play.specs.Shown.{HasGrown, IsKeptOrFound};
 ghost use Rattle.cpm_script.specs.Script.{most_keys};
 
 use crate::live::{LiveError, LivePlay, show};
@@ -163,8 +163,8 @@ fn runs(machine: &Machine) -> bool
 
 /// Whether the machine waits for a key and this text was shown.
 fn has_met(machine: &Machine, text: &[u8], shown: &Shown<'_>) -> bool
-    ensures met { result ≡ true → ((look_of machine.now).waiting ≡ true) × IsHeld shown.now text.now }
-    ensures unmet { result ≡ false → ((look_of machine.now).waiting ≡ false) ⊎ (IsHeld shown.now text.now → ⊥) }
+    ensures met { result ≡ true → ((look_of machine.now).waiting ≡ true) × IsKeptOrFound shown.now text.now }
+    ensures unmet { result ≡ false → ((look_of machine.now).waiting ≡ false) ⊎ (IsKeptOrFound shown.now text.now → ⊥) }
 {
     machine.look().waiting && shown.has(text)
 }

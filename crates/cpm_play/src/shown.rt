@@ -1,7 +1,7 @@
 //! What a script that may wait keeps of what was shown since the last key.
 
 ghost use Rattle.std.specs.Prelude.{◌≡◌, [], true, false, IfOk};
-ghost use Rattle.cpm_play.specs.Shown.{AreNoted, HasGrown, IsHeld, IsShort, StandsFor, is_found};
+ghost use Rattle.cpm_play.specs.Shown.{AreNoted, HasGrown, IsKeptOrFound, IsShort, StandsFor, is_found};
 
 use cpm_script::Cue;
 use memchr::memmem;
@@ -105,8 +105,8 @@ impl<'a> Shown<'a> {
 
     /// Whether a text stands in what was shown.
     pub(crate) fn has(&self, text: &[u8]) -> bool
-        ensures held { result ≡ true → IsHeld self.now text.now }
-        ensures other { result ≡ false → IsHeld self.now text.now → ⊥ }
+        ensures held { result ≡ true → IsKeptOrFound self.now text.now }
+        ensures other { result ≡ false → IsKeptOrFound self.now text.now → ⊥ }
     {
         memmem::find(self.tail.as_slice(), text).is_some() || is_found(self.found.as_slice(), text)
     }
