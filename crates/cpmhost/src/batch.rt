@@ -4,8 +4,8 @@
 use crate::beside::Replacement;
 use crate::held::{LockableFiles, Mark};
 use crate::output::{Outputs, PERMISSIONS, PLAIN_PERMISSIONS};
-use crate::patient::PatientError;
-use crate::refused::{CommandRefusal, RefusalDetail};
+use crate::patient::{PatientError, StandardError};
+use crate::refused::{CommandRefusal, PathLine, RefusalDetail};
 use cpm_host::{HostError, ShownWord, shown};
 use std::io;
 use std::rt::Files;
@@ -59,11 +59,21 @@ impl WholeFile {
         }
     }
 
-    /// Gives it its name. Where it can't replace what has that, it stays beside it; but it goes where that has changed, since its bytes lack the change.
-    fn take_name(self, rt: &(impl Files + AllocGlobal)) -> Result<(), CommandRefusal> {
+    /// Gives it its name. Where it can't replace what has that, it stays beside it. Where that has changed it stays if so asked, and else it goes.
+    fn take_name(
+        self,
+        rt: &(impl Files + AllocGlobal),
+        keeps_played: bool,
+    ) -> Result<(), CommandRefusal> {
         if let Err(error) = self.check(rt) {
+            if keeps_played {
+                return Err(self.kept(rt, error));
+            }
             let _ = self.beside.remove(rt);
-            return Err(CommandRefusal::from(error));
+            return Err(CommandRefusal {
+                error,
+                behind: RefusalDetail::RunAgain,
+            });
         }
         let taken = match self.naming {
             NamingRule::New => self.beside.take_new_name(rt),
@@ -73,12 +83,28 @@ impl WholeFile {
             return Ok(());
         };
         let error = self.unwritable(reason);
+        Err(self.kept(rt, error))
+    }
+
+    /// Why it hasn't its name, and where it is then.
+    fn kept(self, rt: &(impl Files + AllocGlobal), error: HostError) -> CommandRefusal {
         match self.beside.keep(rt) {
-            Some(path) => Err(CommandRefusal {
+            Some(path) => CommandRefusal {
                 error,
                 behind: RefusalDetail::Kept(path),
-            }),
-            None => Err(CommandRefusal::from(error)),
+            },
+            None => CommandRefusal::from(error),
+        }
+    }
+
+    /// Leaves it beside the one that it was to replace, and says where.
+    fn keep(self, rt: &(impl Files + StandardError + AllocGlobal)) {
+        let name = self.name;
+        if let Some(path) = self.beside.keep(rt) {
+            let path = PathLine(path.as_path().as_str());
+            let _ = eprintln!(PatientError::new(rt);
+                "cpmhost: the new bytes of '{name}' are in '{path}'; move them yourself"
+            );
         }
     }
 }
@@ -88,6 +114,8 @@ impl WholeFile {
 pub struct Batch {
     outputs: Outputs,
     all: Vec<WholeFile>,
+    /// Whether they are of what was played, which nobody can do again as it was.
+    keeps_played: bool,
 }
 
 impl Batch {
@@ -96,6 +124,16 @@ impl Batch {
         Batch {
             outputs,
             all: Vec::new(rt.alloc()),
+            keeps_played: false,
+        }
+    }
+
+    /// None yet of what was played. Its files are left beside those that they were to replace, where one of these has changed.
+    pub fn of_played(rt: &impl AllocGlobal, outputs: Outputs) -> Batch {
+        Batch {
+            outputs,
+            all: Vec::new(rt.alloc()),
+            keeps_played: true,
         }
     }
 
@@ -143,17 +181,20 @@ impl Batch {
         self.all.clear();
     }
 
-    /// Gives all their names, if those that they replace are still what they were when they were read; else nothing is left of them. One that can't have its
+    /// Gives all their names, if those that they replace are still what they were when they were read; else none gets its name. One that can't have its
     /// name then stays beside it, which is said of each.
     pub fn take_names(self, rt: &impl LockableFiles) -> Result<(), CommandRefusal> {
-        let mut batch = self;
-        if let Err(error) = batch.check(rt) {
-            batch.remove(rt);
-            return Err(CommandRefusal::from(error));
+        if let Err(error) = self.check(rt) {
+            return Err(self.give_up(rt, error));
         }
+        let Batch {
+            all,
+            keeps_played,
+            ..
+        } = self;
         let mut taken = Ok(());
-        for whole in batch.all {
-            if let Err(refused) = whole.take_name(rt) {
+        for whole in all {
+            if let Err(refused) = whole.take_name(rt, keeps_played) {
                 if let Err(before) = &taken {
                     let _ = eprintln!(PatientError::new(rt); "cpmhost: {before}");
                 }
@@ -161,6 +202,22 @@ impl Batch {
             }
         }
         taken
+    }
+
+    /// What is said where none gets its name. What was played stays beside; the others go, since they lack the change and can be made again.
+    fn give_up(self, rt: &impl LockableFiles, error: HostError) -> CommandRefusal {
+        let mut batch = self;
+        if !batch.keeps_played {
+            batch.remove(rt);
+            return CommandRefusal {
+                error,
+                behind: RefusalDetail::RunAgain,
+            };
+        }
+        for whole in batch.all {
+            whole.keep(rt);
+        }
+        CommandRefusal::from(error)
     }
 
     /// Fails where one of the files that they are to replace is no longer what it was when it was read.

@@ -284,9 +284,12 @@ fn outputs_of<'a>(
     Ok(all)
 }
 
-/// Whether a name is of a file in the current folder, none that is hidden, and not the one that an archive has there.
+/// Whether a name is of a file in the current folder, none that is hidden, and not the one that an archive has there, in capitals either.
 fn is_plain(name: &str) -> bool {
-    !name.is_empty() && !name.contains('/') && !name.starts_with('.') && name != REPORT
+    !name.is_empty()
+        && !name.contains('/')
+        && !name.starts_with('.')
+        && !name.eq_ignore_ascii_case(REPORT)
 }
 
 /// Refuses a run that would write by a name that is not plain, or its scripts to another folder than the current one.

@@ -239,7 +239,7 @@ fn play_live<W: Write, S: Write>(
     }
 }
 
-/// Writes the first drives to files, as many as these are, where those that were read are still what they were then.
+/// Writes the first drives to files, as many as these are, where those that were read are still what they were then. Else the drives stay beside them.
 fn write_drives(
     rt: &impl LockableFiles,
     outputs: Outputs,
@@ -247,8 +247,7 @@ fn write_drives(
     outs: &[&str],
     drives: [Option<Image>; 4],
 ) -> Result<(), CommandRefusal> {
-    held.check(rt)?;
-    let mut batch = Batch::new(rt, outputs);
+    let mut batch = Batch::of_played(rt, outputs);
     for (out, image) in outs.iter().zip(drives) {
         if let Some(image) = image {
             add_held(rt, &mut batch, held, out, &image.into_bytes())?;

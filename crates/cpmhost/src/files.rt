@@ -4,15 +4,17 @@ ghost use Rattle.cpm_host.specs.Refusals.{IsFileRefusal, IsOutRefusal};
 ghost use Rattle.cpm_store.specs.Files.{CountsFailure};
 
 use crate::batch::{Batch, NamingRule};
+use crate::beside::is_missing;
 use crate::guard::Guard;
 use crate::held::{HeldFiles, LockableFiles};
 use crate::output::Outputs;
+use crate::patient::PatientError;
 use crate::place::script_paths;
-use crate::refused::{CommandRefusal, RefusalDetail};
+use crate::refused::{CommandRefusal, PathLine, RefusalDetail};
 use crate::rehearsals::Rehearsals;
 use cpm_host::{
-    Config, HostError, MOST_FILE, RunError, SessionConfig, ShownWord, Store, StoreError,
-    read_whole, shown,
+    Config, HostError, MOST_FILE, RunError, RunTask, SessionConfig, Store, StoreError, read_whole,
+    shown,
 };
 use std::alloc::{AllocError, Global};
 use std::io::ErrorKind;
@@ -180,25 +182,38 @@ pub fn check_scripts(
     check_files(rt, outputs, &scripts)
 }
 
-/// Makes in a batch for each session a script by which it does the same, if that is asked: that by which it was played by itself, or else its own.
+/// Makes in a batch for each session a script by which it does the same, if that is asked: that by which it was played by itself, or else its own. A script
+/// that is there is left as it was where its session was typed at and no key came, which is said.
 pub fn add_scripts(
     rt: &impl LockableFiles,
     batch: &mut Batch,
     config: &Config,
     rehearsals: &Rehearsals,
-    folder: Option<&str>,
+    task: &RunTask<'_>,
 ) -> Result<(), HostError> {
-    let scripts = script_paths(rt.alloc(), config, folder)?;
+    let scripts = script_paths(rt.alloc(), config, task.scripts)?;
     for (place, (session, script)) in config.sessions.iter().zip(&scripts).enumerate() {
-        add_script(
-            rt,
-            batch,
-            rehearsals.script_at(place),
-            session,
-            script.as_str(),
-        )?;
+        let rehearsed = rehearsals.script_at(place);
+        let to = script.as_str();
+        let is_typed = task.keyboard == Some(session.name.as_str());
+        if is_typed && has_no_key(rehearsed) && !is_missing(fs::symlink_metadata(rt, to)) {
+            let path = PathLine(to);
+            let _ = eprintln!(PatientError::new(rt);
+                "cpmhost: no key came, so '{path}' is as it was"
+            );
+        } else {
+            add_script(rt, batch, rehearsed, session, to)?;
+        }
     }
     Ok(())
+}
+
+/// Whether a session was played by itself by no key.
+fn has_no_key(rehearsed: Option<&[u8]>) -> bool {
+    match rehearsed {
+        Some(script) => script.is_empty(),
+        None => false,
+    }
 }
 
 /// Makes in a batch a file of the script by which a session was played by itself, or else its own.
@@ -263,12 +278,8 @@ pub struct MachineFiles<'a, R: LockableFiles> {
     /// The scripts of the sessions that were played by themselves.
     rehearsals: &'a Rehearsals,
     guard: Guard<'a>,
-    /// Whether one of the files was written, or was to be.
-    has_written: bool,
     failures: u64,
     reason: Option<io::Error>,
-    /// The file that another program has changed.
-    changed: Option<ShownWord>,
     /// Why the script that was read last is refused.
     refusal: Option<HostError>,
 }
@@ -285,13 +296,11 @@ impl<'a, R: LockableFiles> MachineFiles<'a, R> {
     {
         MachineFiles {
             rt,
-            batch: Batch::new(rt, outputs),
+            batch: Batch::of_played(rt, outputs),
             rehearsals,
             guard,
-            has_written: false,
             failures: 0,
             reason: None,
-            changed: None,
             refusal: None,
         }
     }
@@ -308,10 +317,6 @@ impl<'a, R: LockableFiles> MachineFiles<'a, R> {
         if let Some(refusal) = self.refusal {
             return CommandRefusal::from(refusal);
         }
-        let error = match (error, self.changed) {
-            (RunError::WriteFault(_), Some(name)) => RunError::WriteFault(name),
-            (error, _) => error,
-        };
         CommandRefusal {
             error: HostError::from(error),
             behind: match self.reason {
@@ -319,20 +324,6 @@ impl<'a, R: LockableFiles> MachineFiles<'a, R> {
                 None => RefusalDetail::Nothing,
             },
         }
-    }
-
-    /// Makes a file hold these bytes. Before the first one is written, all that are held must still be what they were when they were read.
-    fn replace(&mut self, name: &str, bytes: &[u8]) -> io::Result<()>
-        ensures { self.new.failures ≡ self.old.failures }
-    {
-        if !self.has_written {
-            self.has_written = true;
-            if let Some((changed, reason)) = self.guard.held.changed(self.rt) {
-                self.changed = Some(changed);
-                return Err(reason);
-            }
-        }
-        self.guard.write(self.rt, &mut self.batch, name, bytes)
     }
 
     /// What a call answers that failed so. That is counted unless it is out of memory.
@@ -373,7 +364,7 @@ impl<R: LockableFiles> Store for MachineFiles<'_, R> {
     }
 
     fn write(&mut self, name: &str, bytes: &[u8]) -> Result<(), StoreError> {
-        match self.replace(name, bytes) {
+        match self.guard.write(self.rt, &mut self.batch, name, bytes) {
             Ok(()) => Ok(()),
             Err(reason) => Err(self.fault(reason)),
         }

@@ -54,7 +54,7 @@ impl Mark {
             Err(error) if error.kind() != ErrorKind::NotFound => Err(error),
             _ => Err(io::Error::new(
                 ErrorKind::Other,
-                "it changed while this command ran; nothing was written to it; run it again",
+                "it changed while this command ran; nothing was written to it",
             )),
         }
     }
@@ -82,34 +82,6 @@ impl HeldFiles {
         let found = self.all.iter().find(|held| held.name.as_str() == name)?;
         Some(found.mark)
     }
-
-    /// The name of a file that is no longer what it was, if there is one, and what is said of it.
-    pub fn changed(&self, rt: &(impl Files + AllocGlobal)) -> Option<(ShownWord, io::Error)> {
-        for held in &self.all {
-            let name = held.name.as_str();
-            if let Err(reason) = check_name(rt, name, held.mark) {
-                return Some((shown(name), reason));
-            }
-        }
-        None
-    }
-
-    /// Fails where one of the files is no longer what it was: before the first of them is replaced.
-    pub fn check(&self, rt: &(impl Files + AllocGlobal)) -> Result<(), HostError> {
-        match self.changed(rt) {
-            Some((_, reason)) if reason.kind() == ErrorKind::OutOfMemory => {
-                Err(HostError::OutOfMemory)
-            }
-            Some((name, reason)) => Err(HostError::FileUnwritable { name, reason }),
-            None => Ok(()),
-        }
-    }
-}
-
-/// Fails where the file of a name is no longer what it was.
-fn check_name(rt: &(impl Files + AllocGlobal), name: &str, mark: Mark) -> io::Result<()> {
-    let target = target_of(rt, name)?;
-    mark.check(rt, target.as_path())
 }
 
 /// A file that is read and written, by its numbers, and by its place among the names that are written.
@@ -299,7 +271,7 @@ fn held_at(rt: &impl LockableFiles, name: &str) -> Result<Option<HeldFile>, Comm
 fn locked(rt: &impl LockableFiles, name: &str) -> io::Result<Option<(Mark, File)>> {
     let target = target_of(rt, name)?;
     let file = opened(rt, target.as_path())?;
-    if let Err(TryLockError::WouldBlock) = file.try_lock() {
+    if is_locked_elsewhere(&file) {
         return Ok(None);
     }
     let mark = Mark::of(&file.metadata()?);
@@ -309,6 +281,18 @@ fn locked(rt: &impl LockableFiles, name: &str) -> io::Result<Option<(Mark, File)
     } else {
         Ok(None)
     }
+}
+
+/// Whether another command has the lock of a file; else this one has it from now on, where the system can lock it. A signal that comes meanwhile is no answer.
+fn is_locked_elsewhere(file: &File) -> bool {
+    for _attempt in 0..MOST_LOCK_PAUSES {
+        match file.try_lock() {
+            Err(TryLockError::WouldBlock) => return true,
+            Err(TryLockError::Error(error)) if error.kind() == ErrorKind::Interrupted => {}
+            _ => return false,
+        }
+    }
+    true
 }
 
 /// The file of a path, opened for writing too where that may be: some file systems lock no other.

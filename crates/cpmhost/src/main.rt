@@ -159,7 +159,7 @@ fn make_scripts(
     bounds: &Bounds,
 ) -> Result<(), CommandRefusal> {
     bounds.check_scripts(rt, config, task.scripts)?;
-    add_scripts(rt, batch, config, rehearsals, task.scripts)?;
+    add_scripts(rt, batch, config, rehearsals, task)?;
     Ok(())
 }
 

@@ -7,7 +7,7 @@ use crate::stream::{Stream, real_path, stream_of};
 use std::alloc::{AllocError, Global};
 use std::fs::{File, OpenOptions, Permissions};
 use std::io::{ErrorKind, Write};
-use std::os::unix::fs::{MetadataExt, PermissionsExt, chown};
+use std::os::unix::fs::{MetadataExt, PermissionsExt, fchown};
 use std::path::{Path, PathBuf};
 use std::random::RandomSource;
 use std::rt::Files;
@@ -219,8 +219,7 @@ impl<R: LockableFiles> OutputFile<'_, R> {
             return Ok(());
         }
         let mode = old.permissions().mode() & mask;
-        let has_group = old.gid() == new.gid()
-            || chown(self.rt, beside.path(), None, Some(old.gid())).is_ok();
+        let has_group = old.gid() == new.gid() || fchown(file, None, Some(old.gid())).is_ok();
         let mode = if has_group { mode } else { narrowed(mode) };
         file.set_permissions(Permissions::from_mode(mode))
     }

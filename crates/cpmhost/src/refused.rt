@@ -27,6 +27,8 @@ pub enum RefusalDetail {
     NotPlain,
     /// What was to be written is whole in the file of this path.
     Kept(PathBuf),
+    /// The command can do it again.
+    RunAgain,
 }
 
 /// A path as it stands on a line: `?` for what a refusal doesn't show either.
@@ -79,6 +81,7 @@ impl fmt::Display for CommandRefusal {
                     "{error}; the new bytes are in '{path}'; move them yourself"
                 )
             }
+            RefusalDetail::RunAgain => write!(f, "{error}; run it again"),
         }
     }
 }
