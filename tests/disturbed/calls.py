@@ -22,6 +22,8 @@ ERRORS = {
     "getcwd": ("EACCES", "ENOENT"),
     "flock": ("EAGAIN", "ENOLCK", "EINTR"),
     "fchmod": ("EPERM", "EIO"),
+    "chown": ("EPERM", "EIO"),
+    "fchown": ("EPERM", "EIO"),
     "getrandom": ("ENOSYS", "EINTR"),
     "close": ("EIO", "EINTR"),
     "mmap": ("ENOMEM",),
