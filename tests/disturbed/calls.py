@@ -40,6 +40,7 @@ LATER = "EAGAIN"
 # what comes again and again would never end
 PASSING = {"EAGAIN", "EINTR"}
 REMOVING = {"unlink", "unlinkat"}
+GROUPING = {"chown", "fchown"}
 
 
 class Call(NamedTuple):

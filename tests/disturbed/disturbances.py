@@ -5,7 +5,7 @@ import resource
 import signal
 from typing import NamedTuple
 
-from disturbed.calls import PASSING, REMOVING, Call
+from disturbed.calls import GROUPING, PASSING, REMOVING, Call
 from disturbed.runs import TRACE, error_wrong, killed_wrong, look, start, strace
 from lib import LIBC, read
 
@@ -31,7 +31,7 @@ class Failing(NamedTuple):
         if ran.status == 0 and traced.count(b"flock(") < known.locks:
             yield "it ends with status 0, and hasn't held what it has replaced"
         is_heard = kind != "write" or not (self.goes_on or self.call.file == 2)
-        yield from error_wrong(command, known, ran, kind in REMOVING, is_heard)
+        yield from error_wrong(command, known, ran, kind in REMOVING, is_heard, may_narrow=kind in GROUPING)
 
     def __str__(self):
         return f"strace -e {self.injection}"

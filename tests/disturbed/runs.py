@@ -14,6 +14,9 @@ from lib import CPMHOST, SECONDS, Ran, read, write
 BESIDE = re.compile(r".*\.cpmhost-[0-9a-f]{16}")
 # where strace writes the calls, beside the folder of the command
 TRACE = "../trace"
+# the group of the files that are there before, where this may give it them, and the permissions that they have in it
+GROUP = 1234 if os.geteuid() == 0 else os.getegid()
+OWN, NARROWED = f"mode 640, group {GROUP}", f"mode 600, group {os.getegid()}"
 
 
 class Known(NamedTuple):
@@ -47,11 +50,12 @@ def prepare(command):
             os.symlink(data.to, name)
         else:
             write(name, data)
+            os.chown(name, -1, GROUP)
             os.chmod(name, 0o640)
 
 
 def look():
-    """Each file by its path, with its permissions and its bytes; of a link where it leads."""
+    """Each file by its path, with its permissions, its group and its bytes; of a link where it leads."""
     found = {}
     for at, _, names in os.walk("."):
         for name in names:
@@ -59,7 +63,8 @@ def look():
             if os.path.islink(path):
                 found[path] = "a link", os.readlink(path).encode()
             else:
-                found[path] = f"mode {os.stat(path).st_mode & 0o7777:o}", read(path)
+                status = os.stat(path)
+                found[path] = f"mode {status.st_mode & 0o7777:o}, group {status.st_gid}", read(path)
     return found
 
 
@@ -110,14 +115,14 @@ def beside(found):
     return [name for name in found if BESIDE.fullmatch(os.path.basename(name))]
 
 
-def files_wrong(known, found):
-    """What is wrong with the files, but for those beside."""
+def files_wrong(known, found, may_narrow=False):
+    """What is wrong with the files, but for those beside. Where a group can't be given, fewer may read them."""
     left = beside(found)
     for name, was in known.old.items():
         mode, data = found.get(name, ("nothing", b""))
         if data not in (was[1], known.new[name][1]):
             yield f"'{name}' is neither what it was nor what it would be: {mode}, {len(data)} bytes"
-        elif mode != was[0]:
+        elif mode != was[0] and not (may_narrow and (was[0], mode) == (OWN, NARROWED)):
             yield f"'{name}', of {was[0]}, is {mode} then"
     for name, (mode, data) in found.items():
         if name not in known.old and name not in left and (mode, data) != known.new.get(name):
@@ -157,14 +162,14 @@ def ended_wrong(known, found, ran, is_heard):
             yield f"it ends with {ran.status}, {last}"
 
 
-def error_wrong(command, known, ran, may_stay=False, is_heard=True, is_shown=True):
-    """What is wrong after an error: files may stay beside, a refusal can be heard, and what is printed is shown."""
+def error_wrong(command, known, ran, may_stay=False, is_heard=True, is_shown=True, may_narrow=False):
+    """What is wrong after an error: files may stay beside, a refusal can be heard, what is printed is shown, and a group couldn't be given."""
     found = look()
     if command.is_refused and ran.status == 0:
         yield f"it isn't refused, and writes {[name for name, old in known.old.items() if found.get(name) != old]}"
         return
     is_heard = is_heard and 2 not in command.closed
-    torn = list(files_wrong(known, found))
+    torn = list(files_wrong(known, found, may_narrow))
     yield from torn
     yield from left_wrong(known, found, ran, may_stay or not is_heard)
     if not torn:
