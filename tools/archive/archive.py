@@ -146,7 +146,7 @@ def shown(words):
 
 def plain(name):
     """The name of an output, which lies beside the report."""
-    if not name or "/" in name or name.startswith(".") or name == "report":
+    if not name or "/" in name or name.startswith(".") or name.lower() == "report":
         raise Refusal(f"the output '{shown(name)}' is no plain name")
     return name
 
