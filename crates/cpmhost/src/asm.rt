@@ -9,6 +9,7 @@ use crate::refused::CommandRefusal;
 use cpm_host::{run_asm, run_asm_listed};
 
 /// Assembles the source in a file, and writes its image to another, and a listing if that is asked.
+#[inline(never)]
 pub fn asm(
     rt: &impl LockableFiles,
     outputs: Outputs,

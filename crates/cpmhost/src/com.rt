@@ -29,6 +29,7 @@ use std::rt::{Clock, Files};
 const STEPS: u64 = 1_000_000;
 
 /// Runs the program in a file, prints what it shows, writes its drives where that is asked, and prints how it ended.
+#[inline(never)]
 pub fn com(
     rt: &(impl LockableFiles + Input),
     outputs: Outputs,
@@ -112,6 +113,7 @@ fn drives_of(
 }
 
 /// Runs a program by the keys of the script in a file, if there is one, and says whether it then waits for a key, where that is known.
+#[inline(never)]
 fn play_script<W: Write, E: StandardError>(
     rt: &impl LockableFiles,
     outputs: Outputs,
@@ -137,6 +139,7 @@ fn play_script<W: Write, E: StandardError>(
 
 /// Runs a program by a script that may wait for it, records its keys if that is asked, and says whether it then waits for a key. With `--stop-idle` it stops
 /// where it waits and no key comes.
+#[inline(never)]
 fn play_waiting<W: Write, E: StandardError>(
     rt: &impl LockableFiles,
     outputs: Outputs,
@@ -192,6 +195,7 @@ fn teller_of<'a, R: StandardError>(
 }
 
 /// Runs a program by the keys of a script, and writes what it shows.
+#[inline(never)]
 fn play<W: Write, E: StandardError>(
     rt: &impl AllocGlobal,
     task: &ComTask<'_>,
@@ -207,6 +211,7 @@ fn play<W: Write, E: StandardError>(
 }
 
 /// Runs a program by the keys of standard input, records them if that is asked, and says whether it then waits for a key.
+#[inline(never)]
 fn play_keyboard<W: Write>(
     rt: &(impl LockableFiles + Input),
     outputs: Outputs,

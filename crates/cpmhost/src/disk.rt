@@ -23,6 +23,7 @@ use std::rt::Files;
 use std::{fs, io};
 
 /// Does what a command on disk images asks for.
+#[inline(never)]
 pub fn do_disk(
     rt: &impl LockableFiles,
     outputs: Outputs,

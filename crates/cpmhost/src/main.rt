@@ -75,6 +75,7 @@ fn arguments(rt: &(impl Env + AllocGlobal)) -> Result<Vec<String>, HostError>
 }
 
 /// Runs the sessions of the configuration in a file, one of them by the keys of standard input if that is asked.
+#[inline(never)]
 fn run_sessions(
     rt: &(impl LockableFiles + Input),
     outputs: Outputs,
@@ -201,6 +202,7 @@ pub fn waiting_word(waits: bool) -> &'static str {
 }
 
 /// Prints the program in a file as instructions of a processor.
+#[inline(never)]
 fn list(rt: &impl LockableFiles, file: &str, cpu: Cpu) -> Result<(), HostError> {
     let program = read_file(rt, file)?;
     match BufWriter::new(rt.alloc(), PatientOutput::new(rt)) {
@@ -210,6 +212,7 @@ fn list(rt: &impl LockableFiles, file: &str, cpu: Cpu) -> Result<(), HostError> 
 }
 
 /// Prints that the image in a file is in order.
+#[inline(never)]
 fn check(rt: &impl LockableFiles, file: &str) -> Result<(), HostError> {
     let bytes = read_file(rt, file)?;
     run_check(file, bytes, &mut PatientOutput::new(rt))?;
@@ -217,6 +220,7 @@ fn check(rt: &impl LockableFiles, file: &str) -> Result<(), HostError> {
 }
 
 /// Runs the program in a file as the lines of standard input say, and prints what is answered.
+#[inline(never)]
 fn debug(
     rt: &(impl LockableFiles + Input + Print),
     file: &str,
