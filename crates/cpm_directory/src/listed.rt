@@ -29,7 +29,7 @@ const NO_ENTRY: Entry = Entry {
     },
 };
 
-/// Room for the entries of a directory. It is on the heap, since it takes 8 KiB.
+/// Room for the entries of a directory. It is on the heap, since it takes 13 KB.
 #[derive(Drop)]
 pub struct EntryRoom(Box<[Entry; MOST_ENTRIES]>);
 

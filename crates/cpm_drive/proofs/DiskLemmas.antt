@@ -9,7 +9,7 @@ use Rattle.cpm_geom.specs.declared.dpb.Dpb.{Dpb}
 use Rattle.cpm_geom.specs.declared.format.Format.{Format}
 use Rattle.cpm_geom.specs.declared.format.Format.TheVariants.{Ibm3740, Large}
 use Rattle.cpm_geom.specs.Geometry.{dpb_of, tracks_of, sectors_per_track, IsRecord, record_index}
-use Rattle.cpm_geom.specs.Disk.{Disk, IsDisk, record_count, records_of, sector_at, with_sector}
+use Rattle.cpm_geom.specs.Disk.{Disk, IsDisk, HasBytes, record_count, records_of, sector_at, with_sector}
 use Rattle.cpm_geom.proofs.GeometryLemmas.{record_within}
 use Rattle.cpm_geom.proofs.SectorLemmas.{put_length}
 use Rattle.cpm_geom.proofs.RecordLemmas.{are_listed, are_records}
@@ -25,7 +25,7 @@ use Rattle.cpm_directory.proofs.SlotLemmas.{put_in_directory, put_keeps, entry_s
 use Rattle.cpm_volume.proofs.Formats.{each_format}
 use Rattle.cpm_directory.proofs.LawLemmas.{outside}
 use Rattle.cpm_drive.specs.Drive.{volume_of, after_write, after_writes}
-use Rattle.cpm_drive.specs.Laws.{Holds, HasBytes, IsDiskOf, IsOfBytes, Fits, AllFit}
+use Rattle.cpm_drive.specs.Laws.{Holds, IsDiskOf, IsOfBytes, Fits, AllFit}
 
 -- ---- lists of bytes
 abbrev AllBytes : List ℕ → Type 0

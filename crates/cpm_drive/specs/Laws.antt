@@ -3,7 +3,7 @@ use Rattle.std.specs.Prelude.{◌≡◌, ◌≢◌, ℕ, ◌+◌, ◌<◌, ◌�
 use Rattle.cpm_geom.specs.declared.format.Format.{Format}
 use Rattle.cpm_geom.specs.declared.dpb.Dpb.{Dpb}
 use Rattle.cpm_geom.specs.Geometry.{dpb_of}
-use Rattle.cpm_geom.specs.Disk.{Disk, IsDisk, record_count, records_of, sector_at}
+use Rattle.cpm_geom.specs.Disk.{Disk, IsDisk, HasBytes, record_count, records_of}
 use Rattle.cpm_volume.specs.declared.extent.Extent.{Extent}
 use Rattle.cpm_volume.specs.declared.extent.Entry.{Entry}
 use Rattle.cpm_volume.specs.Files.{deleted, directory_records, file_record, open_file_record, Volume, DiskWrite}
@@ -23,10 +23,6 @@ use Rattle.cpm_drive.specs.Drive.{volume_of, after_writes, drive_after}
 pub record Holds (disk : Disk) (v : Volume) : Type 0 where
   pub entries : entries_of disk ≡ v.entries
   pub records : (n : ℕ) → directory_records (dpb_of disk.format) ≤ n → slice_index_or (records_of disk) n [] ≡ slice_index_or v.records n []
-
--- own: each number of each sector is below 256
-pub record HasBytes (disk : Disk) : Type 0 where
-  pub bytes_fit : (place k : ℕ) → slice_index (sector_at disk place) k < 256
 
 -- own: a disk of a format, of sectors of bytes, that holds the volume
 pub record IsDiskOf (f : Format) (disk : Disk) (v : Volume) : Type 0 where

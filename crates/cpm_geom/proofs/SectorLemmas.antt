@@ -3,14 +3,14 @@ use Rattle.std.proofs.Common.{map, Some, refl, [], ◌∷◌, zero, suc, ◌++�
 use Rattle.std.proofs.Math.Seq.{take-add}
 use Rattle.std.proofs.lemmas.List.Folds.{concat-append}
 use Rattle.std.specs.List.{concat, range_with_len, between, slice_range}
-use Rattle.std.proofs.lemmas.List.{length-set, get_or-set_same, get_or-set_other, same_lists}
+use Rattle.std.proofs.lemmas.List.{length-set, get_or-set_same, get_or-set_other, get_or_past, get_or_append_left, get_or-append-add, same_lists}
 use Rattle.std.proofs.lemmas.List.FromFn.{map-range_with_len_more, length-map-range_with_len, get_or-map-range_with_len}
 use Rattle.std.proofs.lemmas.Slice.{between_is, take-put_mid_below, drop-put_mid, between-put_mid, overwrites}
 use Rattle.std.proofs.lemmas.Bool.{cases_eq, cases_lt}
 use borrow.Rule.Slice.PartMut.{put_mid}
 use Rattle.cpm_geom.specs.declared.format.Format.{Format}
 use Rattle.cpm_geom.specs.Geometry.{format_of_length}
-use Rattle.cpm_geom.specs.Disk.{sectors_of, disk_of, IsDisk}
+use Rattle.cpm_geom.specs.Disk.{sectors_of, disk_of, HasBytes, IsDisk}
 use Rattle.cpm_geom.proofs.GeometryLemmas.{format_size}
 
 pub length-sectors : (bytes : List ℕ) → length (sectors_of bytes) ≡ length bytes / 128
@@ -85,3 +85,20 @@ is_disk f bytes h =
       count = length-sectors bytes ∙ omega arith;
       sizes = λ k l. ap length (sector_is bytes k [] (omega arith)) ∙ simp overwrites (omega arith);
     }
+
+-- what is below 256 in the joined sectors is below 256 in each
+parts_fit : (xs : List (List ℕ)) → ((i : ℕ) → get_or (concat xs) i 0 < 256) → (place k : ℕ) → get_or (get_or xs place []) k 0 < 256
+parts_fit [] h place k = omega arith
+parts_fit (x ∷ xs) h zero k =
+    elim (cases_lt k (length x)) [
+      | inl lt ↦ rw (sym (get_or_append_left x (concat xs) 0 k lt)) (h k)
+      | inr ge ↦ rw (get_or_past x k 0 ge) (omega arith)
+    ]
+parts_fit (x ∷ xs) h (suc place) k =
+    parts_fit xs (λ i. rw (sym (get_or-append-add x (concat xs) i 0)) (h (length x + i))) place k
+
+-- a disk of bytes has nothing else
+pub has_bytes : (f : Format) (bytes : List ℕ) → format_of_length (length bytes) ≡ Some f → ((i : ℕ) → get_or bytes i 0 < 256) → HasBytes (disk_of f bytes)
+has_bytes f bytes h below =
+    let joined = joined_sectors bytes _ (format_size f _ h) in
+    record { bytes_fit = λ place k. parts_fit (sectors_of bytes) (λ i. rw joined (below i)) place k }

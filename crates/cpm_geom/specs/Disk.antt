@@ -1,5 +1,5 @@
 -- A disk as its format and its sectors, and its records by number.
-use Rattle.std.specs.Prelude.{◌≡◌, ℕ, ◌+◌, ◌-◌, ◌*◌, ◌/◌, ◌<◌, List, [], length, map, replicate, slice_range, slice_index_or, slice_set}
+use Rattle.std.specs.Prelude.{◌≡◌, ℕ, ◌+◌, ◌-◌, ◌*◌, ◌/◌, ◌<◌, List, [], length, map, replicate, slice_range, slice_index, slice_index_or, slice_set}
 use Rattle.std.specs.List.{range_with_len}
 use Rattle.cpm_geom.specs.declared.format.Format.{Format}
 use Rattle.cpm_geom.specs.Geometry.{dpb_of, tracks_of, sectors_per_track, sector_count, record_index}
@@ -28,6 +28,10 @@ pub record IsDisk (d : Disk) : Type 0 where
 -- the sector at a place of the image
 abbrev pub sector_at : Disk → ℕ → List ℕ
 sector_at d place = slice_index_or d.sectors place []
+
+-- own: each number of each sector is below 256
+pub record HasBytes (disk : Disk) : Type 0 where
+  pub bytes_fit : (place k : ℕ) → slice_index (sector_at disk place) k < 256
 
 -- one sector written
 abbrev pub with_sector : Disk → ℕ → List ℕ → Disk

@@ -1,6 +1,6 @@
 //! A disk image: a list of sectors over a flat vector of bytes.
 
-ghost use Rattle.std.specs.Prelude.{◌≡◌, ◌<◌, ◌≤◌, ◌*◌, Some, None, [], length, IfOk, MatchResult, slice_index_or};
+ghost use Rattle.std.specs.Prelude.{◌≡◌, ◌<◌, ◌≤◌, ◌*◌, Some, None, [], length, IfOk, MatchResult, slice_index, slice_index_or, ℕ};
 ghost use Rattle.std.specs.List.{concat};
 ghost use Rattle.cpm_geom.specs.Geometry.{format_of_length, sector_count, sector_index, record_index, IsSector, IsRecord};
 
@@ -41,7 +41,7 @@ impl Model for Image {
 }
 
 impl Image {
-    ghost use Rattle.cpm_geom.specs.Disk.{Disk, blank_disk, disk_of, IsDisk, sector_at, with_sector};
+    ghost use Rattle.cpm_geom.specs.Disk.{Disk, blank_disk, disk_of, HasBytes, IsDisk, sector_at, with_sector};
 
     /// The image of these bytes, which come back where no format has their length. It takes no memory.
     pub fn from_bytes(bytes: Vec<u8>) -> Result<Image, (Vec<u8>, GeomError)>
@@ -88,7 +88,9 @@ impl Image {
     pub fn format(&self) -> Format
         ensures format { result ≡ self.now.format }
         ensures whole { IsDisk self.now }
+        ensures bytes { HasBytes self.now }
     {
+        only_bytes(&self.bytes);
         self.format
     }
 
@@ -168,3 +170,8 @@ impl Image {
         self.bytes[start..start + SECTOR_SIZE].copy_from_slice(data);
     }
 }
+
+/// Does nothing: that each of these numbers is below 256 is known by their type.
+fn only_bytes(bytes: &[u8])
+    ensures { (k : ℕ) → slice_index bytes.now k < 256 }
+{}

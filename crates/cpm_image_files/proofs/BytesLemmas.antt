@@ -6,9 +6,8 @@ use Rattle.std.proofs.lemmas.List.{get_or_past, get_or_append_left, get_or-appen
 use Rattle.std.proofs.lemmas.Bool.{cases_lt}
 use Rattle.cpm_geom.specs.declared.format.Format.{Format}
 use Rattle.cpm_geom.specs.Geometry.{format_of_length, sector_count}
-use Rattle.cpm_geom.specs.Disk.{Disk, IsDisk}
+use Rattle.cpm_geom.specs.Disk.{Disk, HasBytes, IsDisk}
 use Rattle.cpm_geom.proofs.GeometryLemmas.{format_of_size}
-use Rattle.cpm_drive.specs.Laws.{HasBytes}
 
 abbrev AllOf : ℕ → List (List ℕ) → Type 0
 AllOf w xs = (k : ℕ) → k < length xs → length (get_or xs k []) ≡ w

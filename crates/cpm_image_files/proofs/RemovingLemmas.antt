@@ -7,7 +7,7 @@ use Rattle.std.proofs.lemmas.Bool.{false≢true, and_left, and_parts, eqb-true, 
 use Rattle.cpm_geom.specs.declared.dpb.Dpb.{Dpb}
 use Rattle.cpm_geom.specs.declared.format.Format.{Format}
 use Rattle.cpm_geom.specs.Geometry.{dpb_of}
-use Rattle.cpm_geom.specs.Disk.{Disk, IsDisk}
+use Rattle.cpm_geom.specs.Disk.{Disk, HasBytes, IsDisk}
 use Rattle.cpm_volume.specs.declared.extent.Entry.{Entry}
 use Rattle.cpm_volume.specs.declared.answer.Fault.{Fault}
 use Rattle.cpm_volume.specs.Files.{deleted, has_wildcard, no_entry, entry_at, InUse, IsWellFormed, Volume}
@@ -22,7 +22,7 @@ use Rattle.cpm_drive.specs.Drive.{volume_of, new_marks, drive_after}
 use Rattle.cpm_drive.specs.Calls.{logged_in}
 use Rattle.cpm_drive.specs.Reads.{lent_drive}
 use Rattle.cpm_drive.specs.Named.{after_named}
-use Rattle.cpm_drive.specs.Laws.{IsWritable, HasBytes}
+use Rattle.cpm_drive.specs.Laws.{IsWritable}
 use Rattle.cpm_image_files.specs.ImageFiles.{IsSoundDisk, KeepsOtherFiles}
 use Rattle.cpm_image_files.specs.Writing.{IsCleared}
 use Rattle.cpm_image_files.specs.Taken.{fresh_volume, IsLeftBy, IsRemovable, IsRemoved}

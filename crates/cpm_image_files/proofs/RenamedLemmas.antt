@@ -6,7 +6,7 @@ use Rattle.std.proofs.lemmas.Bool.{false≢true, lt-ltb, false_from_ne_true}
 use Rattle.cpm_geom.specs.declared.dpb.Dpb.{Dpb}
 use Rattle.cpm_geom.specs.declared.format.Format.{Format}
 use Rattle.cpm_geom.specs.Geometry.{dpb_of}
-use Rattle.cpm_geom.specs.Disk.{Disk, IsDisk, records_of, sector_at}
+use Rattle.cpm_geom.specs.Disk.{Disk, HasBytes, IsDisk, records_of, sector_at}
 use Rattle.cpm_volume.specs.declared.extent.Entry.{Entry}
 use Rattle.cpm_volume.specs.declared.answer.Fault.{Fault}
 use Rattle.cpm_volume.specs.Encoding.{AreBytes}
@@ -19,7 +19,6 @@ use Rattle.cpm_directory.proofs.CheckedLemmas.{checked}
 use Rattle.cpm_drive.specs.declared.drive.Drive.{Drive}
 use Rattle.cpm_drive.specs.Drive.{volume_of, drive_after, directory_code}
 use Rattle.cpm_drive.specs.Named.{after_named}
-use Rattle.cpm_drive.specs.Laws.{HasBytes}
 use Rattle.cpm_drive.proofs.DiskLemmas.{disk_is_volume}
 use Rattle.cpm_drive.proofs.DiskReach.{calls_reach}
 use Rattle.cpm_image_files.specs.ImageFiles.{record_on, system_sectors, IsSoundDisk}

@@ -1,14 +1,14 @@
 -- The drive that a file is put on, once it is logged in.
 use Rattle.std.proofs.Common.{◌≡◌, ℕ, false, List, None, length, sym, subst, ap, ◌∙◌, arith}
 use Rattle.cpm_geom.specs.Geometry.{dpb_of}
-use Rattle.cpm_geom.specs.Disk.{Disk, IsDisk}
+use Rattle.cpm_geom.specs.Disk.{Disk, HasBytes, IsDisk}
 use Rattle.cpm_volume.specs.declared.fcb.Fcb.{Fcb}
 use Rattle.cpm_directory.specs.Directory.{entries_of}
 use Rattle.cpm_drive.specs.declared.drive.Drive.{Drive}
 use Rattle.cpm_drive.specs.Drive.{new_marks}
 use Rattle.cpm_drive.specs.Calls.{logged_in}
 use Rattle.cpm_drive.specs.Reads.{lent_drive}
-use Rattle.cpm_drive.specs.Laws.{HasBytes, IsWritable}
+use Rattle.cpm_drive.specs.Laws.{IsWritable}
 use Rattle.cpm_image_files.specs.ImageFiles.{records_for, file_refusal_of}
 use Rattle.cpm_image_files.specs.Writing.{HasRoomForFile, IsWriting}
 use Rattle.cpm_image_files.proofs.Amounts.{room_of, room_less}

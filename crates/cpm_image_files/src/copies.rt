@@ -3,8 +3,7 @@
 ghost use Rattle.std.specs.Prelude.{◌≡◌, ◌≢◌, ◌<◌, ℕ, Some, None, IfOk, length, slice_index};
 ghost use Rattle.std.specs.List.{concat};
 ghost use Rattle.cpm_geom.specs.Geometry.{format_of_length};
-ghost use Rattle.cpm_geom.specs.Disk.{IsDisk};
-ghost use Rattle.cpm_drive.specs.Laws.{HasBytes};
+ghost use Rattle.cpm_geom.specs.Disk.{HasBytes, IsDisk};
 
 use cpm_geom::Image;
 use std::alloc::{AllocError, Global};

@@ -1,8 +1,7 @@
 //! Takes a file off a disk.
 
 ghost use Rattle.std.specs.Prelude.{MatchOption, MatchResult};
-ghost use Rattle.cpm_geom.specs.Disk.{IsDisk};
-ghost use Rattle.cpm_drive.specs.Laws.{HasBytes};
+ghost use Rattle.cpm_geom.specs.Disk.{HasBytes, IsDisk};
 ghost use Rattle.cpm_image_files.specs.ImageFiles.{IsSoundDisk};
 ghost use Rattle.cpm_image_files.specs.Taken.{IsRemovable, IsRemoved, IsRemovalReason, IsRemovalRefusal};
 

@@ -2,12 +2,11 @@
 
 ghost use Rattle.std.specs.Prelude.{◌≡◌, ◌≤◌, ◌+◌, ◌*◌, ◌/◌, ◌%◌, ◌&&◌, not, MatchOption, MatchResult, length};
 ghost use Rattle.std.specs.List.{list_any};
-ghost use Rattle.cpm_geom.specs.Disk.{IsDisk};
+ghost use Rattle.cpm_geom.specs.Disk.{HasBytes, IsDisk};
 ghost use Rattle.cpm_volume.specs.Encoding.{AreBytes};
 ghost use Rattle.cpm_volume.specs.Files.{same_name};
 ghost use Rattle.cpm_volume.specs.Names.{is_named, first_named, with_attributes};
 ghost use Rattle.cpm_directory.specs.Directory.{entries_of};
-ghost use Rattle.cpm_drive.specs.Laws.{HasBytes};
 ghost use Rattle.cpm_image_files.specs.ImageFiles.{IsSoundDisk};
 ghost use Rattle.cpm_image_files.specs.Taken.{kept_name, IsRenamable, IsRenamed, IsRenameReason, IsRenameRefusal};
 
