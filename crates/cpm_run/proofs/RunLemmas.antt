@@ -1,7 +1,7 @@
 -- The calls that a run has made of a store.
 use Rattle.std.proofs.Common.{◌≡◌, ⊎_elim, subst, inl, inr, None, ℕ, List, [], ◌∷◌, ◌++◌}
 use Rattle.std.specs.Prelude.{Option}
-use Rattle.cpm_batch.specs.Inputs.{AreInputs, ImageIn, IsReadRefusal, Need, ForkedScriptIn, ScriptIn, SessionInput, needs_of}
+use Rattle.cpm_batch.specs.Inputs.{AreInputs, ImageIn, IsReadRefusal, Need, ForkedScriptIn, ScriptIn, needs_of}
 use Rattle.cpm_batch.specs.Reads.{AreRead, StopsAtFault, StopsAtInput, StopsAtSession, StopsReading}
 use Rattle.cpm_batch.specs.declared.error.ReadError.{ReadError}
 use Rattle.cpm_batch.specs.declared.error.ReadError.TheVariants as reading
@@ -18,6 +18,7 @@ use Rattle.cpm_run.specs.Refusals.{run_error_of_reading}
 use Rattle.cpm_run.specs.Run.{FailsAtWrite, IsRunRefusal, IsStoppedRun, IsWriteRefusal, outputs_of, config_fault}
 use Rattle.cpm_run.specs.declared.error.RunError.{RunError}
 use Rattle.cpm_run.specs.declared.error.RunError.TheVariants as refusal
+use Rattle.cpm_run.specs.Settled.{SettledSession}
 
 -- what is needed could not be read, or is not what it should be
 pub reading_refused : (config : Config) (old new : Option StoreFiles) (e : ReadError) → config_fault config ≡ None → IsReadRefusal old config e → new ≡ old
@@ -34,7 +35,7 @@ none_for_memory (ImageIn name ∷ ns) log h = ⊎_elim (λ f. f) (λ t. none_for
 none_for_memory (ScriptIn name ∷ ns) log h = ⊎_elim (λ f. f) (λ t. none_for_memory ns t.rest t.goes_on) h
 none_for_memory (ForkedScriptIn name at before ∷ ns) log h = ⊎_elim (λ f. f) (λ t. none_for_memory ns t.rest t.goes_on) h
 
-none_in_sessions : (before : List SessionInput) (ss : List SessionConfig) (log : List StoreAccess) → StopsAtSession before ss reading.OutOfMemory log → ⊥
+none_in_sessions : (before : List SettledSession) (ss : List SessionConfig) (log : List StoreAccess) → StopsAtSession before ss reading.OutOfMemory log → ⊥
 none_in_sessions before [] log h = h
 none_in_sessions before (s ∷ ss) log h =
     ⊎_elim (λ f. none_for_memory (needs_of before s) log f) (λ t. none_in_sessions (before ++ t.0 ∷ []) ss t.2.rest t.2.goes_on) h
@@ -57,7 +58,7 @@ module _ {S : Type 0} (does : S → StoreAccess → S → Type 0) (config : Conf
   writing_stopped ps old new _ r h = absurd r
 
   -- behind the reads, a write that failed
-  pub fails_at_write : (between : S) (system : Disk) (inputs : List SessionInput) (ps : List NamedBytes) (place : ℕ) → ps ≡ outputs_of system inputs → LogLeadsBy does (AreRead config system inputs) start between
+  pub fails_at_write : (between : S) (system : Disk) (inputs : List SettledSession) (ps : List NamedBytes) (place : ℕ) → ps ≡ outputs_of system inputs → LogLeadsBy does (AreRead config system inputs) start between
       → LogLeadsBy does (StopsAfter ps place) between end → FailsAtWrite does config start end
   fails_at_write between system inputs ps place is reads writes = record {
     system = system;
@@ -68,13 +69,13 @@ module _ {S : Type 0} (does : S → StoreAccess → S → Type 0) (config : Conf
   }
 
   -- behind the reads, all writes
-  pub read_and_written : (between : S) (system : Disk) (inputs : List SessionInput) (ps : List NamedBytes) → ps ≡ outputs_of system inputs → LogLeadsBy does (AreRead config system inputs) start between
+  pub read_and_written : (between : S) (system : Disk) (inputs : List SettledSession) (ps : List NamedBytes) → ps ≡ outputs_of system inputs → LogLeadsBy does (AreRead config system inputs) start between
       → LogLeadsBy does (AreWrites ps) between end → LogLeadsBy does (Then (AreRead config system inputs) (AreWrites (outputs_of system inputs))) start end
   read_and_written between system inputs ps is reads writes =
       ran_then does (AreRead config system inputs) (AreWrites (outputs_of system inputs)) start between end reads (subst (λ (qs : List NamedBytes). LogLeadsBy does (AreWrites qs) between end) is writes)
 
 -- where playing is refused
-pub play_refused : (config : Config) (system : Disk) (inputs : List SessionInput) (old new : Option StoreFiles) (e : RunError) → config_fault config ≡ None → AreInputs old config system inputs → new ≡ old
+pub play_refused : (config : Config) (system : Disk) (inputs : List SettledSession) (old new : Option StoreFiles) (e : RunError) → config_fault config ≡ None → AreInputs old config system inputs → new ≡ old
     → IsSessionsRefusal config (new_host system config.frames) inputs e → IsRunRefusal config old new e
 play_refused config system inputs old new (refusal.SessionRefused name fault) faultless read same r =
     (faultless, r.0, record { system = system; inputs = inputs; read = read; refused = r.1 }, same)
@@ -83,7 +84,7 @@ play_refused config system inputs old new (refusal.FramesExceeded name quotas fr
 play_refused config system inputs old new refusal.OutOfMemory faultless read same r = inl same
 play_refused config system inputs old new _ faultless read same r = absurd r
 
-pub play_stopped : {S : Type 0} → (does : S → StoreAccess → S → Type 0) (config : Config) (old new : S) (system : Disk) (inputs : List SessionInput) (e : RunError) → LogLeadsBy does AreNoWrites old new
+pub play_stopped : {S : Type 0} → (does : S → StoreAccess → S → Type 0) (config : Config) (old new : S) (system : Disk) (inputs : List SettledSession) (e : RunError) → LogLeadsBy does AreNoWrites old new
     → IsSessionsRefusal config (new_host system config.frames) inputs e → IsStoppedRun does config old new e
 play_stopped does config old new system inputs (refusal.WriteFault name) calls r = absurd r
 play_stopped does config old new system inputs (refusal.FileRefused e) calls r = absurd r

@@ -5,7 +5,7 @@ use Rattle.std.specs.declared.alloc.Global.{Global}
 use Rattle.std.proofs.lemmas.Bool.{and_parts}
 use Rattle.std.proofs.lemmas.Bool.Decides.{nat_tests}
 use Rattle.std.proofs.lemmas.List.{map-append}
-use Rattle.cpm_batch.specs.Inputs.{AllInputs, HasForkedKeys, HasInputOf, HasKeys, IsForkedInput, IsOpenedInput, SessionInput, StartInput}
+use Rattle.cpm_batch.specs.Inputs.{AllInputs, HasForkedKeys, HasInputOf, HasKeys, IsForkedInput, IsOpenedInput, StartInput}
 use Rattle.cpm_config.specs.Entries.{SessionEntries}
 use Rattle.cpm_config.specs.Rules.{at_fault, fork_field_fault, forks_fault, is_at, origin_fault, origin_view, parent_in, session_view}
 use Rattle.cpm_config.specs.declared.config.Origin.{Origin}
@@ -24,6 +24,7 @@ use Rattle.cpm_store.specs.Files.{StoreFiles, StoreName}
 use Rattle.cpm_play.specs.Playing.{IsInOrder}
 use Rattle.cpm_play.proofs.ScriptLemmas.{script-order}
 use Rattle.cpm_run.specs.Playing.{ArePressable, IsForkPressable, IsPressableBy}
+use Rattle.cpm_run.specs.Settled.{SettledSession}
 
 -- the keys can be pressed
 abbrev pub IsGood : List Key → Type 0
@@ -75,31 +76,31 @@ at_within (Some parent) steps at none = by_test (is_at parent.steps (pos steps) 
 -- ---- of each session
 
 -- the keys of each are not too many
-abbrev AreFew : List SessionInput → Type 0
-AreFew is = (place : ℕ) (i : SessionInput) → slice_get is place ≡ Some i → length i.keys ≤ 4096
+abbrev AreFew : List SettledSession → Type 0
+AreFew is = (place : ℕ) (i : SettledSession) → slice_get is place ≡ Some i → length i.keys ≤ 4096
 
-few_more : (is : List SessionInput) (i : SessionInput) → AreFew is → length i.keys ≤ 4096 → AreFew (is ++ i ∷ [])
-few_more [] i all one zero j there = let same : i ≡ j = cc in subst (λ (x : SessionInput). length x.keys ≤ 4096) same one
+few_more : (is : List SettledSession) (i : SettledSession) → AreFew is → length i.keys ≤ 4096 → AreFew (is ++ i ∷ [])
+few_more [] i all one zero j there = let same : i ≡ j = cc in subst (λ (x : SettledSession). length x.keys ≤ 4096) same one
 few_more [] i all one (suc place) j there = absurd (cc)
 few_more (k ∷ is) i all one zero j there = all zero j there
 few_more (k ∷ is) i all one (suc place) j there = few_more is i (λ p x at. all (suc p) x at) one place j there
 
-there_before : (before is : List SessionInput) (place : ℕ) (i : SessionInput) → slice_get before place ≡ Some i → slice_get (before ++ is) place ≡ Some i
+there_before : (before is : List SettledSession) (place : ℕ) (i : SettledSession) → slice_get before place ≡ Some i → slice_get (before ++ is) place ≡ Some i
 there_before [] is place i there = absurd (cc)
 there_before (k ∷ before) is zero i there = there
 there_before (k ∷ before) is (suc place) i there = there_before before is place i there
 
 -- one of them, behind those before it
-record IsGoodInput (all : List SessionInput) (i : SessionInput) : Type 0 where
+record IsGoodInput (all : List SettledSession) (i : SettledSession) : Type 0 where
   few : length i.keys ≤ 4096
   pressable : IsPressableBy all i.start i
 
-opened_good : (files : Option StoreFiles) (all : List SessionInput) (cpu : Cpu) (quota : ℕ) (names : List (String Global)) (i : SessionInput) → IsOpenedInput files cpu quota names i → IsGoodInput all i
+opened_good : (files : Option StoreFiles) (all : List SettledSession) (cpu : Cpu) (quota : ℕ) (names : List (String Global)) (i : SettledSession) → IsOpenedInput files cpu quota names i → IsGoodInput all i
 opened_good files all cpu quota names i h =
     let good = session_good files i.session.keys i.keys h.keys in
     record { few = good.1; pressable = subst (λ (b : StartInput). IsPressableBy all b i) (sym h.start) good }
 
-fork_good : (files : Option StoreFiles) (before is : List SessionInput) (name : StoreName) (at : ℕ) (i : SessionInput) → AreFew before → IsForkedInput files before name at i → at ≤ i.session.steps
+fork_good : (files : Option StoreFiles) (before is : List SettledSession) (name : StoreName) (at : ℕ) (i : SettledSession) → AreFew before → IsForkedInput files before name at i → at ≤ i.steps
     → IsGoodInput (before ++ is) i
 fork_good files before is name at i few h within =
     let parent = h.parent in
@@ -117,34 +118,34 @@ fork_good files before is name at i few h within =
     } in
     record { few = keys.few; pressable = subst (λ (b : StartInput). IsPressableBy (before ++ is) b i) (sym h.start) can }
 
-input_good : (files : Option StoreFiles) (before is : List SessionInput) (o : Origin) (i : SessionInput) → AreFew before → HasInputOf files before o i
-    → origin_fault (map (λ x. session_view x.session) before) (pos i.session.steps) (origin_view o) ≡ None → IsGoodInput (before ++ is) i
+input_good : (files : Option StoreFiles) (before is : List SettledSession) (o : Origin) (i : SettledSession) → AreFew before → HasInputOf files before o i
+    → origin_fault (map (λ x. session_view x.session) before) (pos i.steps) (origin_view o) ≡ None → IsGoodInput (before ++ is) i
 input_good files before is (origin.Opened cpu quota drives) i few h none = opened_good files (before ++ is) cpu quota drives.items i h
 input_good files before is (origin.Forked parent at) i few h none =
-    fork_good files before is (string_bytes parent) at i few h (at_within (parent_in (map (λ x. session_view x.session) before) (string_bytes parent)) i.session.steps at none)
+    fork_good files before is (string_bytes parent) at i few h (at_within (parent_in (map (λ x. session_view x.session) before) (string_bytes parent)) i.steps at none)
 
-at_place : (all : List SessionInput) (i : SessionInput) (is : List SessionInput) → IsPressableBy all i.start i → ((place : ℕ) → IfSome (slice_get is place) (λ j. IsPressableBy all j.start j))
+at_place : (all : List SettledSession) (i : SettledSession) (is : List SettledSession) → IsPressableBy all i.start i → ((place : ℕ) → IfSome (slice_get is place) (λ j. IsPressableBy all j.start j))
     → (place : ℕ) → IfSome (slice_get (i ∷ is) place) (λ j. IsPressableBy all j.start j)
 at_place all i is first rest zero = first
 at_place all i is first rest (suc place) = rest place
 
-seen_sessions : (is : List SessionInput) → map (λ x. session_view x.session) is ≡ map session_view (map (λ i. i.session) is)
+seen_sessions : (is : List SettledSession) → map (λ x. session_view x.session) is ≡ map session_view (map (λ i. i.session) is)
 seen_sessions [] = refl
 seen_sessions (i ∷ is) = ap (λ ss. session_view i.session ∷ ss) (seen_sessions is)
 
-pressable_from : (files : Option StoreFiles) (n : ℕ) (before is : List SessionInput) → AreFew before → AllInputs files before is
+pressable_from : (files : Option StoreFiles) (n : ℕ) (before is : List SettledSession) → AreFew before → AllInputs files before is
     → forks_fault n (map (λ x. session_view x.session) before) (map (λ x. session_view x.session) is) ≡ None
     → (place : ℕ) → IfSome (slice_get is place) (λ i. IsPressableBy (before ++ is) i.start i)
 pressable_from files n before [] few h none place = tt
 pressable_from files n before (i ∷ is) few h none place =
     let apart = neither n (fork_field_fault (map (λ x. session_view x.session) before) (session_view i.session)) _ none in
     let good = input_good files before (i ∷ is) i.session.origin i few h.0 apart.0 in
-    let later = ap (λ (seen : List SessionEntries). forks_fault (n + 1) seen (map (λ x. session_view x.session) is)) (map-append (λ (x : SessionInput). session_view x.session) before (i ∷ [])) ∙ apart.1 in
+    let later = ap (λ (seen : List SessionEntries). forks_fault (n + 1) seen (map (λ x. session_view x.session) is)) (map-append (λ (x : SettledSession). session_view x.session) before (i ∷ [])) ∙ apart.1 in
     at_place (before ++ i ∷ is) i is good.pressable
-    (λ next. subst (λ (all : List SessionInput). IfSome (slice_get is next) (λ j. IsPressableBy all j.start j)) (append_assoc before (i ∷ []) is)
+    (λ next. subst (λ (all : List SettledSession). IfSome (slice_get is next) (λ j. IsPressableBy all j.start j)) (append_assoc before (i ∷ []) is)
     (pressable_from files (n + 1) (before ++ i ∷ []) is (few_more before i few good.few) h.1 later next)) place
 
-pub inputs_pressable : (files : Option StoreFiles) (sessions : List SessionConfig) (is : List SessionInput) → map (λ i. i.session) is ≡ sessions → AllInputs files [] is
+pub inputs_pressable : (files : Option StoreFiles) (sessions : List SessionConfig) (is : List SettledSession) → map (λ i. i.session) is ≡ sessions → AllInputs files [] is
     → forks_fault 1 [] (map session_view sessions) ≡ None → ArePressable is
 inputs_pressable files sessions is same h none =
     let seen : map (λ x. session_view x.session) is ≡ map session_view sessions = seen_sessions is ∙ ap (map session_view) same in
