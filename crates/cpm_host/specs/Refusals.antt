@@ -4,7 +4,7 @@ use Rattle.cpm_command_line.specs.declared.fault.UsageError.{UsageError}
 use Rattle.cpm_command_line.specs.declared.fault.UsageError.TheVariants as usage
 use Rattle.cpm_host.specs.declared.error.HostError.{HostError}
 use Rattle.cpm_host.specs.declared.error.HostError.TheVariants.{Usage, NotText, CheckRefused, DiskRefused, FileUnreadable}
-use Rattle.cpm_host.specs.declared.error.HostError.TheVariants.{FileUnwritable, InputUnreadable, NoSession, NotAFolder, NotOpened}
+use Rattle.cpm_host.specs.declared.error.HostError.TheVariants.{FileUnwritable, InputUnreadable, NotAFolder}
 use Rattle.cpm_host.specs.declared.error.HostError.TheVariants.{OutputUnwritable, SourceRefused, OutOfMemory, OpeningRefused}
 use Rattle.cpm_host.specs.declared.error.HostError.TheVariants.{ProgramTooLong, RecordUnwritable, RunRefused, TailRefused}
 use Rattle.cpm_check.specs.Check.{check_status_of as status_of_check}
@@ -29,8 +29,6 @@ use Rattle.cpm_play.specs.declared.live.LiveError.TheVariants as live
 abbrev pub status_of : HostError → ℕ
 status_of (Usage refusal) = 1
 status_of NotText = 1
-status_of (NoSession name) = 1
-status_of (NotOpened name) = 1
 status_of (TailRefused word) = 1
 status_of (RunRefused e) = status_of_run e
 status_of (DiskRefused e) = status_of_disk_command e

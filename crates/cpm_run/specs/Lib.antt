@@ -4,3 +4,4 @@ pub mod Refusals
 pub mod Refusing
 pub mod Run
 pub mod Settled
+pub mod Settling

@@ -1,5 +1,5 @@
 -- When a run is refused, and what it leaves then. All of it is own.
-use Rattle.std.specs.Prelude.{⊤, ◌≡◌, ◌≢◌, ◌⊎◌, ◌<◌, ◌+◌, ℕ, List, [], ◌∷◌, ◌++◌, length, map, chars, slice_get, Option, Some, None, option_map, string_bytes}
+use Rattle.std.specs.Prelude.{⊤, Bool, ◌≡◌, ◌≢◌, ◌⊎◌, ◌<◌, ◌+◌, ℕ, List, [], ◌∷◌, ◌++◌, length, map, chars, slice_get, Option, Some, None, option_map, string_bytes}
 use Rattle.cpm_batch.specs.Inputs.{AreInputs, IsInputFault, IsOpened, SessionInput, StartInput}
 use Rattle.cpm_batch.specs.Reads.{AreRead, StopsAtInput}
 use Rattle.cpm_batch.specs.declared.error.ReadError.TheVariants as reading
@@ -64,13 +64,6 @@ IsPlaceRefusal config options (refusal.NoSession shown) = IsNoSession config opt
 IsPlaceRefusal config options (refusal.NotOpened shown) = IsForkedSession config options shown
 IsPlaceRefusal config options _ = ⊥
 
--- a session's opening or its fork is refused
-pub record IsOpenRefusal (config : Config) (fault : OpenError) (old : Option StoreFiles) : Type 0 where
-  pub system : Disk
-  pub inputs : List SessionInput
-  pub read : AreInputs old config system inputs
-  pub refused : IsFirstRefused (starts_read inputs) (new_host system config.frames) (starts_read inputs) fault
-
 -- ---- while they are settled
 
 -- how a session that begins so is cut short while one types, and what its streams then are
@@ -86,11 +79,8 @@ IsTypingRefusal system start io (refusal.RecordUnwritable reason) = IsSessionCut
 IsTypingRefusal system start io refusal.OutOfMemory = ⊤
 IsTypingRefusal system start io _ = ⊥
 
--- all openings were accepted, with what the files held; and then the session at which one typed was cut short
-pub record IsTypingCut (config : Config) (options : RunOptions) (io : Streams) (old : Option StoreFiles) (e : LiveError) : Type 0 where
-  pub system : Disk
-  pub inputs : List SessionInput
-  pub read : AreInputs old config system inputs
+-- all openings were accepted, and then the session at which one typed was cut short
+pub record IsTypingCut (config : Config) (options : RunOptions) (io : Streams) (system : Disk) (inputs : List SessionInput) (e : RunError) : Type 0 where
   pub accepted : AllAccepted (starts_read inputs) (new_host system config.frames) (starts_read inputs)
   pub name : StoreName
   pub asked : option_map (λ n. n.now) options.typed ≡ Some name
@@ -99,7 +89,7 @@ pub record IsTypingCut (config : Config) (options : RunOptions) (io : Streams) (
   pub first : place_of name (map session_view config.sessions.items) ≡ Some place
   pub there : slice_get inputs place ≡ Some input
   pub opened : IsOpened input.start
-  pub short : IsSessionCut system input.start io e
+  pub cut : IsTypingRefusal system input.start io e
 
 -- a session has too many keys, with those that the one had before that it is forked from
 pub record IsOverfull (p : SessionPart) (i : SessionInput) (shown : ShownWord) : Type 0 where
@@ -107,23 +97,45 @@ pub record IsOverfull (p : SessionPart) (i : SessionInput) (shown : ShownWord) :
   pub told : IsShownAs (string_bytes i.session.name) shown
 
 -- the first sessions were settled, and the next one has too many keys
-pub record IsOverfullIn (system : Disk) (options : RunOptions) (typed : Option TypedSession) (sessions : List SessionConfig) (inputs : List SessionInput)
+pub record IsOverfullIn (system : Disk) (stops_idle : Bool) (typed : Option TypedSession) (sessions : List SessionConfig) (inputs : List SessionInput)
     (shown : ShownWord) : Type 0 where
   pub done : List SessionInput
   pub input : SessionInput
   pub rest : List SessionInput
   pub order : inputs ≡ done ++ input ∷ rest
   pub settled : List SettledSession
-  pub before : AreSettled system options.stops_idle typed sessions [] done settled
+  pub before : AreSettled system stops_idle typed sessions [] done settled
   pub over : IsOverfull (part_of typed sessions settled input) input shown
 
-pub record HasTooManyKeys (config : Config) (options : RunOptions) (io : Streams) (old : Option StoreFiles) (shown : ShownWord) : Type 0 where
+-- all openings were accepted, and what was typed was typed
+pub record HasTooManyKeys (config : Config) (options : RunOptions) (io : Streams) (system : Disk) (inputs : List SessionInput) (shown : ShownWord) : Type 0 where
+  pub accepted : AllAccepted (starts_read inputs) (new_host system config.frames) (starts_read inputs)
+  pub typed : Option TypedSession
+  pub heard : IsTypedIfAny system config.sessions.items (option_map (λ n. n.now) options.typed) inputs io typed
+  pub over : IsOverfullIn system options.stops_idle typed config.sessions.items inputs shown
+
+-- How a run is refused once all was read: for the first session whose opening is refused, or because there is no room for the forks, before a key is read; or
+-- then while one types, or for a session with too many keys; or if out of memory.
+abbrev pub IsSettleRefusal : Config → RunOptions → Streams → Disk → List SessionInput → RunError → Type 0
+IsSettleRefusal config options io system inputs (refusal.SessionRefused name fault) =
+    (fault ≢ NoFrames) × IsFirstRefused (starts_read inputs) (new_host system config.frames) (starts_read inputs) fault × AreUntouched io
+IsSettleRefusal config options io system inputs (refusal.FramesExceeded name quotas frames) =
+    (quotas ≡ pages_of_config config) × (frames ≡ config.frames)
+    × IsFirstRefused (starts_read inputs) (new_host system config.frames) (starts_read inputs) NoFrames × AreUntouched io
+IsSettleRefusal config options io system inputs (refusal.InputUnreadable reason) = IsTypingCut config options io system inputs (refusal.InputUnreadable reason)
+IsSettleRefusal config options io system inputs (refusal.OutputUnwritable reason) = IsTypingCut config options io system inputs (refusal.OutputUnwritable reason)
+IsSettleRefusal config options io system inputs (refusal.RecordUnwritable reason) = IsTypingCut config options io system inputs (refusal.RecordUnwritable reason)
+IsSettleRefusal config options io system inputs (refusal.TooManyKeys shown) = HasTooManyKeys config options io system inputs shown
+IsSettleRefusal config options io system inputs refusal.OutOfMemory = ⊤
+IsSettleRefusal config options io system inputs _ = ⊥
+
+-- so it was with what the files held
+pub record IsRefusedAfterReading (config : Config) (options : RunOptions) (io : Streams) (old : Option StoreFiles) (e : RunError) : Type 0 where
+  pub faultless : config_fault config ≡ None
   pub system : Disk
   pub inputs : List SessionInput
-  pub typed : Option TypedSession
   pub read : AreInputs old config system inputs
-  pub heard : IsTypedIfAny system config.sessions.items (option_map (λ n. n.now) options.typed) inputs io typed
-  pub over : IsOverfullIn system options typed config.sessions.items inputs shown
+  pub refused : IsSettleRefusal config options io system inputs e
 
 -- ---- where files are written
 
@@ -164,17 +176,9 @@ IsRunRefusal config options io old new (refusal.ConfigRefused (Range place)) = (
 IsRunRefusal config options io old new (refusal.NoSession name) = (config_fault config ≡ None) × IsNoSession config options name × LeavesAll io old new
 IsRunRefusal config options io old new (refusal.NotOpened name) = (config_fault config ≡ None) × IsForkedSession config options name × LeavesAll io old new
 IsRunRefusal config options io old new (refusal.FileRefused e) = (config_fault config ≡ None) × IsInputFault old config e × LeavesAll io old new
-IsRunRefusal config options io old new (refusal.SessionRefused name fault) =
-    (config_fault config ≡ None) × (fault ≢ NoFrames) × IsOpenRefusal config fault old × LeavesAll io old new
-IsRunRefusal config options io old new (refusal.FramesExceeded name quotas frames) =
-    (config_fault config ≡ None) × (quotas ≡ pages_of_config config) × (frames ≡ config.frames) × IsOpenRefusal config NoFrames old × LeavesAll io old new
-IsRunRefusal config options io old new (refusal.InputUnreadable reason) = IsTypingCut config options io old (Unreadable reason) × (new ≡ old)
-IsRunRefusal config options io old new (refusal.OutputUnwritable reason) = IsTypingCut config options io old (Unwritable reason) × (new ≡ old)
-IsRunRefusal config options io old new (refusal.RecordUnwritable reason) = IsTypingCut config options io old (Unrecorded reason) × (new ≡ old)
-IsRunRefusal config options io old new (refusal.TooManyKeys name) = HasTooManyKeys config options io old name × (new ≡ old)
 IsRunRefusal config options io old new (refusal.WriteFault name) = StopsWriting config options io old new (refusal.WriteFault name)
 IsRunRefusal config options io old new refusal.OutOfMemory = (new ≡ old) ⊎ StopsWriting config options io old new refusal.OutOfMemory
-IsRunRefusal config options io old new _ = ⊥
+IsRunRefusal config options io old new e = IsRefusedAfterReading config options io old e × (new ≡ old)
 
 -- Over any store: what is needed was read, then those before one of the files were written, writing that one failed, and no other call was made.
 pub record FailsAtWrite {S : Type 0} (does : S → StoreAccess → S → Type 0) (config : Config) (options : RunOptions) (io : Streams) (old new : S)

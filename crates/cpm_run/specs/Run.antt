@@ -173,9 +173,9 @@ abbrev pub outputs_by : RunOptions → RunParts → List NamedBytes
 outputs_by options r = outputs_of r.system options.records.now r.settled
 
 -- each session is reported; and of each it is told whether it was played by itself and stopped where it waits for a key
-pub record AreReported (parts : RunParts) (report : Report) : Type 0 where
-  pub sessions : map report_view report.sessions.items ≡ reports_of parts.system parts.settled
-  pub idle : report.idle.items ≡ map (λ s. s.is_idle) parts.settled
+pub record AreReportedOf (system : Disk) (settled : List SettledSession) (report : Report) : Type 0 where
+  pub sessions : map report_view report.sessions.items ≡ reports_of system settled
+  pub idle : report.idle.items ≡ map (λ s. s.is_idle) settled
 
 -- Where the store tells its files: with what the files held, the sessions were run alone.
 -- The files that they name were written in order, and nothing else; and each session is reported.
@@ -186,7 +186,7 @@ pub record HasRun (config : Config) (options : RunOptions) (report : Report) (io
   pub faultless : config_fault config ≡ None
   pub played : AreParts config options io parts
   pub written : WhereTold old new (WritesAll (outputs_by options parts))
-  pub reported : AreReported parts report
+  pub reported : AreReportedOf parts.system parts.settled report
 
 -- Over any store: with what its files gave, the sessions were run alone. The calls were the reads of what the configuration needs,
 -- then the writes of the files that the sessions name and of the records, in order, and no others.
@@ -195,7 +195,7 @@ pub record HasAccessed {S : Type 0} (does : S → StoreAccess → S → Type 0) 
   pub parts : RunParts
   pub played : AreParts config options io parts
   pub calls : LogLeadsBy does (Then (AreRead config parts.system parts.inputs) (AreWrites (outputs_by options parts))) old new
-  pub reported : AreReported parts report
+  pub reported : AreReportedOf parts.system parts.settled report
 
 -- ---- refusals
 

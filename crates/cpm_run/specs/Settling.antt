@@ -15,8 +15,10 @@ use Rattle.cpm_script.specs.Script.{most_keys}
 use Rattle.cpm_script.specs.declared.script.Key.{Key}
 use Rattle.cpm_run.specs.Playing.{IsPressableBy}
 use Rattle.cpm_run.specs.Refusing.{IsOverfull}
-use Rattle.cpm_run.specs.Run.{IsOpening}
-use Rattle.cpm_run.specs.Settled.{AreSettled, SessionPart, SettledSession, TypedSession, forked_at, opening_of, part_of, said_at, starts_of, steps_at}
+use Rattle.cpm_slots.specs.Host.{new_host}
+use Rattle.cpm_run.specs.Run.{AllAccepted, IsOpening, starts_read}
+use Rattle.cpm_run.specs.Settled.{AreSettled, AreUntouched, IsTypedIfAny, SessionPart, SettledSession, Streams, TypedSession, forked_at, opening_of, part_of, said_at}
+use Rattle.cpm_run.specs.Settled.{steps_at}
 use Rattle.cpm_run.specs.declared.options.RunOptions.{RunOptions}
 use Rattle.cpm_run.specs.declared.error.RunError.{RunError}
 use Rattle.cpm_run.specs.declared.error.RunError.TheVariants as refusal
@@ -115,9 +117,15 @@ trial_of i = record { session = i.session; start = trial_start i.start; keys = [
 abbrev pub AreOpenable : List StartInput → Type 0
 AreOpenable = All (λ b. IsOpened b → IsOpenable b)
 
--- no session is played by itself, or all that are opened can be
+-- no session is played by itself
+pub record ArePlain (stops_idle : Bool) (typed : Option TypedSession) (is : List SessionInput) : Type 0 where
+  pub untyped : typed ≡ None
+  pub runs_on : stops_idle ≡ false
+  pub timed : All (λ i. IsSome (timed_keys i.said)) is
+
+-- so it is, or all that are opened can be
 abbrev pub AreReady : (stops_idle : Bool) → Option TypedSession → List SessionInput → Type 0
-AreReady stops_idle typed is = ((typed ≡ None) × (stops_idle ≡ false) × All (λ i. IsSome (timed_keys i.said)) is) ⊎ AreOpenable (map (λ i. i.start) is)
+AreReady stops_idle typed is = ArePlain stops_idle typed is ⊎ AreOpenable (starts_read is)
 
 -- the place of the session that is to be typed at, where one is, which is opened
 pub record IsTypedIn (config : Config) (name : List ℕ) (place : ℕ) : Type 0 where
@@ -132,6 +140,18 @@ IsTypedPlaceOf config (Some name) place = (n : ℕ) × (place ≡ Some n) × IsT
 
 abbrev pub IsTypedPlace : Config → RunOptions → Option ℕ → Type 0
 IsTypedPlace config options place = IsTypedPlaceOf config (option_map (λ n. n.now) options.typed) place
+
+-- a session is opened in the run where it is in the configuration
+abbrev pub BeginsAsConfigured : SessionInput → Type 0
+BeginsAsConfigured i = is_opened (origin_view i.session.origin) ≡ true → IsOpened i.start
+
+-- All sessions are settled, by what was typed at the one that is named. Their openings were all accepted before, or else no key was read.
+pub record AreSettledBy (config : Config) (options : RunOptions) (io : Streams) (system : Disk) (inputs : List SessionInput) (settled : List SettledSession)
+    : Type 0 where
+  pub typed : Option TypedSession
+  pub judged : AllAccepted (starts_read inputs) (new_host system config.frames) (starts_read inputs) ⊎ AreUntouched io
+  pub heard : IsTypedIfAny system config.sessions.items (option_map (λ n. n.now) options.typed) inputs io typed
+  pub keys : AreSettled system options.stops_idle typed config.sessions.items [] inputs settled
 
 -- ---- refusals
 

@@ -1,10 +1,10 @@
 //! The keys of the sessions of a run as scripts by which they do the same again.
-ghost use Rattle.std.specs.Prelude.{◌≡◌, ◌<◌, IfOk, drop, length, map};
+ghost use Rattle.std.specs.Prelude.{◌≡◌, ◌++◌, IfOk, OnOk, map};
 ghost use Rattle.cpm_script.specs.Recording.{recorded};
 ghost use Rattle.cpm_store.specs.Writes.{named_output};
 ghost use Rattle.cpm_run.specs.Run.{record_of, records_of};
 ghost use Rattle.cpm_run.specs.Settled.{settled_view};
-ghost use Rattle.cpm_run.specs.Settling.{AreBelow80h, AreRecordable};
+ghost use Rattle.cpm_run.specs.Settling.{AreBelow80h, AreSound};
 
 use crate::options::RecordFile;
 use crate::settle::keys_after;
@@ -53,7 +53,7 @@ pub(crate) fn records_of<'a>(
     records: &'a [RecordFile<'a>],
     settled: &[SettledInput<'_>],
 ) -> Result<Vec<Output<'a>>, AllocError>
-    requires { AreRecordable (map settled_view settled.now) }
+    requires { AreSound (map settled_view settled.now) }
     ensures { IfOk result (λ v. map named_output v.items ≡ records_of records.entry.now (map settled_view settled.now)) }
 {
     let mut outputs = Vec::new(alloc);

@@ -43,7 +43,7 @@ fn joined(alloc: Global, first: &[Key], others: &[Key]) -> Result<Vec<Key>, Allo
 }
 
 /// The keys after so many.
-fn keys_after(keys: &[Key], count: usize) -> &[Key]
+pub(crate) fn keys_after(keys: &[Key], count: usize) -> &[Key]
     ensures { result.now ≡ drop count keys.now }
 {
     if count <= keys.len() {
@@ -109,7 +109,7 @@ fn play_part<T: RunWatcher>(
 fn settle_part<T: RunWatcher>(
     alloc: Global,
     system: &Image,
-    name: &str,
+    place: usize,
     part: Part<'_>,
     stops_idle: bool,
     watcher: &mut T,
@@ -129,7 +129,7 @@ fn settle_part<T: RunWatcher>(
             is_idle: false,
         }),
         _ => {
-            watcher.begin(Stage::Alone(name));
+            watcher.begin(Stage::Alone(place));
             play_part(alloc, system, part, stops_idle, watcher)
         }
     }
@@ -161,17 +161,16 @@ fn settle_session<'a, T: RunWatcher>(
         start,
         cues,
     } = input;
-    let name = session.name.as_str();
     let part = part_of(alloc, config, typed, settled, session, &start, cues)?;
     let before = part.before.len();
     if key_count(part.cues.as_slice()) > MOST_KEYS - before {
-        return Err(RunError::TooManyKeys(shown(name)));
+        return Err(RunError::TooManyKeys(shown(session.name.as_str())));
     }
     let PartPlay {
         keys,
         steps,
         is_idle,
-    } = settle_part(alloc, system, name, part, stops_idle, watcher)?;
+    } = settle_part(alloc, system, settled.len(), part, stops_idle, watcher)?;
     Ok(SettledInput {
         session,
         start,

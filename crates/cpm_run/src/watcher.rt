@@ -3,21 +3,21 @@
 use cpm_play::{NoWatcher, Watcher};
 
 /// What a run begins.
-#[derive(Clone, Copy, Debug)]
-pub enum Stage<'a> {
+#[derive(Clone, Copy, Debug, PartialEq, Eq, Drop)]
+pub enum Stage {
     /// One types at a session.
     Typing,
-    /// The session of this name is played by itself.
-    Alone(&'a str),
+    /// The session at this place is played by itself.
+    Alone(usize),
     /// All sessions are played.
     All,
 }
 
 /// Who is told how far sessions have come, and before which of them it is told.
 pub trait RunWatcher: Watcher {
-    fn begin(&mut self, stage: Stage<'_>);
+    fn begin(&mut self, stage: Stage);
 }
 
 impl RunWatcher for NoWatcher {
-    fn begin(&mut self, _stage: Stage<'_>) {}
+    fn begin(&mut self, _stage: Stage) {}
 }

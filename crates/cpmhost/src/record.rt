@@ -14,7 +14,8 @@ use std::io::Write;
 pub struct Record<'a, R: LockableFiles> {
     rt: &'a R,
     begun: Option<OutputFile<'a, R>>,
-    has_keys: bool,
+    /// How many keys it got.
+    keys: usize,
 }
 
 /// The record in the file of a name, which stays as it is until the record has ended; or none.
@@ -33,11 +34,16 @@ pub fn record_in<'a, R: LockableFiles>(
     Ok(Record {
         rt,
         begun,
-        has_keys: false,
+        keys: 0,
     })
 }
 
 impl<R: LockableFiles> Record<'_, R> {
+    /// How many keys it got.
+    pub fn keys(&self) -> usize {
+        self.keys
+    }
+
     /// How many keys it takes: a script has not more.
     pub fn most_keys(&self) -> usize {
         if self.begun.is_some() {
@@ -49,14 +55,11 @@ impl<R: LockableFiles> Record<'_, R> {
 
     /// Ends the record of what came so: it takes its name where that was played to its end. Else the keys so far are left beside, which is said. A record
     /// without a key replaces none.
-    pub fn end<T: Drop>(self, played: Result<T, HostError>) -> Result<T, CommandRefusal> {
-        let Record {
-            rt,
-            begun,
-            has_keys,
-        } = self;
+    pub fn end<T: Drop>(self, played: Result<T, CommandRefusal>) -> Result<T, CommandRefusal> {
+        let Record { rt, begun, keys } = self;
+        let has_keys = keys > 0;
         let Some(begun) = begun else {
-            return Ok(played?);
+            return played;
         };
         match played {
             Ok(played) if !has_keys && begun.is_to_replace() => {
@@ -77,7 +80,7 @@ impl<R: LockableFiles> Record<'_, R> {
                         "cpmhost: the keys so far are in '{path}'"
                     );
                 }
-                Err(CommandRefusal::from(error))
+                Err(error)
             }
         }
     }
@@ -115,13 +118,14 @@ fn left<R: LockableFiles>(rt: &R, begun: OutputFile<'_, R>, has_keys: bool) -> R
 
 impl<R: LockableFiles> Write for Record<'_, R> {
     fn write(&mut self, buf: &[u8]) -> io::Result<usize> {
-        match &mut self.begun {
-            Some(begun) => {
-                self.has_keys = true;
-                begun.write(buf)
-            }
-            None => Ok(buf.len()),
-        }
+        let written = match &mut self.begun {
+            Some(begun) => begun.write(buf)?,
+            None => buf.len(),
+        };
+        // (each key is a line)
+        let lines = buf.iter().take(written).filter(|byte| **byte == b'\n').count();
+        self.keys = self.keys.saturating_add(lines);
+        Ok(written)
     }
 
     fn flush(&mut self) -> io::Result<()> {
