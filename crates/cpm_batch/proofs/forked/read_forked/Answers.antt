@@ -28,7 +28,7 @@ returns-in_err-cues-clause-refusal g c =
     let first = c.known_before-first.result in
     let p = parent_read files c.args.before.now c.args.name.now c.in-Some.parent c.args.at c.index-before-parent.result c.as_slice.result.now first c.requires.before c.requires.parent
     (sym c.in-Some.is ∙ c.session_place.ensures.place) c.in-Some.ensures.within c.index-before-parent.is c.as_slice.ensures.value c.known_before-first.ensures in
-    let q = err_from_is_err_and c.from_residual-in_err-cues.result c.from_residual-in_err-cues.ensures.1 in
+    let q = err_from_is_err_and c.from_residual.result c.from_residual.ensures.1 in
     let script = c.args.session.now.keys in
     let needs = ap (λ (count : ℕ). forked_script_needs c.args.at count script) p.named in
     rw (q.1, q.2) (refusal_as files files _ (forked_script_needs c.args.at first script) _ refl needs c.in_err-cues.ensures.refusal)
@@ -39,7 +39,7 @@ returns-in_err-cues-clause-refused_log g c =
     let first = c.known_before-first.result in
     let p = parent_read files c.args.before.now c.args.name.now c.in-Some.parent c.args.at c.index-before-parent.result c.as_slice.result.now first c.requires.before c.requires.parent
     (sym c.in-Some.is ∙ c.session_place.ensures.place) c.in-Some.ensures.within c.index-before-parent.is c.as_slice.ensures.value c.known_before-first.ensures in
-    let q = err_from_is_err_and c.from_residual-in_err-cues.result c.from_residual-in_err-cues.ensures.1 in
+    let q = err_from_is_err_and c.from_residual.result c.from_residual.ensures.1 in
     let script = c.args.session.now.keys in
     let needs = ap (λ (count : ℕ). forked_script_needs c.args.at count script) p.named in
     rw (q.1, q.2) (stopped_as g.S.Store.does _ (forked_script_needs c.args.at first script) _ c.args.store.now c.read_forked_cues_of.new.store needs c.in_err-cues.ensures.refused_log)
