@@ -22,8 +22,7 @@ returns-in_err-text-clause-refused_log g c =
 pub returns-in-Err-Line-clause-refused_log : goal.returns-in-Err-Line-clause-refused_log
 returns-in-Err-Line-clause-refused_log g c =
     stopped_at g.S.Store.does (ScriptIn c.args.name.now) (Script c.shown.result c.in-Err-Line.number c.in-Err-Line.fault) (Gave c.args.name.now c.in_ok-text.text.items) c.args.store.now
-    c.read_bytes.new.store c.in_ok-text.ensures.gave
-    (
+    c.read_bytes.new.store c.in_ok-text.ensures.gave (
       c.shown.ensures,
       record {
         text = c.in_ok-text.text.items;
