@@ -57,14 +57,12 @@ pub(crate) fn records_of<'a>(
     ensures { IfOk result (λ v. map named_output v.items ≡ records_of records.entry.now (map settled_view settled.now)) }
 {
     let mut outputs = Vec::new(alloc);
-    let mut rest = settled;
-    for record in records {
-        let Some((session, after)) = rest.split_first() else {
+    for (place, record) in records.iter().enumerate() {
+        let Some(session) = settled.get(place) else {
             return Ok(outputs);
         };
         let own = keys_after(session.keys.as_slice(), session.before);
         add_record(alloc, &mut outputs, *record, own)?;
-        rest = after;
     }
     Ok(outputs)
 }

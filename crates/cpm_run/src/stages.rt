@@ -39,7 +39,7 @@ fn waits(cues: &[Cue]) -> bool
 
 /// Whether a session is played by itself before the run: where one types, where sessions stop idle, and where a script waits.
 fn plays_alone(options: RunOptions<'_>, inputs: &[Input<'_>]) -> bool
-    ensures { result ≡ false → (options.typed ≡ None) × ArePlain options.stops_idle None (map given inputs.now) }
+    ensures { result ≡ false → (options.entry.typed ≡ None) × ArePlain options.entry.stops_idle None (map given inputs.now) }
 {
     if options.typed.is_some() || options.stops_idle {
         return true;
@@ -69,11 +69,11 @@ fn type_if_any<I: Read, W: Write, R: Write, T: RunWatcher>(
     requires starts { All BeginsAsConfigured (map given inputs.now.sessions.items) }
     requires accepted { AllAccepted (starts_read (map given inputs.now.sessions.items)) (new_host inputs.now.system config.now.frames)
         (starts_read (map given inputs.now.sessions.items)) }
-    ensures typed { IfOk result (λ t. IsTypedIfAny inputs.now.system config.now.sessions.items (option_map (λ n. n.now) options.typed)
+    ensures typed { IfOk result (λ t. IsTypedIfAny inputs.now.system config.now.sessions.items (option_map (λ n. n.now) options.entry.typed)
         (map given inputs.now.sessions.items)
         (streams (I.remaining input.old) (I.remaining input.new) (W.contents out.old) (W.contents out.new) (R.contents «record».old) (R.contents «record».new))
         (typed_view t)) }
-    ensures refusal { IfErr result (IsSettleRefusal config.now options
+    ensures refusal { IfErr result (IsSettleRefusal config.now options.entry
         (streams (I.remaining input.old) (I.remaining input.new) (W.contents out.old) (W.contents out.new) (R.contents «record».old) (R.contents «record».new))
         inputs.now.system (map given inputs.now.sessions.items)) }
 {
@@ -107,11 +107,11 @@ pub(crate) fn settle_inputs<'a, I: Read, W: Write, R: Write, T: RunWatcher>(
     requires starts { All BeginsAsConfigured (map given inputs.sessions.items) }
     requires fit { AreFitInputs None [] (map given inputs.sessions.items) }
     ensures system { IfOk result (λ s. s.system ≡ inputs.entry.system) }
-    ensures settled { IfOk result (λ s. AreSettledBy config.now options
+    ensures settled { IfOk result (λ s. AreSettledBy config.now options.entry
         (streams (I.remaining input.old) (I.remaining input.new) (W.contents out.old) (W.contents out.new) (R.contents «record».old) (R.contents «record».new))
         inputs.entry.system (map given inputs.entry.sessions.items) (map settled_view s.sessions.items)) }
     ensures sound { IfOk result (λ s. AreSound (map settled_view s.sessions.items)) }
-    ensures refusal { IfErr result (IsSettleRefusal config.now options
+    ensures refusal { IfErr result (IsSettleRefusal config.now options.entry
         (streams (I.remaining input.old) (I.remaining input.new) (W.contents out.old) (W.contents out.new) (R.contents «record».old) (R.contents «record».new))
         inputs.entry.system (map given inputs.entry.sessions.items)) }
 {

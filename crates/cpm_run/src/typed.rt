@@ -35,8 +35,8 @@ pub(crate) fn typed_place(
     config: &Config,
     options: RunOptions<'_>,
 ) -> Result<Option<usize>, RunError>
-    ensures place { IfOk result (IsTypedPlace config.now options) }
-    ensures refusal { IfErr result (IsPlaceRefusal config.now options) }
+    ensures place { IfOk result (IsTypedPlace config.now options.entry) }
+    ensures refusal { IfErr result (IsPlaceRefusal config.now options.entry) }
 {
     let Some(name) = options.typed else {
         return Ok(None);
