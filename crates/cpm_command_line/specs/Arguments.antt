@@ -24,8 +24,11 @@ abbrev pub with_arguments : App → List Argument → App
 with_arguments a [] = a
 with_arguments a (argument ∷ rest) = with_arguments (with_rule a (rule_for argument)) rest
 
--- own: the command with these subcommands behind its own
+-- own: the command of a row: its name, with its arguments
+abbrev pub app_for : Bor Text × Bor (List Argument) → App
+app_for row = with_arguments (new_app row.0.now) row.1.now
+
+-- own: the command with the subcommands of these rows behind its own
 abbrev pub with_commands : App → List (Bor Text × Bor (List Argument)) → App
 with_commands a [] = a
-with_commands a (command ∷ rest) =
-    with_commands (with_subcommand a (with_arguments (new_app command.0.now) command.1.now).top) rest
+with_commands a (row ∷ rest) = with_commands (with_subcommand a (app_for row).top) rest

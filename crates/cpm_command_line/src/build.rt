@@ -1,7 +1,7 @@
 //! The commands of `clap` that read the words: tables of arguments, and the functions that make a command of one.
 ghost use Rattle.std.specs.Prelude.{IfOk};
-ghost use Rattle.clap.specs.Words.{new_app};
-ghost use Rattle.cpm_command_line.specs.Arguments.{rule_for, with_arguments, with_commands};
+ghost use Rattle.clap.specs.Words.{App, new_app, with_subcommand};
+ghost use Rattle.cpm_command_line.specs.Arguments.{app_for, rule_for, with_arguments, with_commands};
 ghost use Rattle.cpm_command_line.specs.CommandLine.{IsArgumentOf, IsCommandOf, flag, host_app, operand, repeated_option};
 ghost use Rattle.cpm_command_line.specs.CommandLine.{steps_option, top_app, value_option, words_left_out};
 ghost use Rattle.cpm_command_line.specs.DiskLine.{disk_app, operands, user_if_any_option, user_option};
@@ -182,30 +182,21 @@ fn value_argument<'a>(alloc: Global, name: &'a str, shown: &'a str) -> Arg<'a>
 fn repeated_argument<'a>(alloc: Global, name: &'a str, shown: &'a str) -> Arg<'a>
     ensures { IsArgumentOf (repeated_option name.now) result }
 {
-    Arg::new(alloc, name)
-        .long(name)
-        .value_name(shown)
-        .action(ArgAction::Append)
+    value_argument(alloc, name, shown).action(ArgAction::Append)
 }
 
 /// `--steps N`
 fn steps_argument<'a>(alloc: Global) -> Arg<'a>
     ensures { IsArgumentOf steps_option result }
 {
-    Arg::new(alloc, "steps")
-        .long("steps")
-        .value_name("N")
-        .value_parser(clap::value_parser!(u64))
+    value_argument(alloc, "steps", "N").value_parser(clap::value_parser!(u64))
 }
 
 /// `--user N`, which may be left out.
 fn user_if_any_argument<'a>(alloc: Global) -> Arg<'a>
     ensures { IsArgumentOf user_if_any_option result }
 {
-    Arg::new(alloc, "user")
-        .long("user")
-        .value_name("N")
-        .value_parser(clap::value_parser!(u64).range(0..=15))
+    value_argument(alloc, "user", "N").value_parser(clap::value_parser!(u64).range(0..=15))
 }
 
 /// `--user N`, which is 0 where it is left out.
@@ -256,6 +247,19 @@ fn top_command<'a>(alloc: Global, name: &'a str) -> Command<'a>
         .disable_help_subcommand(true)
 }
 
+/// The command with one more subcommand.
+fn with_command<'a>(
+    alloc: Global,
+    command: Command<'a>,
+    inner: NamedCommand,
+) -> Result<Command<'a>, AllocError>
+    ensures { (a : App) → IsCommandOf a command.entry
+        → IfOk result (IsCommandOf (with_subcommand a (app_for inner.entry).top)) }
+{
+    let (name, arguments) = inner;
+    command.subcommand(command_of(alloc, name, arguments)?)
+}
+
 /// The command of this name that wants one of these subcommands.
 fn command_with<'a>(
     alloc: Global,
@@ -265,8 +269,8 @@ fn command_with<'a>(
     ensures { IfOk result (IsCommandOf (with_commands (top_app name.entry.now) commands.now)) }
 {
     let mut command = top_command(alloc, name);
-    for (inner, arguments) in commands {
-        command = command.subcommand(command_of(alloc, inner, arguments)?)?;
+    for inner in commands {
+        command = with_command(alloc, command, *inner)?;
     }
     Ok(command)
 }
