@@ -19,15 +19,15 @@ use Rattle.cpm_machine.specs.declared.opening.OpenError.TheVariants as opening
 use Rattle.cpm_machine.specs.declared.opening.Opening.{Opening}
 use Rattle.cpm_play.specs.Players.{HasRoomForForks}
 use Rattle.cpm_slots.specs.Host.{Host, lacks_slot, new_host, quotas_of, refusal_of, room_fault, with_added, with_opened}
-use Rattle.cpm_store.specs.Files.{StoreFiles}
+use Rattle.cpm_store.specs.Files.{StoreFiles, WhereTold}
 use Rattle.cpm_store.specs.Log.{StoreAccess, AreNoWrites, AreWrites, LogLeadsBy, StopsAfter, Then}
-use Rattle.cpm_store.specs.Writes.{NamedBytes, named_output}
+use Rattle.cpm_store.specs.Writes.{NamedBytes, StopsAt, named_output}
 use Rattle.cpm_store.specs.declared.writes.Output.{Output}
 use Rattle.cpm_store.proofs.LogLemmas.{ran_then}
 use Rattle.cpm_run.specs.Playing.{ArePressable, IsPressableBy, IsSessionsRefusal}
 use Rattle.cpm_run.specs.Refusals.{run_error_of_reading}
-use Rattle.cpm_run.specs.Refusing.{IsOutputAt, IsPlaceRefusal, IsRefusedAfterReading, IsRunRefusal, IsSettleRefusal, IsStoppedRun, LeavesAll}
-use Rattle.cpm_run.specs.Run.{AllAccepted, AreParts, IsFirstRefused, IsOpening, IsShortFor, RunParts, config_fault, outputs_by, starts_read}
+use Rattle.cpm_run.specs.Refusing.{FailsAtWrite, IsOutputAt, IsPlaceRefusal, IsRefusedAfterReading, IsRunRefusal, IsSettleRefusal, IsStoppedRun, IsWriteRefusal, LeavesAll, StopsWriting}
+use Rattle.cpm_run.specs.Run.{AllAccepted, AreParts, IsFirstRefused, IsOpening, IsShortFor, RunParts, config_fault, outputs_by, outputs_of, starts_read}
 use Rattle.cpm_run.specs.Settled.{AreSettled, AreUntouched, SettledSession, Streams, TypedSession, starts_of}
 use Rattle.cpm_run.specs.Settling.{AreBelow80h, AreSettledBy, AreSound}
 use Rattle.cpm_run.specs.declared.error.RunError.{RunError}
@@ -191,6 +191,64 @@ module _ {S : Type 0} (does : S → StoreAccess → S → Type 0) (config : Conf
   reading_stopped (reading.Image name count) h = (h.0, ⊎_elim (λ m. let is = m.0 in absurd (cc)) (λ f. f) h.1, h.2)
   reading_stopped (reading.Script name line fault) h = (h.0, ⊎_elim (λ m. let is = m.0 in absurd (cc)) (λ f. f) h.1, h.2)
   reading_stopped reading.OutOfMemory h = inl (h.0, ⊎_elim (λ m. m.1) (λ f. absurd (none_in_input config h.0 f)) h.1, h.2)
+
+-- ---- what was played
+
+-- what comes together in a run that was settled so
+abbrev pub parts_by : (config : Config) (options : RunOptions) (io : Streams) (system : Disk) (inputs : List SessionInput) (settled : List SettledSession) → AreSettledBy config options io system inputs settled → RunParts
+parts_by config options io system inputs settled h = record { system = system; inputs = inputs; typed = h.typed; settled = settled }
+
+pub are_parts : (config : Config) (options : RunOptions) (io : Streams) (system : Disk) (inputs : List SessionInput) (settled : List SettledSession) (h : AreSettledBy config options io system inputs settled)
+    → AllAccepted (starts_of settled) (new_host system config.frames) (starts_of settled) → AreParts config options io (parts_by config options io system inputs settled h)
+are_parts config options io system inputs settled h accepted = record {
+  accepted = subst (λ (bs : List StartInput). AllAccepted bs (new_host system config.frames) bs) (settled_starts system options.stops_idle h.typed config.sessions.items [] inputs settled h.keys) accepted;
+  heard = h.heard;
+  keys = h.keys;
+}
+
+-- where a write is refused
+pub write_refused : (config : Config) (options : RunOptions) (io : Streams) (parts : RunParts) (old new : Option StoreFiles) (ps : List NamedBytes) (place : ℕ) (e : RunError) → AreInputs old config parts.system parts.inputs
+    → AreParts config options io parts → ps ≡ outputs_by options parts → IsWriteRefusal ps place e → WhereTold old new (StopsAt ps place) → IsRunRefusal config options io old new e
+write_refused config options io parts old new ps place e read played are why stopped = by_error e why
+  where
+    stops : (e : RunError) → IsWriteRefusal ps place e → StopsWriting config options io old new e
+    stops e why = record {
+      parts = parts;
+      read = read;
+      played = played;
+      place = place;
+      stopped = subst (λ (qs : List NamedBytes). WhereTold old new (StopsAt qs place)) are stopped;
+      why = subst (λ (qs : List NamedBytes). IsWriteRefusal qs place e) are why;
+    }
+
+    by_error : (e : RunError) → IsWriteRefusal ps place e → IsRunRefusal config options io old new e
+    by_error (refusal.WriteFault name) why = stops (refusal.WriteFault name) why
+    by_error refusal.OutOfMemory why = inr (stops refusal.OutOfMemory why)
+    by_error _ why = absurd why
+
+pub write_stopped : {S : Type 0} → (does : S → StoreAccess → S → Type 0) (config : Config) (options : RunOptions) (io : Streams) (parts : RunParts) (start between end : S) (ps : List NamedBytes) (place : ℕ) (e : RunError)
+    → AreParts config options io parts → ps ≡ outputs_by options parts → IsWriteRefusal ps place e → LogLeadsBy does (AreRead config parts.system parts.inputs) start between
+    → LogLeadsBy does (StopsAfter ps place) between end → IsStoppedRun does config options io start end e
+write_stopped {S} does config options io parts start between end ps place e played are why reads writes = by_error e why
+  where
+    fails : (e : RunError) → IsWriteRefusal ps place e → FailsAtWrite does config options io start end e
+    fails e why = record {
+      parts = parts;
+      played = played;
+      place = place;
+      calls = ran_then does (AreRead config parts.system parts.inputs) (StopsAfter (outputs_by options parts) place) start between end reads
+          (subst (λ (qs : List NamedBytes). LogLeadsBy does (StopsAfter qs place) between end) are writes);
+      why = subst (λ (qs : List NamedBytes). IsWriteRefusal qs place e) are why;
+    }
+
+    by_error : (e : RunError) → IsWriteRefusal ps place e → IsStoppedRun does config options io start end e
+    by_error (refusal.WriteFault name) why = fails (refusal.WriteFault name) why
+    by_error refusal.OutOfMemory why = inr (fails refusal.OutOfMemory why)
+    by_error _ why = absurd why
+
+-- all that is written, over the system drive of the run
+pub outputs_are : (options : RunOptions) (parts : RunParts) (system : Disk) (ps : List NamedBytes) → system ≡ parts.system → ps ≡ outputs_of system options.records.now parts.settled → ps ≡ outputs_by options parts
+outputs_are options parts system ps same are = are ∙ ap (λ (d : Disk). outputs_of d options.records.now parts.settled) same
 
 -- the output at a place, as it is named
 pub output_at : (outputs : List Output) (place : ℕ) (o : Output) (shown : List ℕ) → place < length outputs → o ≡ get_or outputs place o → shown ≡ shown_of (chars o.name.now) → IsOutputAt (map named_output outputs) place shown
