@@ -13,7 +13,7 @@ use Rattle.cpm_config.specs.declared.config.SessionConfig.{SessionConfig}
 use Rattle.cpm_flags.specs.declared.regs.Cpu.{Cpu}
 use Rattle.cpm_geom.specs.Disk.{Disk}
 use Rattle.cpm_machine.specs.MachineState.{opened_machine}
-use Rattle.cpm_machine.specs.Opening.{drives_fault, fault_else}
+use Rattle.cpm_machine.specs.Opening.{drives_fault, fault_else, opening_fault}
 use Rattle.cpm_machine.specs.declared.opening.OpenError.{OpenError}
 use Rattle.cpm_machine.specs.declared.opening.OpenError.TheVariants as opening
 use Rattle.cpm_machine.specs.declared.opening.Opening.{Opening}
@@ -86,8 +86,10 @@ has_number h quota none = by_test (lacks_slot h) refl none
 
 numbered : (h : Host) (o : Opening) → refusal_of h o ≡ None → h.openings ≤ 18446744073709551615 → h.openings + 1 ≤ 18446744073709551615
 numbered h o none low =
-    let open : lacks_slot h ≡ false = has_number h o.quota (second_none _ _ none) in
-    grind (arith, nat_tests)
+    by_test (18446744073709551615) (has_number h o.quota (second_none (opening_fault o) (room_fault h o.quota) none))
+  where
+    by_test : (n : ℕ) → lacks_slot h ≡ false → h.openings + 1 ≤ 18446744073709551615
+    by_test n has = grind (arith, nat_tests)
 
 never_both : (all starts : List StartInput) (h : Host) (fault : OpenError) → h.openings ≤ 18446744073709551615 → AllAccepted all h starts → IsFirstRefused all h starts fault → ⊥
 never_both all [] h opening.NoSlot low room short =
@@ -98,12 +100,12 @@ never_both all [] h opening.NoSlot low room short =
     by_forks (suc n) has over = let r = has (omega arith) in omega (arith, r, over)
 never_both all [] h opening.NoFrames low room short = let f = room.frames in omega (arith, f, short)
 never_both all [] h _ low room short = absurd short
-never_both all (Opens cpu quota drives ∷ starts) h fault low yes no =
-    let same : refusal_of h yes.0 ≡ refusal_of h no.0 = refusal_is h cpu quota drives yes.0 yes.1 ∙ sym (refusal_is h cpu quota drives no.0 no.1) in
-    let next : with_opened h no.0 ≡ with_opened h yes.0 = host_is h cpu quota drives no.0 no.1 ∙ sym (host_is h cpu quota drives yes.0 yes.1) in
-    ⊎_elim (λ refused. let bad : None ≡ Some fault = sym yes.2 ∙ (same ∙ refused) in cc)
-    (λ later. never_both all starts (with_opened h yes.0) fault (numbered h yes.0 yes.2 low) yes.3 (subst (λ (x : Host). IsFirstRefused all x starts fault) next later.1)) no.2
-never_both all (Forks parent at ∷ starts) h fault low yes no = never_both all starts h fault low yes no
+never_both all (Opens cpu quota drives ∷ starts) h fault low was isn =
+    let same : refusal_of h was.0 ≡ refusal_of h isn.0 = refusal_is h cpu quota drives was.0 was.1 ∙ sym (refusal_is h cpu quota drives isn.0 isn.1) in
+    let next : with_opened h isn.0 ≡ with_opened h was.0 = host_is h cpu quota drives isn.0 isn.1 ∙ sym (host_is h cpu quota drives was.0 was.1) in
+    ⊎_elim (λ refused. let bad : None ≡ Some fault = sym was.2 ∙ (same ∙ refused) in cc)
+    (λ later. never_both all starts (with_opened h was.0) fault (numbered h was.0 was.2 low) was.3 (subst (λ (x : Host). IsFirstRefused all x starts fault) next later.1)) isn.2
+never_both all (Forks parent at ∷ starts) h fault low was isn = never_both all starts h fault low was isn
 
 -- ---- refusals
 
@@ -161,7 +163,7 @@ play_settled config options io system inputs settled e h r =
     (settled_starts system options.stops_idle h.typed config.sessions.items [] inputs settled h.keys) r)
   where
     untouched : (fault : OpenError) → IsFirstRefused (starts_read inputs) (new_host system config.frames) (starts_read inputs) fault → AreUntouched io
-    untouched fault no = ⊎_elim (λ yes. absurd (never_both (starts_read inputs) (starts_read inputs) (new_host system config.frames) fault (omega arith) yes no)) (λ same. same) h.judged
+    untouched fault isn = ⊎_elim (λ was. absurd (never_both (starts_read inputs) (starts_read inputs) (new_host system config.frames) fault (omega arith) was isn)) (λ same. same) h.judged
 
     by_error : (e : RunError) → IsSessionsRefusal config (new_host system config.frames) (starts_read inputs) e → IsSettleRefusal config options io system inputs e
     by_error (refusal.SessionRefused name fault) r = (r.0, r.1, untouched fault r.1)
