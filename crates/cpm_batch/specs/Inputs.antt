@@ -98,7 +98,7 @@ timed_keys (Pressed byte ∷ cs) = None
 
 -- how many keys a script is known to have before a count
 abbrev pub known_before : ℕ → List CueText → ℕ
-known_before at said = option_map_or 0 (λ keys. length (keys_before at keys)) (timed_keys said)
+known_before at said = option_map_or (λ keys. length (keys_before at keys)) (timed_keys said) 0
 
 -- ---- for one that is opened
 

@@ -15,7 +15,8 @@ use Rattle.cpm_script.specs.Fork.{forked_cues}
 use Rattle.cpm_script.specs.declared.fault.LineFault.{LineFault}
 use Rattle.cpm_store.specs.Files.{CountsFailure, StoreFiles, StoreName}
 use Rattle.cpm_store.specs.Log.{StoreAccess, AreNoWrites, Gave, Missed, LogLeadsBy, Then}
-use Rattle.cpm_batch.specs.Inputs.{Forks, ForkedScriptIn, ImageIn, IsFileFault, IsImage, IsParent, Need, Opens, ScriptIn, SessionInput, known_before, needed_name, needs_of}
+use Rattle.cpm_batch.specs.Inputs.{Forks, ForkedScriptIn, ImageIn, IsFileFault, IsImage, IsParent, Need, Opens, ScriptIn, SessionInput}
+use Rattle.cpm_batch.specs.Inputs.{known_before, needed_name, needs_of}
 use Rattle.cpm_batch.specs.declared.error.ReadError.{ReadError}
 use Rattle.cpm_batch.specs.declared.error.ReadError.TheVariants.{File, Image, Script, OutOfMemory}
 

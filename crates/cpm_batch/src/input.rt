@@ -225,7 +225,8 @@ fn read_sessions<'a, S: Store>(
 
 /// What a configuration needs: the system drive's image, then of each session the images of its drives and its key
 /// script, each checked before the next is read. A forked session has its parent's drives, and needs its key script
-/// alone: it is judged as one after the keys that its parent is known to have before the fork. No file is changed. Its forks must break no rule, which
+/// alone, which is judged as one after the keys that its parent is known to have before the fork: none are known
+/// where a line of the parent's script waits. No file is changed. Its forks must break no rule, which
 /// `Config::fork_fault` tells.
 ///
 /// The first fault is answered: `File` where a file can't be read, `Image` or `Script` where it holds neither. `OutOfMemory` comes only

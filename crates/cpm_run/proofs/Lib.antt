@@ -1,7 +1,9 @@
 pub mod AtPcLemmas
 pub mod FinishLemmas
+pub mod OrderLemmas
 pub mod PlayLemmas
 pub mod PrepareLemmas
 pub mod RunLemmas
 pub mod ScriptLemmas
 pub mod SlotLemmas
+pub mod TrialLemmas

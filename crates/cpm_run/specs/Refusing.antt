@@ -4,7 +4,6 @@ use Rattle.cpm_batch.specs.Inputs.{AreInputs, IsInputFault, IsOpened, SessionInp
 use Rattle.cpm_batch.specs.Reads.{AreRead, StopsAtInput}
 use Rattle.cpm_batch.specs.declared.error.ReadError.TheVariants as reading
 use Rattle.cpm_command_line.specs.Shown.{shown_of}
-use Rattle.cpm_command_line.specs.declared.fault.ShownWord.{ShownWord}
 use Rattle.cpm_config.specs.Rules.{place_of, session_view}
 use Rattle.cpm_config.specs.declared.config.Config.{Config}
 use Rattle.cpm_config.specs.declared.config.Origin.{Origin}
@@ -31,13 +30,13 @@ use Rattle.cpm_run.specs.declared.error.RunError.TheVariants as refusal
 use Rattle.cpm_run.specs.declared.options.RunOptions.{RunOptions}
 
 -- a name stands so in a refusal
-abbrev pub IsShownAs : StoreName → ShownWord → Type 0
-IsShownAs name shown = shown.bytes ≡ shown_of (chars name)
+abbrev pub IsShownAs : StoreName → List ℕ → Type 0
+IsShownAs name shown = shown ≡ shown_of (chars name)
 
 -- ---- before sessions are played
 
 -- no session has the name of the one that is to be typed at
-pub record IsNoSession (config : Config) (options : RunOptions) (shown : ShownWord) : Type 0 where
+pub record IsNoSession (config : Config) (options : RunOptions) (shown : List ℕ) : Type 0 where
   pub name : StoreName
   pub asked : option_map (λ n. n.now) options.typed ≡ Some name
   pub none : place_of name (map session_view config.sessions.items) ≡ None
@@ -48,7 +47,7 @@ IsForkOrigin (origin.Opened cpu quota drives) = ⊥
 IsForkOrigin (origin.Forked parent at) = ⊤
 
 -- the one of this name is forked
-pub record IsForkedSession (config : Config) (options : RunOptions) (shown : ShownWord) : Type 0 where
+pub record IsForkedSession (config : Config) (options : RunOptions) (shown : List ℕ) : Type 0 where
   pub name : StoreName
   pub asked : option_map (λ n. n.now) options.typed ≡ Some name
   pub place : ℕ
@@ -60,8 +59,8 @@ pub record IsForkedSession (config : Config) (options : RunOptions) (shown : Sho
 
 -- how it is refused where one is to type
 abbrev pub IsPlaceRefusal : Config → RunOptions → RunError → Type 0
-IsPlaceRefusal config options (refusal.NoSession shown) = IsNoSession config options shown
-IsPlaceRefusal config options (refusal.NotOpened shown) = IsForkedSession config options shown
+IsPlaceRefusal config options (refusal.NoSession shown) = IsNoSession config options shown.bytes
+IsPlaceRefusal config options (refusal.NotOpened shown) = IsForkedSession config options shown.bytes
 IsPlaceRefusal config options _ = ⊥
 
 -- ---- while they are settled
@@ -92,13 +91,13 @@ pub record IsTypingCut (config : Config) (options : RunOptions) (io : Streams) (
   pub cut : IsTypingRefusal system input.start io e
 
 -- a session has too many keys, with those that the one had before that it is forked from
-pub record IsOverfull (p : SessionPart) (i : SessionInput) (shown : ShownWord) : Type 0 where
+pub record IsOverfull (p : SessionPart) (i : SessionInput) (shown : List ℕ) : Type 0 where
   pub over : most_keys < length p.before + cued_key_count p.said
   pub told : IsShownAs (string_bytes i.session.name) shown
 
 -- the first sessions were settled, and the next one has too many keys
 pub record IsOverfullIn (system : Disk) (stops_idle : Bool) (typed : Option TypedSession) (sessions : List SessionConfig) (inputs : List SessionInput)
-    (shown : ShownWord) : Type 0 where
+    (shown : List ℕ) : Type 0 where
   pub done : List SessionInput
   pub input : SessionInput
   pub rest : List SessionInput
@@ -108,7 +107,7 @@ pub record IsOverfullIn (system : Disk) (stops_idle : Bool) (typed : Option Type
   pub over : IsOverfull (part_of typed sessions settled input) input shown
 
 -- all openings were accepted, and what was typed was typed
-pub record HasTooManyKeys (config : Config) (options : RunOptions) (io : Streams) (system : Disk) (inputs : List SessionInput) (shown : ShownWord) : Type 0 where
+pub record HasTooManyKeys (config : Config) (options : RunOptions) (io : Streams) (system : Disk) (inputs : List SessionInput) (shown : List ℕ) : Type 0 where
   pub accepted : AllAccepted (starts_read inputs) (new_host system config.frames) (starts_read inputs)
   pub typed : Option TypedSession
   pub heard : IsTypedIfAny system config.sessions.items (option_map (λ n. n.now) options.typed) inputs io typed
@@ -125,7 +124,7 @@ IsSettleRefusal config options io system inputs (refusal.FramesExceeded name quo
 IsSettleRefusal config options io system inputs (refusal.InputUnreadable reason) = IsTypingCut config options io system inputs (refusal.InputUnreadable reason)
 IsSettleRefusal config options io system inputs (refusal.OutputUnwritable reason) = IsTypingCut config options io system inputs (refusal.OutputUnwritable reason)
 IsSettleRefusal config options io system inputs (refusal.RecordUnwritable reason) = IsTypingCut config options io system inputs (refusal.RecordUnwritable reason)
-IsSettleRefusal config options io system inputs (refusal.TooManyKeys shown) = HasTooManyKeys config options io system inputs shown
+IsSettleRefusal config options io system inputs (refusal.TooManyKeys shown) = HasTooManyKeys config options io system inputs shown.bytes
 IsSettleRefusal config options io system inputs refusal.OutOfMemory = ⊤
 IsSettleRefusal config options io system inputs _ = ⊥
 
@@ -140,14 +139,14 @@ pub record IsRefusedAfterReading (config : Config) (options : RunOptions) (io : 
 -- ---- where files are written
 
 -- the one at this place stands so in a refusal
-pub record IsOutputAt (outputs : List NamedBytes) (place : ℕ) (shown : ShownWord) : Type 0 where
+pub record IsOutputAt (outputs : List NamedBytes) (place : ℕ) (shown : List ℕ) : Type 0 where
   pub output : NamedBytes
   pub there : slice_get outputs place ≡ Some output
   pub told : IsShownAs output.0 shown
 
 -- how writing is refused: for the file at a place, which is named, or if out of memory
 abbrev pub IsWriteRefusal : List NamedBytes → (place : ℕ) → RunError → Type 0
-IsWriteRefusal outputs place (refusal.WriteFault shown) = IsOutputAt outputs place shown
+IsWriteRefusal outputs place (refusal.WriteFault shown) = IsOutputAt outputs place shown.bytes
 IsWriteRefusal outputs place refusal.OutOfMemory = ⊤
 IsWriteRefusal outputs place _ = ⊥
 
@@ -173,8 +172,8 @@ pub record LeavesAll (io : Streams) (old new : Option StoreFiles) : Type 0 where
 -- file can't be written.
 abbrev pub IsRunRefusal : Config → RunOptions → Streams → Option StoreFiles → Option StoreFiles → RunError → Type 0
 IsRunRefusal config options io old new (refusal.ConfigRefused (Range place)) = (config_fault config ≡ Some place) × LeavesAll io old new
-IsRunRefusal config options io old new (refusal.NoSession name) = (config_fault config ≡ None) × IsNoSession config options name × LeavesAll io old new
-IsRunRefusal config options io old new (refusal.NotOpened name) = (config_fault config ≡ None) × IsForkedSession config options name × LeavesAll io old new
+IsRunRefusal config options io old new (refusal.NoSession name) = (config_fault config ≡ None) × IsNoSession config options name.bytes × LeavesAll io old new
+IsRunRefusal config options io old new (refusal.NotOpened name) = (config_fault config ≡ None) × IsForkedSession config options name.bytes × LeavesAll io old new
 IsRunRefusal config options io old new (refusal.FileRefused e) = (config_fault config ≡ None) × IsInputFault old config e × LeavesAll io old new
 IsRunRefusal config options io old new (refusal.WriteFault name) = StopsWriting config options io old new (refusal.WriteFault name)
 IsRunRefusal config options io old new refusal.OutOfMemory = (new ≡ old) ⊎ StopsWriting config options io old new refusal.OutOfMemory

@@ -157,7 +157,7 @@ pub record AreSettledBy (config : Config) (options : RunOptions) (io : Streams) 
 
 -- how settling a session is refused: it has too many keys, or memory was refused
 abbrev pub IsPartRefusal : SessionPart → SessionInput → RunError → Type 0
-IsPartRefusal p i (refusal.TooManyKeys shown) = IsOverfull p i shown
+IsPartRefusal p i (refusal.TooManyKeys shown) = IsOverfull p i shown.bytes
 IsPartRefusal p i refusal.OutOfMemory = ⊤
 IsPartRefusal p i _ = ⊥
 

@@ -74,6 +74,13 @@ pub(crate) fn machine_of(alloc: Global, start: &Start) -> Result<Machine, RunErr
     }
 }
 
+/// Keys as cues.
+fn cues_of(alloc: Global, keys: &[Key]) -> Result<Vec<Cue>, AllocError>
+    ensures { IfOk result (λ v. v.items ≡ map Timed keys.now) }
+{
+    keys.iter().map(|key| Cue::Key(*key)).collect(alloc)
+}
+
 /// Keys as cues, with others after them.
 pub(crate) fn after_keys(
     alloc: Global,
@@ -82,7 +89,7 @@ pub(crate) fn after_keys(
 ) -> Result<Vec<Cue>, AllocError>
     ensures { IfOk result (λ v. v.items ≡ map Timed keys.now ++ others.items) }
 {
-    let mut cues = keys.iter().map(|key| Cue::Key(*key)).collect(alloc)?;
+    let mut cues = cues_of(alloc, keys)?;
     cues.append(&mut others)?;
     Ok(cues)
 }
