@@ -29,7 +29,7 @@ pub enum HostError {
     /// A word is no part of a command's tail.
     #[error("HO1 '{0}' is no part of a command's tail: characters from ' ' to '~' are wanted, and at most 126 in all")]
     TailRefused(ShownWord),
-    /// A run is refused, or what one has too: HO1 the session that is to be typed at, HO2 a configuration, HO3 a key script, HO4, HO5, HO6 a file, HO9 a session.
+    /// A run is refused, or what one has too: HO1 a name to type at, HO2 a configuration, HO3 a key script, HO4, HO5, HO6 a file, HO9 a session.
     #[error("{0}")]
     RunRefused(RunError),
     /// A command on disk images is refused: HO1 a name, HO6 an image or what was asked of it.

@@ -18,7 +18,7 @@ use crate::report::Report;
 use crate::settled::SettledInputs;
 use crate::stages::settle_inputs;
 use crate::typed::typed_place;
-use crate::watcher::{RunWatcher, Stage};
+use crate::watcher::{RunWatcher, RunStage};
 use cpm_batch::{outputs_of, read_inputs};
 use cpm_command_line::shown;
 use cpm_config::{Config, ConfigError, ConfigKey, Field};
@@ -92,7 +92,7 @@ fn play_inputs<'a, T: RunWatcher>(
     ensures refusal { IfErr result (IsSessionsRefusal config.entry.now (new_host inputs.entry.system config.entry.now.frames)
         (starts_of (map settled_view inputs.entry.sessions.items))) }
 {
-    watcher.begin(Stage::All);
+    watcher.begin(RunStage::All);
     let idle = idle_of(alloc, inputs.sessions.as_slice())?;
     let mut records = records_of(alloc, options.records, inputs.sessions.as_slice())?;
     let RunResults { reports, files } = play_all(alloc, config, inputs, watcher)?;

@@ -14,7 +14,7 @@ use crate::error::RunError;
 use crate::part::{Part, key_count, part_of, timed_keys};
 use crate::settled::SettledInput;
 use crate::typed::TypedKeys;
-use crate::watcher::{RunWatcher, Stage};
+use crate::watcher::{RunWatcher, RunStage};
 use cpm_batch::Input;
 use cpm_command_line::shown;
 use cpm_config::Config;
@@ -129,7 +129,7 @@ fn settle_part<T: RunWatcher>(
             is_idle: false,
         }),
         _ => {
-            watcher.begin(Stage::Alone(place));
+            watcher.begin(RunStage::Alone(place));
             play_part(alloc, system, part, stops_idle, watcher)
         }
     }

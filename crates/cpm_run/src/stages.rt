@@ -17,7 +17,7 @@ use crate::settle::settle;
 use crate::settled::SettledInputs;
 use crate::trial::judge_openings;
 use crate::typed::{TypedKeys, type_at};
-use crate::watcher::{RunWatcher, Stage};
+use crate::watcher::{RunWatcher, RunStage};
 use cpm_batch::{Input, Inputs};
 use cpm_config::Config;
 use cpm_script::Cue;
@@ -80,7 +80,7 @@ fn type_if_any<I: Read, W: Write, R: Write, T: RunWatcher>(
     let (Some(name), Some(place)) = (options.typed, typed) else {
         return Ok(None);
     };
-    watcher.begin(Stage::Typing);
+    watcher.begin(RunStage::Typing);
     let session = &inputs.sessions[place];
     let system = &inputs.system;
     let heard = type_at(alloc, config, name, system, session, place, input, out, record)?;

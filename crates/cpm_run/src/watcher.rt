@@ -4,7 +4,7 @@ use cpm_play::{NoWatcher, Watcher};
 
 /// What a run begins.
 #[derive(Clone, Copy, Debug, PartialEq, Eq, Drop)]
-pub enum Stage {
+pub enum RunStage {
     /// One types at a session.
     Typing,
     /// The session at this place is played by itself.
@@ -15,9 +15,9 @@ pub enum Stage {
 
 /// Who is told how far sessions have come, and before which of them it is told.
 pub trait RunWatcher: Watcher {
-    fn begin(&mut self, stage: Stage);
+    fn begin(&mut self, stage: RunStage);
 }
 
 impl RunWatcher for NoWatcher {
-    fn begin(&mut self, _stage: Stage) {}
+    fn begin(&mut self, _stage: RunStage) {}
 }

@@ -3,7 +3,7 @@
 use crate::held::LockableFiles;
 use crate::patient::{PatientError, PatientOutput, StandardError};
 use crate::typing::{Terminals, tell_quit};
-use cpm_host::{Config, Progress, RunWatcher, SessionConfig, Stage, Watcher};
+use cpm_host::{Config, Progress, RunWatcher, SessionConfig, RunStage, Watcher};
 use std::cell::Cell;
 use std::io::Write;
 
@@ -223,19 +223,19 @@ impl<R: LockableFiles> Watcher for RunTeller<'_, R> {
 }
 
 impl<R: LockableFiles> RunWatcher for RunTeller<'_, R> {
-    fn begin(&mut self, stage: Stage) {
+    fn begin(&mut self, stage: RunStage) {
         self.end();
         let whom = match stage {
-            Stage::Typing => {
+            RunStage::Typing => {
                 self.is_typing = true;
                 tell_quit(self.rt);
                 return;
             }
-            Stage::Alone(place) => match self.config.sessions.get(place) {
+            RunStage::Alone(place) => match self.config.sessions.get(place) {
                 Some(session) => Audience::Alone(session),
                 None => Audience::Sessions(self.config),
             },
-            Stage::All => Audience::Sessions(self.config),
+            RunStage::All => Audience::Sessions(self.config),
         };
         self.teller = Teller::new(self.rt, whom, self.form);
     }

@@ -3,7 +3,7 @@
 use crate::same::same;
 use cpm_geom::{Format, Image};
 use cpm_host::{
-    Config, MemoryStore, NoWatcher, Progress, RunOptions, RunWatcher, Stage, Store, Watcher,
+    Config, MemoryStore, NoWatcher, Progress, RunOptions, RunWatcher, RunStage, Store, Watcher,
     run_host,
 };
 use std::io;
@@ -56,7 +56,7 @@ impl Write for DeadLine {
 /// Keeps the stages that begin.
 #[derive(Drop)]
 struct Stages {
-    begun: Vec<Stage>,
+    begun: Vec<RunStage>,
 }
 
 impl Watcher for Stages {
@@ -68,7 +68,7 @@ impl Watcher for Stages {
 }
 
 impl RunWatcher for Stages {
-    fn begin(&mut self, stage: Stage) {
+    fn begin(&mut self, stage: RunStage) {
         let _ = self.begun.push(stage);
     }
 }
@@ -169,6 +169,6 @@ fn a_watcher_is_told_what_begins(rt: HostRuntime) {
         &mut stages,
     );
     assert!(rt; ran.is_ok());
-    let wanted = [Stage::Typing, Stage::Alone(1), Stage::All];
+    let wanted = [RunStage::Typing, RunStage::Alone(1), RunStage::All];
     same(&rt, stages.begun.as_slice(), wanted.as_slice());
 }
