@@ -1,8 +1,12 @@
 -- Sessions that are tried are accepted and refused as those that are played.
-use Rattle.std.proofs.Common.{◌≡◌, ◌∙◌, ◌≤◌, ◌+◌, ◌⊎◌, ⊎_elim, inl, inr, ℕ, List, [], ◌∷◌, ◌++◌, Option, Some, None, length, map, refl, sym, subst, ap, arith, sum_by, slice_get, IfSome}
-use Rattle.std.specs.Prelude.{option_map}
+use Rattle.std.proofs.Common.{◌≡◌, ◌∙◌, ◌<◌, ◌≤◌, ◌+◌, ◌⊎◌, ⊎_elim, inl, inr, ℕ, zero, suc, get_or, take, List, [], ◌∷◌, ◌++◌, Option, Some, None, length, map, refl, sym, subst, ap, arith, sum_by, slice_get, IfSome}
+use Rattle.std.specs.Prelude.{Vec, option_map}
+use Rattle.std.specs.declared.alloc.Global.{Global}
+use Rattle.std.proofs.lemmas.List.{map-append, map_more}
 use Rattle.std.proofs.lemmas.List.Sums.{sum_by-cons}
-use Rattle.cpm_batch.specs.Inputs.{Forks, IsOpened, Opens, SessionInput, StartInput}
+use Rattle.cpm_batch.specs.Inputs.{Forks, IsOpened, Opens, SessionInput, StartInput, given, start_view}
+use Rattle.cpm_batch.specs.declared.input.Input.{Input}
+use Rattle.cpm_batch.specs.declared.input.Start.{Start}
 use Rattle.cpm_config.specs.declared.config.Config.{Config}
 use Rattle.cpm_config.specs.declared.config.SessionConfig.{SessionConfig}
 use Rattle.cpm_machine.specs.declared.opening.OpenError.{OpenError}
@@ -12,8 +16,9 @@ use Rattle.cpm_script.specs.declared.script.Key.{Key}
 use Rattle.cpm_slots.specs.Host.{Host}
 use Rattle.cpm_run.specs.Playing.{ArePressable, IsForkPressable, IsPressableBy, IsSessionsRefusal}
 use Rattle.cpm_run.specs.Run.{AllAccepted, HasForkRoom, IsFirstRefused, IsRefusedOr, IsShortFor, fork_of, fork_pages_in, forks_in, pages_by, starts_read}
-use Rattle.cpm_run.specs.Settled.{SettledSession, opening_at, opening_of, starts_of}
+use Rattle.cpm_run.specs.Settled.{SettledSession, opening_at, opening_of, settled_view, starts_of}
 use Rattle.cpm_run.specs.Settling.{AreFitStarts, HasParent, trial_of, trial_start}
+use Rattle.cpm_run.specs.declared.settled.SettledInput.{SettledInput}
 use Rattle.cpm_run.specs.declared.error.RunError.{RunError}
 use Rattle.cpm_run.specs.declared.error.RunError.TheVariants as refusal
 
@@ -91,6 +96,21 @@ tried_refused config is trial h e same r = by_error e (subst (λ (bs : List Star
     by_error (refusal.FramesExceeded name quotas frames) r = (r.0, r.1, refused_from (starts_read is) (starts_read is) h NoFrames r.2)
     by_error refusal.OutOfMemory r = tt
     by_error _ r = absurd r
+
+abbrev tried_with : SessionConfig → StartInput → List Key → SettledSession
+tried_with session start keys = record { session = session; start = start; keys = keys; before = 0; steps = 0; is_idle = false }
+
+pub tried-view : (i : Input) (s : Start) (keys : Vec Key Global) → start_view s ≡ trial_start (start_view i.start) → keys.items ≡ []
+    → settled_view (record { session = i.session; start = s; keys = keys; before = 0; steps = 0; is_idle = false }) ≡ trial_of (given i)
+tried-view i s keys start none = ap (λ (b : StartInput). tried_with i.session.now b keys.items) start ∙ ap (tried_with i.session.now (trial_start (start_view i.start))) none
+
+-- one more session of the trial
+pub tried-more : (is : List Input) (n : ℕ) (i : Input) (trial more : List SettledInput) (x : SettledInput) → n < length is → i ≡ get_or is n i → more ≡ trial ++ x ∷ []
+    → settled_view x ≡ trial_of (given i) → map settled_view trial ≡ map trial_of (map given (take n is)) → map settled_view more ≡ map trial_of (map given (take (n + 1) is))
+tried-more is n i trial more x within is_at pushed same all =
+    ap (map settled_view) pushed ∙ map-append settled_view trial (x ∷ []) ∙ ap (λ (ss : List SettledSession). ss ++ settled_view x ∷ []) all
+    ∙ ap (λ (s : SettledSession). map trial_of (map given (take n is)) ++ s ∷ []) (same ∙ ap (λ (y : Input). trial_of (given y)) is_at)
+    ∙ sym (map-append trial_of (map given (take n is)) (given (get_or is n i) ∷ [])) ∙ ap (map trial_of) (sym (map_more given is n i within))
 
 -- ---- they can be pressed
 

@@ -1,0 +1,2 @@
+-- The session that is typed at.
+use Rattle.std.proofs.Common.{ℕ}
