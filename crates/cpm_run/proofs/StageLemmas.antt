@@ -91,7 +91,7 @@ fault_by : ℕ → List Disk → Option OpenError
 fault_by quota images = if nat_lt quota 16 || nat_lt 256 quota then Some BadQuota else drives_fault (length images)
 
 fault_is : (cpu : Cpu) (quota : ℕ) (images : List Disk) (o : Opening) → IsOpening cpu quota images o → opening_fault o ≡ fault_by quota images
-  unfolding fault_by
+unfolding fault_by
 fault_is cpu quota images o is = ap (λ (n : ℕ). fault_by n o.drives.items) is.quota ∙ ap (fault_by quota) is.drives
 
 abbrev OpensIf : StartInput → Type 0

@@ -1,9 +1,11 @@
 -- Sessions that are tried are accepted and refused as those that are played.
-use Rattle.std.proofs.Common.{◌≡◌, ◌∙◌, ◌<◌, ◌≤◌, ◌+◌, ◌⊎◌, ⊎_elim, inl, inr, ℕ, zero, suc, get_or, take, List, [], ◌∷◌, ◌++◌, Option, Some, None, length, map, refl, sym, subst, ap, arith, sum_by, slice_get, IfSome}
+use Rattle.std.proofs.Common.{false, append_assoc, ◌≡◌, ◌∙◌, ◌<◌, ◌≤◌, ◌+◌, ◌⊎◌, ⊎_elim, inl, inr, ℕ, zero, suc, get_or, take, List, [], ◌∷◌, ◌++◌, Option, Some, None, length, map, refl, sym, subst, ap, arith, sum_by, slice_get, IfSome}
 use Rattle.std.specs.Prelude.{Vec, option_map}
 use Rattle.std.specs.declared.alloc.Global.{Global}
 use Rattle.std.proofs.lemmas.List.{map-append, map_more}
 use Rattle.std.proofs.lemmas.List.Sums.{sum_by-cons}
+use Rattle.std.proofs.lemmas.Option.{slice_get-map}
+use Rattle.cpm_script.specs.Fork.{keys_before}
 use Rattle.cpm_batch.specs.Inputs.{Forks, IsOpened, Opens, SessionInput, StartInput, given, start_view}
 use Rattle.cpm_batch.specs.declared.input.Input.{Input}
 use Rattle.cpm_batch.specs.declared.input.Start.{Start}
@@ -120,15 +122,67 @@ parent_there [] after place b there = absurd (cc)
 parent_there (x ∷ before) after zero b there = there
 parent_there (x ∷ before) after (suc place) b there = parent_there before after place b there
 
+parent_more : (before after : List StartInput) (b : StartInput) → HasParent before b → HasParent (before ++ after) b
+parent_more before after (Opens cpu quota drives) h = tt
+parent_more before after (Forks parent at) h = (h.0, parent_there before after parent h.0 h.1, h.2)
+
+parents : (before starts : List StartInput) → AreFitStarts before starts → (place : ℕ) → IfSome (slice_get starts place) (HasParent (before ++ starts))
+parents before [] fit place = tt
+parents before (b ∷ bs) fit zero = parent_more before (b ∷ bs) b fit.0
+parents before (b ∷ bs) fit (suc place) = subst (λ (all : List StartInput). IfSome (slice_get bs place) (HasParent all)) (append_assoc before (b ∷ []) bs) (parents (before ++ b ∷ []) bs fit.1 place)
+
 -- the session that begins so
 record IsTriedAt (trial : List SettledSession) (place : ℕ) (b : StartInput) : Type 0 where
   session : SettledSession
   there : slice_get trial place ≡ Some session
   start : session.start ≡ trial_start b
+  keys : session.keys ≡ []
 
 tried_there : (is : List SessionInput) (place : ℕ) (b : StartInput) → slice_get (starts_read is) place ≡ Some b → IsTriedAt (map trial_of is) place b
 tried_there [] place b there = absurd (cc)
-tried_there (i ∷ is) zero b there = record { session = trial_of i; there = refl; start = let same : i.start ≡ b = cc in ap trial_start same }
+tried_there (i ∷ is) zero b there = record { session = trial_of i; there = refl; start = let same : i.start ≡ b = cc in ap trial_start same; keys = refl }
 tried_there (i ∷ is) (suc place) b there =
     let more = tried_there is place b there in
-    record { session = more.session; there = more.there; start = more.start }
+    record { session = more.session; there = more.there; start = more.start; keys = more.keys }
+
+opened_tried : (b : StartInput) → IsOpened b → IsOpened (trial_start b)
+opened_tried (Opens cpu quota drives) opened = tt
+opened_tried (Forks parent at) opened = absurd opened
+
+fork_pressable : (is : List SessionInput) (i : SessionInput) (parent : ℕ) (b : StartInput) → slice_get (starts_read is) parent ≡ Some b → IsOpened b → IsForkPressable (map trial_of is) (trial_of i) parent 0
+fork_pressable is i parent b there opened =
+    let tried = tried_there is parent b there in
+    record {
+      other = tried.session;
+      there = tried.there;
+      opened = subst IsOpened (sym tried.start) (opened_tried b opened);
+      own = [];
+      keys = sym (ap (λ (ks : List Key). keys_before 0 ks ++ []) tried.keys);
+      order = tt;
+      few = omega arith;
+      within = omega arith;
+    }
+
+one_pressable : (is : List SessionInput) (b : StartInput) (i : SessionInput) → HasParent (starts_read is) b → IsPressableBy (map trial_of is) (trial_start b) (trial_of i)
+one_pressable is (Opens cpu quota drives) i h = (tt, omega arith)
+one_pressable is (Forks parent at) i h = fork_pressable is i parent h.0 h.1 h.2
+
+pressable_at : (is : List SessionInput) (place : ℕ) (o : Option SessionInput) → slice_get is place ≡ o → IfSome (slice_get (starts_read is) place) (HasParent (starts_read is))
+    → IfSome (option_map trial_of o) (λ i. IsPressableBy (map trial_of is) i.start i)
+pressable_at is place None there h = tt
+pressable_at is place (Some i) there h =
+    let start : slice_get (starts_read is) place ≡ Some i.start = slice_get-map (λ (x : SessionInput). x.start) is place ∙ ap (option_map (λ (x : SessionInput). x.start)) there in
+    one_pressable is i.start i (subst (λ (o : Option StartInput). IfSome o (HasParent (starts_read is))) start h)
+
+pub tried_pressable : (is : List SessionInput) (trial : List SettledSession) → trial ≡ map trial_of is → AreFitStarts [] (starts_read is) → ArePressable trial
+tried_pressable is trial same fit =
+    subst ArePressable (sym same)
+    (λ place. subst (λ (o : Option SettledSession). IfSome o (λ i. IsPressableBy (map trial_of is) i.start i)) (sym (slice_get-map trial_of is place))
+    (pressable_at is place (slice_get is place) refl (parents [] (starts_read is) fit place)))
+
+sessions_from : (is : List SessionInput) → map (λ s. s.session) (map trial_of is) ≡ map (λ i. i.session) is
+sessions_from [] = refl
+sessions_from (i ∷ is) = ap (λ (ss : List SessionConfig). i.session ∷ ss) (sessions_from is)
+
+pub tried_sessions : (is : List SessionInput) (trial : List SettledSession) → trial ≡ map trial_of is → map (λ s. s.session) trial ≡ map (λ i. i.session) is
+tried_sessions is trial same = ap (λ (ss : List SettledSession). map (λ s. s.session) ss) same ∙ sessions_from is

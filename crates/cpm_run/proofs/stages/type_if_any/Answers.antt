@@ -1,26 +1,32 @@
-use Rattle.std.proofs.Common.{rules, ◌≡◌, ◌≤◌, ◌⊎◌, [], false, None, IfErr, IfOk, OnOk, length, map, option_map, is_some, not, ℕ, ◌+◌, ◌-◌, ◌*◌, ◌<◌, ◌/◌, ◌%◌, Bool, true, nat_eq, nat_lt, List, ◌∷◌, ◌++◌, slice_index_or, slice_set, bit_and, bit_or, Fits, w8, w32, w64, Bor, MutBor}
-use Rattle.std.specs.List.{All}
-use Rattle.cpm_batch.specs.Inputs.{given, timed_keys}
-use Rattle.cpm_slots.specs.Host.{new_host}
-use Rattle.cpm_script.specs.Cues.{cue_text}
-use Rattle.cpm_run.specs.Refusing.{IsSettleRefusal}
-use Rattle.cpm_run.specs.Run.{AllAccepted, starts_read}
-use Rattle.cpm_run.specs.Settled.{AreUntouched, AreSettled, IsTypedIfAny, settled_view, streams, typed_view}
-use Rattle.cpm_run.specs.Settling.{AreFitInputs, AreOpenable, ArePlain, AreSound, AreSettledBy, BeginsAsConfigured, IsTypedPlace}
+use Rattle.std.proofs.Common.{◌≡◌}
+use Rattle.std.proofs.lemmas.Result.{err_from_is_err_and}
+use Rattle.cpm_run.proofs.TypedLemmas.{heard_at, here_openable, typed_here, typing_refused}
 use Rattle.cpm_run.proofs.stages.type_if_any.Goals as goal
 
--- src/stages.rt:86:17
 pub type_at-requires-clause-opened : goal.type_at-requires-clause-opened
-type_at-requires-clause-opened g c = ?
+type_at-requires-clause-opened g c =
+    let here = typed_here c.args.config.now c.args.options c.args.typed c.in-Some-Some.name c.in-Some-Some.place c.args.inputs.now.sessions.items c.requires.place c.in-Some-Some.is-0 c.in-Some-Some.is-1
+    c.requires.sessions c.requires.starts in
+    here.opened c.index-session.result.now c.index-session.ensures
 
--- src/stages.rt:86:17
 pub type_at-requires-clause-openable : goal.type_at-requires-clause-openable
-type_at-requires-clause-openable g c = ?
+type_at-requires-clause-openable g c =
+    let here = typed_here c.args.config.now c.args.options c.args.typed c.in-Some-Some.name c.in-Some-Some.place c.args.inputs.now.sessions.items c.requires.place c.in-Some-Some.is-0 c.in-Some-Some.is-1
+    c.requires.sessions c.requires.starts in
+    here_openable c.args.config.now c.in-Some-Some.name.now c.in-Some-Some.place c.args.inputs.now.sessions.items c.index-session.result.now c.args.inputs.now.system here c.index-session.ensures
+    c.requires.accepted
 
--- src/stages.rt:86:17
 pub returns-in_err-heard-clause-refusal : goal.returns-in_err-heard-clause-refusal
-returns-in_err-heard-clause-refusal g c = ?
+returns-in_err-heard-clause-refusal g c =
+    let here = typed_here c.args.config.now c.args.options c.args.typed c.in-Some-Some.name c.in-Some-Some.place c.args.inputs.now.sessions.items c.requires.place c.in-Some-Some.is-0 c.in-Some-Some.is-1
+    c.requires.sessions c.requires.starts in
+    let p = err_from_is_err_and c.from_residual.result c.from_residual.ensures.1 in
+    rw (p.1, p.2) (typing_refused c.args.config.now c.args.options c.in-Some-Some.name c.in-Some-Some.place c.args.inputs.now.sessions.items c.index-session.result.now _ c.args.inputs.now.system
+    c.requires.accepted c.in-Some-Some.is-0 here c.index-session.ensures c.in_err-heard.field-0.0 c.in_err-heard.ensures.refusal)
 
--- src/stages.rt:56:1
 pub returns-clause-typed : goal.returns-clause-typed
-returns-clause-typed g c = ?
+returns-clause-typed g c =
+    let here = typed_here c.args.config.now c.args.options c.args.typed c.in-Some-Some.name c.in-Some-Some.place c.args.inputs.now.sessions.items c.requires.place c.in-Some-Some.is-0 c.in-Some-Some.is-1
+    c.requires.sessions c.requires.starts in
+    heard_at c.args.inputs.now.system c.args.config.now c.args.options c.in-Some-Some.name c.in-Some-Some.place c.args.inputs.now.sessions.items c.index-session.result.now _ c.in_ok-heard.heard
+    c.in-Some-Some.is-0 here c.index-session.ensures c.in_ok-heard.ensures.place c.in_ok-heard.ensures.typed
