@@ -3,7 +3,10 @@ pub mod FinishLemmas
 pub mod OrderLemmas
 pub mod PlayLemmas
 pub mod PrepareLemmas
+pub mod RecordLemmas
 pub mod RunLemmas
 pub mod ScriptLemmas
 pub mod SlotLemmas
+pub mod StageLemmas
 pub mod TrialLemmas
+pub mod TypedLemmas

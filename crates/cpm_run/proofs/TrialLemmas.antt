@@ -1,8 +1,14 @@
 -- Sessions that are tried are accepted and refused as those that are played.
-use Rattle.std.proofs.Common.{◌≡◌, ◌∙◌, ◌≤◌, ◌+◌, ◌⊎◌, ⊎_elim, inl, inr, ℕ, List, [], ◌∷◌, ◌++◌, Option, Some, None, length, map, refl, sym, subst, ap, arith, sum_by, slice_get, IfSome}
-use Rattle.std.specs.Prelude.{option_map}
+use Rattle.std.proofs.Common.{false, append_assoc, ◌≡◌, ◌∙◌, ◌<◌, ◌≤◌, ◌+◌, ◌⊎◌, ⊎_elim, inl, inr, ℕ, zero, suc, get_or, take, List, [], ◌∷◌, ◌++◌, Option, Some, None, length, map, refl, sym, subst, ap, arith, sum_by, slice_get, IfSome}
+use Rattle.std.specs.Prelude.{Vec, option_map}
+use Rattle.std.specs.declared.alloc.Global.{Global}
+use Rattle.std.proofs.lemmas.List.{map-append, map_more}
 use Rattle.std.proofs.lemmas.List.Sums.{sum_by-cons}
-use Rattle.cpm_batch.specs.Inputs.{Forks, IsOpened, Opens, SessionInput, StartInput}
+use Rattle.std.proofs.lemmas.Option.{slice_get-map}
+use Rattle.cpm_script.specs.Fork.{keys_before}
+use Rattle.cpm_batch.specs.Inputs.{Forks, IsOpened, Opens, SessionInput, StartInput, given, start_view}
+use Rattle.cpm_batch.specs.declared.input.Input.{Input}
+use Rattle.cpm_batch.specs.declared.input.Start.{Start}
 use Rattle.cpm_config.specs.declared.config.Config.{Config}
 use Rattle.cpm_config.specs.declared.config.SessionConfig.{SessionConfig}
 use Rattle.cpm_machine.specs.declared.opening.OpenError.{OpenError}
@@ -12,8 +18,9 @@ use Rattle.cpm_script.specs.declared.script.Key.{Key}
 use Rattle.cpm_slots.specs.Host.{Host}
 use Rattle.cpm_run.specs.Playing.{ArePressable, IsForkPressable, IsPressableBy, IsSessionsRefusal}
 use Rattle.cpm_run.specs.Run.{AllAccepted, HasForkRoom, IsFirstRefused, IsRefusedOr, IsShortFor, fork_of, fork_pages_in, forks_in, pages_by, starts_read}
-use Rattle.cpm_run.specs.Settled.{SettledSession, opening_at, opening_of, starts_of}
+use Rattle.cpm_run.specs.Settled.{SettledSession, opening_at, opening_of, settled_view, starts_of}
 use Rattle.cpm_run.specs.Settling.{AreFitStarts, HasParent, trial_of, trial_start}
+use Rattle.cpm_run.specs.declared.settled.SettledInput.{SettledInput}
 use Rattle.cpm_run.specs.declared.error.RunError.{RunError}
 use Rattle.cpm_run.specs.declared.error.RunError.TheVariants as refusal
 
@@ -92,6 +99,21 @@ tried_refused config is trial h e same r = by_error e (subst (λ (bs : List Star
     by_error refusal.OutOfMemory r = tt
     by_error _ r = absurd r
 
+abbrev tried_with : SessionConfig → StartInput → List Key → SettledSession
+tried_with session start keys = record { session = session; start = start; keys = keys; before = 0; steps = 0; is_idle = false }
+
+pub tried-view : (i : Input) (s : Start) (keys : Vec Key Global) → start_view s ≡ trial_start (start_view i.start) → keys.items ≡ []
+    → settled_view (record { session = i.session; start = s; keys = keys; before = 0; steps = 0; is_idle = false }) ≡ trial_of (given i)
+tried-view i s keys start none = ap (λ (b : StartInput). tried_with i.session.now b keys.items) start ∙ ap (tried_with i.session.now (trial_start (start_view i.start))) none
+
+-- one more session of the trial
+pub tried-more : (is : List Input) (n : ℕ) (i : Input) (trial more : List SettledInput) (x : SettledInput) → n < length is → i ≡ get_or is n i → more ≡ trial ++ x ∷ []
+    → settled_view x ≡ trial_of (given i) → map settled_view trial ≡ map trial_of (map given (take n is)) → map settled_view more ≡ map trial_of (map given (take (n + 1) is))
+tried-more is n i trial more x within is_at pushed same all =
+    ap (map settled_view) pushed ∙ map-append settled_view trial (x ∷ []) ∙ ap (λ (ss : List SettledSession). ss ++ settled_view x ∷ []) all
+    ∙ ap (λ (s : SettledSession). map trial_of (map given (take n is)) ++ s ∷ []) (same ∙ ap (λ (y : Input). trial_of (given y)) is_at)
+    ∙ sym (map-append trial_of (map given (take n is)) (given (get_or is n i) ∷ [])) ∙ ap (map trial_of) (sym (map_more given is n i within))
+
 -- ---- they can be pressed
 
 -- the parent of a fork stands among all
@@ -100,15 +122,67 @@ parent_there [] after place b there = absurd (cc)
 parent_there (x ∷ before) after zero b there = there
 parent_there (x ∷ before) after (suc place) b there = parent_there before after place b there
 
+parent_more : (before after : List StartInput) (b : StartInput) → HasParent before b → HasParent (before ++ after) b
+parent_more before after (Opens cpu quota drives) h = tt
+parent_more before after (Forks parent at) h = (h.0, parent_there before after parent h.0 h.1, h.2)
+
+parents : (before starts : List StartInput) → AreFitStarts before starts → (place : ℕ) → IfSome (slice_get starts place) (HasParent (before ++ starts))
+parents before [] fit place = tt
+parents before (b ∷ bs) fit zero = parent_more before (b ∷ bs) b fit.0
+parents before (b ∷ bs) fit (suc place) = subst (λ (all : List StartInput). IfSome (slice_get bs place) (HasParent all)) (append_assoc before (b ∷ []) bs) (parents (before ++ b ∷ []) bs fit.1 place)
+
 -- the session that begins so
 record IsTriedAt (trial : List SettledSession) (place : ℕ) (b : StartInput) : Type 0 where
   session : SettledSession
   there : slice_get trial place ≡ Some session
   start : session.start ≡ trial_start b
+  keys : session.keys ≡ []
 
 tried_there : (is : List SessionInput) (place : ℕ) (b : StartInput) → slice_get (starts_read is) place ≡ Some b → IsTriedAt (map trial_of is) place b
 tried_there [] place b there = absurd (cc)
-tried_there (i ∷ is) zero b there = record { session = trial_of i; there = refl; start = let same : i.start ≡ b = cc in ap trial_start same }
+tried_there (i ∷ is) zero b there = record { session = trial_of i; there = refl; start = let same : i.start ≡ b = cc in ap trial_start same; keys = refl }
 tried_there (i ∷ is) (suc place) b there =
     let more = tried_there is place b there in
-    record { session = more.session; there = more.there; start = more.start }
+    record { session = more.session; there = more.there; start = more.start; keys = more.keys }
+
+opened_tried : (b : StartInput) → IsOpened b → IsOpened (trial_start b)
+opened_tried (Opens cpu quota drives) opened = tt
+opened_tried (Forks parent at) opened = absurd opened
+
+fork_pressable : (is : List SessionInput) (i : SessionInput) (parent : ℕ) (b : StartInput) → slice_get (starts_read is) parent ≡ Some b → IsOpened b → IsForkPressable (map trial_of is) (trial_of i) parent 0
+fork_pressable is i parent b there opened =
+    let tried = tried_there is parent b there in
+    record {
+      other = tried.session;
+      there = tried.there;
+      opened = subst IsOpened (sym tried.start) (opened_tried b opened);
+      own = [];
+      keys = sym (ap (λ (ks : List Key). keys_before 0 ks ++ []) tried.keys);
+      order = tt;
+      few = omega arith;
+      within = omega arith;
+    }
+
+one_pressable : (is : List SessionInput) (b : StartInput) (i : SessionInput) → HasParent (starts_read is) b → IsPressableBy (map trial_of is) (trial_start b) (trial_of i)
+one_pressable is (Opens cpu quota drives) i h = (tt, omega arith)
+one_pressable is (Forks parent at) i h = fork_pressable is i parent h.0 h.1 h.2
+
+pressable_at : (is : List SessionInput) (place : ℕ) (o : Option SessionInput) → slice_get is place ≡ o → IfSome (slice_get (starts_read is) place) (HasParent (starts_read is))
+    → IfSome (option_map trial_of o) (λ i. IsPressableBy (map trial_of is) i.start i)
+pressable_at is place None there h = tt
+pressable_at is place (Some i) there h =
+    let start : slice_get (starts_read is) place ≡ Some i.start = slice_get-map (λ (x : SessionInput). x.start) is place ∙ ap (option_map (λ (x : SessionInput). x.start)) there in
+    one_pressable is i.start i (subst (λ (o : Option StartInput). IfSome o (HasParent (starts_read is))) start h)
+
+pub tried_pressable : (is : List SessionInput) (trial : List SettledSession) → trial ≡ map trial_of is → AreFitStarts [] (starts_read is) → ArePressable trial
+tried_pressable is trial same fit =
+    subst ArePressable (sym same)
+    (λ place. subst (λ (o : Option SettledSession). IfSome o (λ i. IsPressableBy (map trial_of is) i.start i)) (sym (slice_get-map trial_of is place))
+    (pressable_at is place (slice_get is place) refl (parents [] (starts_read is) fit place)))
+
+sessions_from : (is : List SessionInput) → map (λ s. s.session) (map trial_of is) ≡ map (λ i. i.session) is
+sessions_from [] = refl
+sessions_from (i ∷ is) = ap (λ (ss : List SessionConfig). i.session ∷ ss) (sessions_from is)
+
+pub tried_sessions : (is : List SessionInput) (trial : List SettledSession) → trial ≡ map trial_of is → map (λ s. s.session) trial ≡ map (λ i. i.session) is
+tried_sessions is trial same = ap (λ (ss : List SettledSession). map (λ s. s.session) ss) same ∙ sessions_from is

@@ -106,9 +106,9 @@ pub record IsOverfullIn (system : Disk) (stops_idle : Bool) (typed : Option Type
   pub before : AreSettled system stops_idle typed sessions [] done settled
   pub over : IsOverfull (part_of typed sessions settled input) input shown
 
--- all openings were accepted, and what was typed was typed
+-- all openings were accepted, or else no key was read; and what was typed was typed
 pub record HasTooManyKeys (config : Config) (options : RunOptions) (io : Streams) (system : Disk) (inputs : List SessionInput) (shown : List ℕ) : Type 0 where
-  pub accepted : AllAccepted (starts_read inputs) (new_host system config.frames) (starts_read inputs)
+  pub judged : AllAccepted (starts_read inputs) (new_host system config.frames) (starts_read inputs) ⊎ AreUntouched io
   pub typed : Option TypedSession
   pub heard : IsTypedIfAny system config.sessions.items (option_map (λ n. n.now) options.typed) inputs io typed
   pub over : IsOverfullIn system options.stops_idle typed config.sessions.items inputs shown
