@@ -78,13 +78,13 @@ fn records_of<'a>(
 }
 
 /// Runs the sessions of a configuration, gives what they wrote its names, and prints how each ended.
-fn run_config(
-    rt: &(impl LockableFiles + Input),
+fn run_config<'a>(
+    rt: &'a (impl LockableFiles + Input),
     outputs: Outputs,
     config: &Config,
-    scripts: &[String],
-    bounds: &Bounds,
-    task: &RunTask<'_>,
+    scripts: &'a [String],
+    bounds: &'a Bounds,
+    task: &RunTask<'a>,
     terminals: Terminals,
 ) -> Result<(), CommandRefusal> {
     let held = hold_images(rt, config)?;
