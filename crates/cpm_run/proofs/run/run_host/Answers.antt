@@ -1,4 +1,4 @@
-use Rattle.std.proofs.Common.{◌≡◌, ◌∙◌, List, ap, map, sym, subst}
+use Rattle.std.proofs.Common.{◌≡◌, ◌∙◌, [], List, ap, map, sym, subst}
 use Rattle.std.proofs.lemmas.Result.{err_from_is_err_and}
 use Rattle.cpm_batch.specs.Inputs.{given}
 use Rattle.cpm_config.proofs.FaultLemmas.{neither}
@@ -56,7 +56,7 @@ returns-in_err-write_files-clause-refusal g c =
     let r = c.in_err-write_files.ensures.refusal in
     let between = g.S.Store.files c.read_inputs.new.store in
     let old = g.S.Store.files c.args.store.now in
-    let stopped = rw (c.read_inputs.ensures.store.same) at r.2.0 in
+    let stopped = rw (c.read_inputs.ensures.store.same) at r.2 in
     rw (p.1, p.2) (write_refused config c.args.options _ parts old (g.S.Store.files c.write_files.new.store) (map named_output c.as_slice.result.now) r.0 c.in_err-write_files.field-0.0
     c.in_ok-inputs.ensures.read (are_parts config c.args.options _ system inputs settled h accepted) are r.1 stopped)
 
@@ -74,7 +74,7 @@ returns-in_err-write_files-clause-stopped_log g c =
     (ap (map named_output) c.as_slice.ensures.value ∙ c.in_ok-report.ensures.outputs) in
     let r = c.in_err-write_files.ensures.refusal in
     rw (p.1, p.2) (write_stopped g.S.Store.does config c.args.options _ parts c.args.store.now c.read_inputs.new.store c.write_files.new.store (map named_output c.as_slice.result.now) r.0
-    c.in_err-write_files.field-0.0 (are_parts config c.args.options _ system inputs settled h accepted) are r.1 c.in_ok-inputs.ensures.log r.2.1)
+    c.in_err-write_files.field-0.0 (are_parts config c.args.options _ system inputs settled h accepted) are r.1 c.in_ok-inputs.ensures.log r.3)
 
 pub returns-clause-run : goal.returns-clause-run
 returns-clause-run g c =
