@@ -1,9 +1,11 @@
 pub mod AtPcLemmas
 pub mod FinishLemmas
 pub mod OrderLemmas
+pub mod PartLemmas
 pub mod PlayLemmas
 pub mod PrepareLemmas
 pub mod RunLemmas
 pub mod ScriptLemmas
+pub mod SettleLemmas
 pub mod SlotLemmas
 pub mod TrialLemmas
