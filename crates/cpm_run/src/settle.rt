@@ -100,7 +100,7 @@ fn play_part<T: RunWatcher>(
     let own = keys_after(came.as_slice(), before.len());
     Ok(PartPlay {
         keys: joined(alloc, before.as_slice(), own)?,
-        steps: if stops_idle { at.max(last).max(done) } else { steps },
+        steps: if stops_idle { done.max(at.max(last)) } else { steps },
         is_idle: stops_idle && machine.look().waiting,
     })
 }

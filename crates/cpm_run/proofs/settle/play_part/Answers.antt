@@ -1,23 +1,29 @@
-use Rattle.std.proofs.Common.{rules, ◌≡◌, ◌++◌, [], drop, IfErr, IfOk, map, Some, length, ℕ, ◌+◌, ◌-◌, ◌*◌, ◌<◌, ◌≤◌, ◌/◌, ◌%◌, Bool, true, false, nat_eq, nat_lt, List, ◌∷◌, slice_index_or, slice_set, bit_and, bit_or, Fits, w8, w32, w64, Bor, MutBor}
-use Rattle.cpm_batch.specs.Inputs.{IsOpened, given, start_view, timed_keys}
-use Rattle.cpm_script.specs.Cues.{all_said}
-use Rattle.cpm_run.specs.Playing.{ArePressable}
-use Rattle.cpm_run.specs.Settled.{AreSettled, HasPlayedKeys, HasSettledBy, IsSettled, opened_by, part_of, said_at, settled_view, starts_of, typed_view}
-use Rattle.cpm_run.specs.Settling.{AreFitInputs, AreReady, AreSound, AreSoundKeys, IsFitInput, IsFitPart, IsOpenable, IsPartReady, IsPartRefusal, IsSettlingRefusal, IsSound, part_view}
+use Rattle.std.proofs.Common.{◌≡◌, ◌∙◌, ◌++◌, Bool, true, false, ◌&&◌, List, ap, drop, length, map, refl, rules, sym, subst}
+use Rattle.std.specs.Prelude.{max}
+use Rattle.cpm_machine.specs.Serve.{look_of}
+use Rattle.cpm_machine.specs.declared.reply.Look.{Look}
+use Rattle.cpm_script.specs.Cues.{Counted, cue_text}
+use Rattle.cpm_script.specs.declared.cue.Cue.{Cue}
+use Rattle.cpm_script.specs.declared.cue.Cue.TheVariants.{Key as Timed}
+use Rattle.cpm_script.specs.declared.script.Key.{Key}
+use Rattle.cpm_run.specs.Settled.{settled_steps}
+use Rattle.cpm_run.specs.Settling.{part_view}
+use Rattle.cpm_run.proofs.SettleLemmas.{came_sound, cues_ascii, cues_few, cues_say, all_cues, all_keys, at_least, played_by}
+use Rattle.cpm_run.proofs.settle.play_part.Goals.{then-stops_idle, else-stops_idle, then-stops_idle-2, else-stops_idle-2}
 use Rattle.cpm_run.proofs.settle.play_part.Goals as goal
 
--- src/settle.rt:86:9
 pub play_cues-played-requires-clause-ascii : goal.play_cues-played-requires-clause-ascii
-play_cues-played-requires-clause-ascii g c = ?
+play_cues-played-requires-clause-ascii g c =
+    let are = all_cues c.args.part.before.items c.as_slice.result.now c.args.part.cues.items c.in_ok-cues.cues.items c.as_slice-2.result.now c.as_slice.ensures.value c.in_ok-cues.ensures c.as_slice-2.ensures.value in
+    cues_ascii (part_view c.args.part) c.as_slice-2.result.now c.requires.fit (cues_say c.args.part.before.items c.args.part.cues.items c.as_slice-2.result.now are)
 
--- src/settle.rt:86:9
 pub play_cues-played-requires-clause-few : goal.play_cues-played-requires-clause-few
-play_cues-played-requires-clause-few g c = ?
+play_cues-played-requires-clause-few g c =
+    let are = all_cues c.args.part.before.items c.as_slice.result.now c.args.part.cues.items c.in_ok-cues.cues.items c.as_slice-2.result.now c.as_slice.ensures.value c.in_ok-cues.ensures c.as_slice-2.ensures.value in
+    cues_few (part_view c.args.part) c.as_slice-2.result.now c.requires.fit (cues_say c.args.part.before.items c.args.part.cues.items c.as_slice-2.result.now are)
 
--- src/settle.rt:57:1
 pub returns-clause-played : goal.returns-clause-played
 returns-clause-played g c = ?
 
--- src/settle.rt:57:1
 pub returns-clause-sound : goal.returns-clause-sound
 returns-clause-sound g c = ?

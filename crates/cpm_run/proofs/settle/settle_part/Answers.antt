@@ -1,11 +1,11 @@
-use Rattle.std.proofs.Common.{rules, ◌≡◌, ◌++◌, [], drop, IfErr, IfOk, map, Some, length, ℕ, ◌+◌, ◌-◌, ◌*◌, ◌<◌, ◌≤◌, ◌/◌, ◌%◌, Bool, true, false, nat_eq, nat_lt, List, ◌∷◌, slice_index_or, slice_set, bit_and, bit_or, Fits, w8, w32, w64, Bor, MutBor}
-use Rattle.cpm_batch.specs.Inputs.{IsOpened, given, start_view, timed_keys}
-use Rattle.cpm_script.specs.Cues.{all_said}
-use Rattle.cpm_run.specs.Playing.{ArePressable}
-use Rattle.cpm_run.specs.Settled.{AreSettled, HasPlayedKeys, HasSettledBy, IsSettled, opened_by, part_of, said_at, settled_view, starts_of, typed_view}
-use Rattle.cpm_run.specs.Settling.{AreFitInputs, AreReady, AreSound, AreSoundKeys, IsFitInput, IsFitPart, IsOpenable, IsPartReady, IsPartRefusal, IsSettlingRefusal, IsSound, part_view}
+use Rattle.std.proofs.Common.{◌≡◌, ◌∙◌, ◌++◌, List, Some, Option, ap, refl, sym, map}
+use Rattle.cpm_batch.specs.Inputs.{timed_keys}
+use Rattle.cpm_script.specs.declared.script.Key.{Key}
+use Rattle.cpm_run.specs.Settling.{part_view}
+use Rattle.cpm_run.proofs.SettleLemmas.{written_part}
 use Rattle.cpm_run.proofs.settle.settle_part.Goals as goal
 
--- src/settle.rt:109:1
 pub returns-in_ok-joined-in-Some-clause-sound : goal.returns-in_ok-joined-in-Some-clause-sound
-returns-in_ok-joined-in-Some-clause-sound g c = ?
+returns-in_ok-joined-in-Some-clause-sound g c =
+    written_part (part_view c.args.part) c.args.part.cues.items c.as_slice.result.now c.in_ok-own.field-0 c.in-Some.own c.as_slice-in-Some.result.now c.as_slice-in-Some-2.result.now c.in_ok-joined-in-Some.field-0.items
+    c.requires.fit c.as_slice.ensures.value c.in_ok-own.ensures c.in-Some.is c.as_slice-in-Some.ensures.value c.as_slice-in-Some-2.ensures.value c.in_ok-joined-in-Some.ensures refl
