@@ -80,7 +80,7 @@ module _ (system : Disk) (start : MachineState) (steps at : ℕ) where
       (λ none. no_more (max at from) given keys none.1) h
 
   -- keys that come first are left away
-  own_from : (before given : List Key) (from mark : ℕ) (own : List Cue) (keys : List Key) → CountsRise at (map cue_text own) → PressesFollow false (map cue_text own)
+  pub own_from : (before given : List Key) (from mark : ℕ) (own : List Cue) (keys : List Key) → CountsRise at (map cue_text own) → PressesFollow false (map cue_text own)
       → IsCuedFrom system start steps at given from mark (map Timed before ++ own) keys → (came : List Key) × (keys ≡ given ++ came) × IsInOrder at (drop (length before) came)
   own_from [] given from mark own keys rise follow h =
       let r = goes_on at false given from mark own keys (omega arith) rise follow (λ e. absurd (true≢false (sym e))) h in

@@ -2,12 +2,14 @@
 use Rattle.std.proofs.Common.{◌≡◌, ◌∙◌, ◌<◌, ◌≤◌, ◌+◌, ◌-◌, ◌⊎◌, ⊎_elim, inl, inr, ℕ, zero, suc, Bool, true, false, ◌&&◌, List, [], ◌∷◌, ◌++◌, length, drop, get_or, map, Option, Some, None, refl, sym, ap, subst, arith, append_assoc, append-nil}
 use Rattle.std.specs.Prelude.{Vec, ⊤, IfSome, IsSome, max, nat_lt, option_map, slice_get}
 use Rattle.std.specs.List.{All}
+use Rattle.std.specs.Option.{option_to_list}
 use Rattle.std.specs.declared.alloc.Global.{Global}
 use Rattle.std.proofs.Math.Nat.{le-max_left, le-max_right}
 use Rattle.std.proofs.lemmas.List.{length-append, length-drop, length-map, map-append, map_push}
 use Rattle.std.proofs.lemmas.List.Elements.{All-append, All-cons, All-drop, All-filter, All-get_or, All-nil}
 use Rattle.std.proofs.lemmas.Option.{get_or_from_slice_get, slice_get-map, slice_get_within}
-use Rattle.cpm_batch.specs.Inputs.{Forks, IsOpened, Opens, SessionInput, StartInput, timed_keys}
+use Rattle.cpm_batch.specs.Inputs.{Forks, IsOpened, Opens, SessionInput, StartInput, given, timed_keys}
+use Rattle.cpm_batch.specs.declared.input.Input.{Input}
 use Rattle.cpm_config.specs.declared.config.SessionConfig.{SessionConfig}
 use Rattle.cpm_geom.specs.Disk.{Disk}
 use Rattle.cpm_machine.specs.MachineState.{MachineState}
@@ -29,9 +31,10 @@ use Rattle.cpm_script.proofs.ForkLemmas.{length-keys_before}
 use Rattle.cpm_run.specs.Playing.{IsForkPressable, IsPressableBy}
 use Rattle.cpm_run.specs.Run.{starts_read}
 use Rattle.cpm_run.specs.Settled.{AreSettled, HasPlayedKeys, IsPlayedAlone, IsSettled, SessionPart, SettledSession, TypedSession}
-use Rattle.cpm_run.specs.Settled.{before_in, forked_at, keys_if_settled, opened_by, part_of, said_at, settled_steps, starts_of, steps_at}
+use Rattle.cpm_run.specs.Settled.{before_in, forked_at, keys_if_settled, opened_by, part_of, said_at, settled_steps, settled_view, starts_of, steps_at}
 use Rattle.cpm_run.specs.Settling.{AreBelow80h, AreFitInputs, AreOpenable, ArePlain, AreReady, AreSound, AreSoundKeys, HasParent, IsFitInput, IsFitPart, IsOpenable}
 use Rattle.cpm_run.specs.Settling.{IsPartReady, IsPartRefusal, IsSettlingRefusal, IsSound}
+use Rattle.cpm_run.specs.declared.settled.SettledInput.{SettledInput}
 use Rattle.cpm_run.specs.declared.error.RunError.{RunError}
 use Rattle.cpm_run.proofs.OrderLemmas.{own_from}
 use Rattle.cpm_run.proofs.PartLemmas.{joined_said}
@@ -222,7 +225,7 @@ part_before typed sessions ss i p is sound = let few = few_before ss i.start sou
 pub part_fit : (typed : Option TypedSession) (sessions : List SessionConfig) (ss : List SettledSession) (i : SessionInput) (p : SessionPart) → p ≡ part_of typed sessions ss i → AreSound ss
     → IsFitInput typed (starts_of ss) i → length p.before + cued_key_count p.said ≤ most_keys → IsFitPart p
 part_fit typed sessions ss i p is sound fit few =
-    let long : length (starts_of ss) ≡ length ss = length-map (λ (s : SettledSession). s.start) ss in
+    let long : length (starts_of ss) ≡ length ss = length-map ss in
     let said : said_at typed (length (starts_of ss)) i.said ≡ p.said = ap (λ (n : ℕ). said_at typed n i.said) long ∙ sym (ap (λ (q : SessionPart). q.said) is) in
     let at : forked_at i.start ≡ p.at = sym (ap (λ (q : SessionPart). q.at) is) in
     let limit : steps_at typed (length (starts_of ss)) i.session.steps ≡ p.limit = ap (λ (n : ℕ). steps_at typed n i.session.steps) long ∙ sym (ap (λ (q : SessionPart). q.limit) is) in
@@ -276,8 +279,7 @@ pub record IsSettledTo (system : Disk) (stops_idle : Bool) (typed : Option Typed
 none_sound : AreSound []
 none_sound place = tt
 
--- at first
-pub settled_none : (system : Disk) (stops_idle : Bool) (typed : Option TypedSession) (sessions : List SessionConfig) (all : List SessionInput) (settled : List SettledSession) → settled ≡ [] → AreFitInputs typed [] all
+settled_none : (system : Disk) (stops_idle : Bool) (typed : Option TypedSession) (sessions : List SessionConfig) (all : List SessionInput) (settled : List SettledSession) → settled ≡ [] → AreFitInputs typed [] all
     → IsSettledTo system stops_idle typed sessions all all settled
 settled_none system stops_idle typed sessions all settled none fit =
     let first : IsSettledTo system stops_idle typed sessions all all [] = record { done = []; parts = refl; starts = refl; keys = tt; fit = fit; sound = none_sound } in
@@ -326,6 +328,24 @@ keys_more system stops_idle typed sessions before (j ∷ is) [] i s all one = ab
 keys_more system stops_idle typed sessions before (j ∷ is) (x ∷ ss) i s all one =
     (all.0, keys_more system stops_idle typed sessions (before ++ x ∷ []) is ss i s all.1
     (subst (λ (xs : List SettledSession). IsSettled system stops_idle (part_of typed sessions xs i) i s) (sym (append_assoc before (x ∷ []) ss)) one))
+
+-- the code's values: the next of those still to come, after those that are settled
+pub settled_next : (system : Disk) (stops_idle : Bool) (typed : Option TypedSession) (sessions : List SessionConfig) (all : List SessionInput) (rest more : List Input) (input : Input) (settled now : List SettledInput)
+    → rest ≡ input ∷ more → now ≡ settled → IsSettledTo system stops_idle typed sessions all (map given rest) (map settled_view settled)
+    → IsSettledTo system stops_idle typed sessions all (given input ∷ map given more) (map settled_view now)
+settled_next system stops_idle typed sessions all rest more input settled now steps same h =
+    subst (λ (ss : List SettledInput). IsSettledTo system stops_idle typed sessions all (given input ∷ map given more) (map settled_view ss)) (sym same)
+    (subst (λ (xs : List Input). IsSettledTo system stops_idle typed sessions all (map given xs) (map settled_view settled)) steps h)
+
+pub first_settled : (system : Disk) (stops_idle : Bool) (typed : Option TypedSession) (sessions : List SessionConfig) (all rest : List Input) (settled : List SettledInput) → rest ≡ all → settled ≡ []
+    → AreFitInputs typed [] (map given all) → IsSettledTo system stops_idle typed sessions (map given all) (map given rest) (map settled_view settled)
+first_settled system stops_idle typed sessions all rest settled whole none fit =
+    subst (λ (xs : List Input). IsSettledTo system stops_idle typed sessions (map given all) (map given xs) (map settled_view settled)) (sym whole)
+    (settled_none system stops_idle typed sessions (map given all) (map settled_view settled) (ap (map settled_view) none) fit)
+
+pub pushed_view : (settled now more : List SettledInput) (s : SettledInput) → now ≡ settled → more ≡ settled ++ s ∷ [] → map settled_view more ≡ map settled_view now ++ settled_view s ∷ []
+pushed_view settled now more s same pushed =
+    ap (map settled_view) pushed ∙ map_push settled_view settled s ∙ ap (λ (ss : List SettledInput). map settled_view ss ++ settled_view s ∷ []) (sym same)
 
 -- one more
 pub settled_more : (system : Disk) (stops_idle : Bool) (typed : Option TypedSession) (sessions : List SessionConfig) (all rest : List SessionInput) (i : SessionInput) (settled more : List SettledSession) (s : SettledSession)
@@ -399,3 +419,9 @@ pub all_settled : (system : Disk) (stops_idle : Bool) (typed : Option TypedSessi
 all_settled system stops_idle typed sessions all rest settled none h =
     let whole : h.done ≡ all = sym (append-nil h.done) ∙ ap (λ (is : List SessionInput). h.done ++ is) (sym none) ∙ h.parts in
     subst (λ (is : List SessionInput). AreSettled system stops_idle typed sessions [] is settled) whole h.keys
+
+pub all_done : (system : Disk) (stops_idle : Bool) (typed : Option TypedSession) (sessions : List SessionConfig) (all : List SessionInput) (rest more : List Input) (next : Option Input) (settled : List SettledSession)
+    → rest ≡ option_to_list next ++ more → next ≡ None → more ≡ [] → IsSettledTo system stops_idle typed sessions all (map given rest) settled → AreSettled system stops_idle typed sessions [] all settled
+all_done system stops_idle typed sessions all rest more next settled is none end h =
+    let nothing : rest ≡ [] = is ∙ ap (λ (o : Option Input). option_to_list o ++ more) none ∙ end in
+    all_settled system stops_idle typed sessions all (map given rest) settled (ap (map given) nothing) h

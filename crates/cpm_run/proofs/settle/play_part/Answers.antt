@@ -1,4 +1,4 @@
-use Rattle.std.proofs.Common.{◌≡◌, ◌∙◌, ◌++◌, Bool, true, false, ◌&&◌, List, ap, drop, length, map, refl, rules, sym, subst}
+use Rattle.std.proofs.Common.{arith, ◌≤◌, ◌≡◌, ◌∙◌, ◌++◌, Bool, true, false, ◌&&◌, List, ap, drop, length, map, refl, rules, sym, subst}
 use Rattle.std.specs.Prelude.{max}
 use Rattle.cpm_machine.specs.Serve.{look_of}
 use Rattle.cpm_machine.specs.declared.reply.Look.{Look}
@@ -23,7 +23,32 @@ play_cues-played-requires-clause-few g c =
     cues_few (part_view c.args.part) c.as_slice-2.result.now c.requires.fit (cues_say c.args.part.before.items c.args.part.cues.items c.as_slice-2.result.now are)
 
 pub returns-clause-played : goal.returns-clause-played
-returns-clause-played g c = ?
+returns-clause-played g c =
+    let part = c.args.part in
+    let first = part.before.items in
+    let h = c.in-Ok.ensures in
+    let came = c.in-Ok.field-0.keys.items in
+    let done = c.in-Ok.field-0.steps in
+    let now = c.play_cues-played.new.machine in
+    let start = c.in_ok-machine.machine in
+    let cues = c.as_slice-2.result.now in
+    let are = all_cues first c.as_slice.result.now part.cues.items c.in_ok-cues.cues.items cues c.as_slice.ensures.value c.in_ok-cues.ensures c.as_slice-2.ensures.value in
+    let keys : c.in_ok-joined.field-0.items ≡ first ++ drop (length first) came = ? in
+    let steps : c.if-stops_idle.result ≡ settled_steps c.args.stops_idle (part_view part) done = ? in
+    let idle : c.if-stops_idle-2.result ≡ c.args.stops_idle && (look_of now).waiting = ? in
+    played_by c.args.system.now (part_view part) c.args.stops_idle cues came done now start c.in_ok-joined.field-0.items c.if-stops_idle.result c.if-stops_idle-2.result c.in_ok-machine.ensures.machine
+    (cues_say first part.cues.items cues are) (record { by = h.keys; ending = h.ending; ends = h.ends; waits = h.waits }) h.within keys steps idle
 
 pub returns-clause-sound : goal.returns-clause-sound
-returns-clause-sound g c = ?
+returns-clause-sound g c =
+    let part = c.args.part in
+    let first = part.before.items in
+    let h = c.in-Ok.ensures in
+    let came = c.in-Ok.field-0.keys.items in
+    let done = c.in-Ok.field-0.steps in
+    let cues = c.as_slice-2.result.now in
+    let are = all_cues first c.as_slice.result.now part.cues.items c.in_ok-cues.cues.items cues c.as_slice.ensures.value c.in_ok-cues.ensures c.as_slice-2.ensures.value in
+    let keys : c.in_ok-joined.field-0.items ≡ first ++ drop (length first) came = ? in
+    let steps : c.if-stops_idle.result ≡ settled_steps c.args.stops_idle (part_view part) done = ? in
+    let late : part.at ≤ c.if-stops_idle.result = let least = at_least c.args.stops_idle (part_view part) done c.requires.fit.within in omega (arith, least, steps) in
+    came_sound c.args.system.now c.in_ok-machine.machine (part_view part) part.cues.items cues came c.in_ok-joined.field-0.items done c.if-stops_idle.result refl c.requires.fit are h.keys h.given keys late

@@ -1,47 +1,73 @@
-use Rattle.std.proofs.Common.{rules, ◌≡◌, ◌++◌, [], drop, IfErr, IfOk, map, Some, length, ℕ, ◌+◌, ◌-◌, ◌*◌, ◌<◌, ◌≤◌, ◌/◌, ◌%◌, Bool, true, false, nat_eq, nat_lt, List, ◌∷◌, slice_index_or, slice_set, bit_and, bit_or, Fits, w8, w32, w64, Bor, MutBor}
-use Rattle.cpm_batch.specs.Inputs.{IsOpened, given, start_view, timed_keys}
-use Rattle.cpm_script.specs.Cues.{all_said}
-use Rattle.cpm_run.specs.Playing.{ArePressable}
-use Rattle.cpm_run.specs.Settled.{AreSettled, HasPlayedKeys, HasSettledBy, IsSettled, opened_by, part_of, said_at, settled_view, starts_of, typed_view}
-use Rattle.cpm_run.specs.Settling.{AreFitInputs, AreReady, AreSound, AreSoundKeys, IsFitInput, IsFitPart, IsOpenable, IsPartReady, IsPartRefusal, IsSettlingRefusal, IsSound, part_view}
+use Rattle.std.proofs.Common.{◌≡◌, arith, length, map, refl, rules, sym}
+use Rattle.std.specs.Vec.Iter.{into_iter_items}
+use Rattle.std.proofs.lemmas.Result.{err_from_is_err_and}
+use Rattle.cpm_batch.specs.Inputs.{given}
+use Rattle.cpm_run.specs.Settled.{settled_view, typed_view}
+use Rattle.cpm_run.specs.declared.error.RunError.TheVariants as refusal
+use Rattle.cpm_run.proofs.SettleLemmas.{all_done, first_settled, next_ready, next_refused, pushed_view, settled_more, settled_next}
 use Rattle.cpm_run.proofs.settle.settle.Goals as goal
 
--- src/settle.rt:203:5
 pub loop-input-init : goal.loop-input-init
-loop-input-init g c = ?
+loop-input-init g c =
+    first_settled c.args.system.now c.args.stops_idle (typed_view c.args.typed.now) c.args.config.now.sessions.items c.args.inputs.items (into_iter_items c.into_iter-rest.result) c.new-settled.result.items c.into_iter-rest.ensures.rest
+    c.new-settled.ensures.items c.requires.fit
 
--- src/settle.rt:205:20
 pub settle_session-requires-clause-fit : goal.settle_session-requires-clause-fit
-settle_session-requires-clause-fit g c = ?
+settle_session-requires-clause-fit g c =
+    let l = c.loop-input in
+    let next = settled_next c.args.system.now c.args.stops_idle (typed_view c.args.typed.now) c.args.config.now.sessions.items (map given c.args.inputs.items) (into_iter_items l.rest) (into_iter_items c.next.new.self) c.in-Some.input l.settled.items c.as_slice-before.result.now
+        c.in-Some.ensures.cases.0 c.as_slice-before.ensures.value l.invariant in
+    next.fit.0
 
--- src/settle.rt:205:20
 pub settle_session-requires-clause-sound : goal.settle_session-requires-clause-sound
-settle_session-requires-clause-sound g c = ?
+settle_session-requires-clause-sound g c =
+    let l = c.loop-input in
+    let next = settled_next c.args.system.now c.args.stops_idle (typed_view c.args.typed.now) c.args.config.now.sessions.items (map given c.args.inputs.items) (into_iter_items l.rest) (into_iter_items c.next.new.self) c.in-Some.input l.settled.items c.as_slice-before.result.now
+        c.in-Some.ensures.cases.0 c.as_slice-before.ensures.value l.invariant in
+    next.sound
 
--- src/settle.rt:205:20
 pub settle_session-requires-clause-ready : goal.settle_session-requires-clause-ready
-settle_session-requires-clause-ready g c = ?
+settle_session-requires-clause-ready g c =
+    let l = c.loop-input in
+    let next = settled_next c.args.system.now c.args.stops_idle (typed_view c.args.typed.now) c.args.config.now.sessions.items (map given c.args.inputs.items) (into_iter_items l.rest) (into_iter_items c.next.new.self) c.in-Some.input l.settled.items c.as_slice-before.result.now
+        c.in-Some.ensures.cases.0 c.as_slice-before.ensures.value l.invariant in
+    next_ready c.args.system.now c.args.stops_idle (typed_view c.args.typed.now) c.args.config.now.sessions.items (map given c.args.inputs.items) (map given (into_iter_items c.next.new.self)) (given c.in-Some.input)
+    (map settled_view c.as_slice-before.result.now) (length c.as_slice-before.result.now) next c.requires.ready
 
--- src/settle.rt:205:20
 pub returns-in_err-next-clause-refusal : goal.returns-in_err-next-clause-refusal
-returns-in_err-next-clause-refusal g c = ?
+returns-in_err-next-clause-refusal g c =
+    let p = err_from_is_err_and c.from_residual.result c.from_residual.ensures.1 in
+    let l = c.loop-input in
+    let next = settled_next c.args.system.now c.args.stops_idle (typed_view c.args.typed.now) c.args.config.now.sessions.items (map given c.args.inputs.items) (into_iter_items l.rest) (into_iter_items c.next.new.self) c.in-Some.input l.settled.items c.as_slice-before.result.now
+        c.in-Some.ensures.cases.0 c.as_slice-before.ensures.value l.invariant in
+    rw (p.1, p.2) (next_refused c.args.system.now c.args.stops_idle (typed_view c.args.typed.now) c.args.config.now.sessions.items (map given c.args.inputs.items) (map given (into_iter_items c.next.new.self)) (given c.in-Some.input)
+    (map settled_view c.as_slice-before.result.now) c.in_err-next.field-0.0 next c.in_err-next.ensures.refusal)
 
--- src/settle.rt:203:5
 pub loop-input-smaller : goal.loop-input-smaller
-loop-input-smaller g c = ?
+loop-input-smaller g c = search rules
 
--- src/settle.rt:203:5
 pub loop-input-preserved : goal.loop-input-preserved
-loop-input-preserved g c = ?
+loop-input-preserved g c =
+    let l = c.loop-input in
+    let next = settled_next c.args.system.now c.args.stops_idle (typed_view c.args.typed.now) c.args.config.now.sessions.items (map given c.args.inputs.items) (into_iter_items l.rest) (into_iter_items c.next.new.self) c.in-Some.input l.settled.items c.as_slice-before.result.now
+        c.in-Some.ensures.cases.0 c.as_slice-before.ensures.value l.invariant in
+    settled_more c.args.system.now c.args.stops_idle (typed_view c.args.typed.now) c.args.config.now.sessions.items (map given c.args.inputs.items) (map given (into_iter_items c.next.new.self)) (given c.in-Some.input)
+    (map settled_view c.as_slice-before.result.now) (map settled_view c.push.new.self.items) (settled_view c.in_ok-next.next) next c.in_ok-next.ensures.settled c.in_ok-next.ensures.sound
+    (pushed_view l.settled.items c.as_slice-before.result.now c.push.new.self.items c.in_ok-next.next c.as_slice-before.ensures.value c.in_ok-push.ensures.items)
 
--- src/settle.rt:206:9
 pub returns-in_err-push-clause-refusal : goal.returns-in_err-push-clause-refusal
-returns-in_err-push-clause-refusal g c = ?
+returns-in_err-push-clause-refusal g c =
+    let p = err_from_is_err_and c.from_residual-in_err-push.result c.from_residual-in_err-push.ensures.1 in
+    let l = c.loop-input in
+    let next = settled_next c.args.system.now c.args.stops_idle (typed_view c.args.typed.now) c.args.config.now.sessions.items (map given c.args.inputs.items) (into_iter_items l.rest) (into_iter_items c.next.new.self) c.in-Some.input l.settled.items c.as_slice-before.result.now
+        c.in-Some.ensures.cases.0 c.as_slice-before.ensures.value l.invariant in
+    rw (p.1, p.2) (next_refused c.args.system.now c.args.stops_idle (typed_view c.args.typed.now) c.args.config.now.sessions.items (map given c.args.inputs.items) (map given (into_iter_items c.next.new.self)) (given c.in-Some.input)
+    (map settled_view c.as_slice-before.result.now) refusal.OutOfMemory next tt)
 
--- src/settle.rt:185:1
 pub returns-clause-settled : goal.returns-clause-settled
-returns-clause-settled g c = ?
+returns-clause-settled g c =
+    all_done c.args.system.now c.args.stops_idle (typed_view c.args.typed.now) c.args.config.now.sessions.items (map given c.args.inputs.items) (into_iter_items c.loop-input.rest) (into_iter_items c.next.new.self) c.next.result (map settled_view c.loop-input.settled.items)
+    c.next.ensures.items ? c.loop-input.invariant
 
--- src/settle.rt:185:1
 pub returns-clause-sound : goal.returns-clause-sound
-returns-clause-sound g c = ?
+returns-clause-sound g c = c.loop-input.invariant.sound
