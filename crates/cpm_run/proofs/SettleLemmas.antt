@@ -2,7 +2,6 @@
 use Rattle.std.proofs.Common.{◌≡◌, ◌∙◌, ◌<◌, ◌≤◌, ◌+◌, ◌-◌, ◌⊎◌, ⊎_elim, inl, inr, ℕ, zero, suc, Bool, true, false, ◌&&◌, List, [], ◌∷◌, ◌++◌, length, drop, get_or, map, Option, Some, None, refl, sym, ap, subst, arith, append_assoc, append-nil}
 use Rattle.std.specs.Prelude.{Vec, ⊤, IfSome, IsSome, max, nat_lt, option_map, slice_get}
 use Rattle.std.specs.List.{All}
-use Rattle.std.specs.Option.{option_to_list}
 use Rattle.std.specs.declared.alloc.Global.{Global}
 use Rattle.std.proofs.Math.Nat.{le-max_left, le-max_right}
 use Rattle.std.proofs.lemmas.List.{length-append, length-drop, length-map, map-append, map_push}
@@ -225,7 +224,7 @@ part_before typed sessions ss i p is sound = let few = few_before ss i.start sou
 pub part_fit : (typed : Option TypedSession) (sessions : List SessionConfig) (ss : List SettledSession) (i : SessionInput) (p : SessionPart) → p ≡ part_of typed sessions ss i → AreSound ss
     → IsFitInput typed (starts_of ss) i → length p.before + cued_key_count p.said ≤ most_keys → IsFitPart p
 part_fit typed sessions ss i p is sound fit few =
-    let long : length (starts_of ss) ≡ length ss = length-map ss in
+    let long : length (starts_of ss) ≡ length ss = length-map ss (λ (s : SettledSession). s.start) in
     let said : said_at typed (length (starts_of ss)) i.said ≡ p.said = ap (λ (n : ℕ). said_at typed n i.said) long ∙ sym (ap (λ (q : SessionPart). q.said) is) in
     let at : forked_at i.start ≡ p.at = sym (ap (λ (q : SessionPart). q.at) is) in
     let limit : steps_at typed (length (starts_of ss)) i.session.steps ≡ p.limit = ap (λ (n : ℕ). steps_at typed n i.session.steps) long ∙ sym (ap (λ (q : SessionPart). q.limit) is) in
@@ -419,9 +418,3 @@ pub all_settled : (system : Disk) (stops_idle : Bool) (typed : Option TypedSessi
 all_settled system stops_idle typed sessions all rest settled none h =
     let whole : h.done ≡ all = sym (append-nil h.done) ∙ ap (λ (is : List SessionInput). h.done ++ is) (sym none) ∙ h.parts in
     subst (λ (is : List SessionInput). AreSettled system stops_idle typed sessions [] is settled) whole h.keys
-
-pub all_done : (system : Disk) (stops_idle : Bool) (typed : Option TypedSession) (sessions : List SessionConfig) (all : List SessionInput) (rest more : List Input) (next : Option Input) (settled : List SettledSession)
-    → rest ≡ option_to_list next ++ more → next ≡ None → more ≡ [] → IsSettledTo system stops_idle typed sessions all (map given rest) settled → AreSettled system stops_idle typed sessions [] all settled
-all_done system stops_idle typed sessions all rest more next settled is none end h =
-    let nothing : rest ≡ [] = is ∙ ap (λ (o : Option Input). option_to_list o ++ more) none ∙ end in
-    all_settled system stops_idle typed sessions all (map given rest) settled (ap (map given) nothing) h

@@ -1,10 +1,11 @@
-use Rattle.std.proofs.Common.{◌≡◌, arith, length, map, refl, rules, sym}
-use Rattle.std.specs.Vec.Iter.{into_iter_items}
+use Rattle.std.proofs.Common.{◌≡◌, ◌∙◌, [], ap, arith, length, map, refl, rules, sym}
+use Rattle.std.specs.Vec.Iter.{into_iter_items, into_iter_len}
+use Rattle.std.proofs.lemmas.List.{nil_from_length}
 use Rattle.std.proofs.lemmas.Result.{err_from_is_err_and}
 use Rattle.cpm_batch.specs.Inputs.{given}
 use Rattle.cpm_run.specs.Settled.{settled_view, typed_view}
 use Rattle.cpm_run.specs.declared.error.RunError.TheVariants as refusal
-use Rattle.cpm_run.proofs.SettleLemmas.{all_done, first_settled, next_ready, next_refused, pushed_view, settled_more, settled_next}
+use Rattle.cpm_run.proofs.SettleLemmas.{all_settled, first_settled, next_ready, next_refused, pushed_view, settled_more, settled_next}
 use Rattle.cpm_run.proofs.settle.settle.Goals as goal
 
 pub loop-input-init : goal.loop-input-init
@@ -66,8 +67,10 @@ returns-in_err-push-clause-refusal g c =
 
 pub returns-clause-settled : goal.returns-clause-settled
 returns-clause-settled g c =
-    all_done c.args.system.now c.args.stops_idle (typed_view c.args.typed.now) c.args.config.now.sessions.items (map given c.args.inputs.items) (into_iter_items c.loop-input.rest) (into_iter_items c.next.new.self) c.next.result (map settled_view c.loop-input.settled.items)
-    c.next.ensures.items ? c.loop-input.invariant
+    let long : length (into_iter_items c.loop-input.rest) ≡ into_iter_len c.loop-input.rest = search rules in
+    let none : into_iter_items c.loop-input.rest ≡ [] = nil_from_length (into_iter_items c.loop-input.rest) (long ∙ c.in_default.ensures.cases.0) in
+    all_settled c.args.system.now c.args.stops_idle (typed_view c.args.typed.now) c.args.config.now.sessions.items (map given c.args.inputs.items) (map given (into_iter_items c.loop-input.rest))
+    (map settled_view c.loop-input.settled.items) (ap (map given) none) c.loop-input.invariant
 
 pub returns-clause-sound : goal.returns-clause-sound
 returns-clause-sound g c = c.loop-input.invariant.sound
