@@ -1,14 +1,15 @@
 -- Loops over what a session says.
-use Rattle.std.proofs.Common.{◌≡◌, ◌∙◌, ◌<◌, ◌≤◌, ◌+◌, ℕ, zero, suc, Option, Some, None, List, [], ◌∷◌, Bool, true, false, if◌then◌else◌, subst, ◌++◌, length, map, get_or, drop, refl, sym, ap, arith, append_assoc, append-nil}
+use Rattle.std.proofs.Common.{◌≡◌, ◌∙◌, ◌<◌, ◌≤◌, ◌+◌, ℕ, zero, suc, Option, Some, None, List, [], ◌∷◌, Bool, true, false, if◌then◌else◌, subst, ◌++◌, length, map, get_or, drop, take, refl, sym, ap, arith, append_assoc, append-nil}
 use Rattle.std.specs.Prelude.{Vec, max, option_map, slice_get, ◌==◌}
 use Rattle.std.specs.declared.alloc.Global.{Global}
 use Rattle.std.proofs.lemmas.Bool.Decides.{nat_tests}
-use Rattle.std.proofs.lemmas.List.{at_drop_all, drop_more, map-append}
+use Rattle.std.proofs.lemmas.List.{at_drop_all, drop_more, map-append, take_more}
 use Rattle.std.proofs.Math.Nat.{le-max_left, le-max_right, max-le}
 use Rattle.cpm_batch.specs.Inputs.{Forks, IsOpened, StartInput, start_view, timed_keys}
 use Rattle.cpm_batch.specs.declared.input.Start.{Start}
 use Rattle.cpm_batch.specs.declared.input.Start.TheVariants as start
 use Rattle.cpm_config.specs.declared.config.SessionConfig.{SessionConfig}
+use Rattle.cpm_geom.specs.declared.image.Image.{Image}
 use Rattle.cpm_script.specs.Cues.{Awaited, Counted, CueText, Pressed, all_said, cue_text, cued_key_count}
 use Rattle.cpm_script.specs.declared.cue.Cue.{Cue}
 use Rattle.cpm_script.specs.declared.cue.Cue.TheVariants as cue
@@ -163,3 +164,9 @@ pub said_typed : (typed : Option TypedKeys) (t : TypedKeys) (place : ℕ) (cues 
 said_typed typed t place cues v keys none is at own end h =
     joined_said keys none v.items h ∙ ap (λ (cs : List Cue). map Counted keys ++ map cue_text cs) end ∙ append-nil (map Counted keys) ∙ ap (map Counted) own
     ∙ sym (ap (λ (o : Option TypedKeys). said_at (typed_view o) place (all_said cues)) is ∙ here_typed t place (all_said cues) (sym at))
+
+-- ---- equal images
+
+pub copied_more : (all done more : List Image) (i : ℕ) (d copy : Image) → i < length all → d ≡ get_or all i d → copy ≡ d → done ≡ take i all → more ≡ done ++ copy ∷ [] → more ≡ take (i + 1) all
+copied_more all done more i d copy within is same so pushed =
+    pushed ∙ ap (λ (xs : List Image). xs ++ copy ∷ []) so ∙ ap (λ (x : Image). take i all ++ x ∷ []) (same ∙ is) ∙ sym (take_more all i d within)

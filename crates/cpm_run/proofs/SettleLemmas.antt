@@ -74,8 +74,8 @@ cues_few p cues fit says = let few = fit.few in let n = cues_counted p cues says
 pub all_cues : (before first : List Key) (own all cues : List Cue) → first ≡ before → all ≡ map Timed first ++ own → cues ≡ all → cues ≡ map Timed before ++ own
 all_cues before first own all cues same joined is = is ∙ joined ∙ ap (λ (ks : List Key). map Timed ks ++ own) same
 
-pub all_keys : (before first came given own rest keys : List Key) (n : ℕ) → first ≡ before → given ≡ came → n ≡ length before → rest ≡ drop n given → keys ≡ first ++ rest → keys ≡ before ++ drop (length before) came
-all_keys before first came given own rest keys n same is long left joined =
+pub all_keys : (before first came given rest keys : List Key) (n : ℕ) → first ≡ before → given ≡ came → n ≡ length before → rest ≡ drop n given → keys ≡ first ++ rest → keys ≡ before ++ drop (length before) came
+all_keys before first came given rest keys n same is long left joined =
     joined ∙ ap (λ (ks : List Key). ks ++ rest) same ∙ ap (λ (ks : List Key). before ++ ks) (left ∙ ap (λ (m : ℕ). drop m given) long ∙ ap (λ (ks : List Key). drop (length before) ks) is)
 
 -- ---- how it was played

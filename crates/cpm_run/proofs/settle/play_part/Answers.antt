@@ -40,13 +40,13 @@ returns-clause-played g c =
         c.in_ok-joined.ensures in
     let steps : c.if-stops_idle.result ≡ settled_steps c.args.stops_idle (part_view part) done = elim c.if-stops_idle.branch [
       | then-stops_idle w ↦
-          let most : c.if-stops_idle.result ≡ max done (max part.at part.last) = cc (w.result-is, w.max.ensures, w.max-then-stops_idle.ensures, c.in-Ok.done-is) in
+          let most : c.if-stops_idle.result ≡ max done (max part.at part.last) = cc (w.result-is, w.max.ensures, w.max-then-stops_idle.ensures) in
           most ∙ ap (λ (b : Bool). settled_steps b (part_view part) done) (sym w.if-stops_idle.true)
       | else-stops_idle w ↦ w.result-is ∙ ap (λ (b : Bool). settled_steps b (part_view part) done) (sym w.if-stops_idle.false)
     ] in
     let idle : c.if-stops_idle-2.result ≡ c.args.stops_idle && (look_of now).waiting = elim c.if-stops_idle-2.branch [
       | then-stops_idle-2 w ↦ w.result-is ∙ ap (λ (l : Look). l.waiting) w.look.ensures ∙ ap (λ (b : Bool). b && (look_of now).waiting) (sym w.if-stops_idle-2.true)
-      | else-stops_idle-2 w ↦ w.result-is ∙ ap (λ (b : Bool). b && (look_of now).waiting) (sym w.if-stops_idle-2.false)
+      | else-stops_idle-2 w ↦ w.result-is ∙ w.if-stops_idle-2.false ∙ ap (λ (b : Bool). b && (look_of now).waiting) (sym w.if-stops_idle-2.false)
     ] in
     played_by c.args.system.now (part_view part) c.args.stops_idle cues came done now start c.in_ok-joined.field-0.items c.if-stops_idle.result c.if-stops_idle-2.result c.in_ok-machine.ensures.machine
     (cues_say first part.cues.items cues are) (record { by = h.keys; ending = h.ending; ends = h.ends; waits = h.waits }) h.within keys steps idle
@@ -66,7 +66,7 @@ returns-clause-sound g c =
         c.in_ok-joined.ensures in
     let steps : c.if-stops_idle.result ≡ settled_steps c.args.stops_idle (part_view part) done = elim c.if-stops_idle.branch [
       | then-stops_idle w ↦
-          let most : c.if-stops_idle.result ≡ max done (max part.at part.last) = cc (w.result-is, w.max.ensures, w.max-then-stops_idle.ensures, c.in-Ok.done-is) in
+          let most : c.if-stops_idle.result ≡ max done (max part.at part.last) = cc (w.result-is, w.max.ensures, w.max-then-stops_idle.ensures) in
           most ∙ ap (λ (b : Bool). settled_steps b (part_view part) done) (sym w.if-stops_idle.true)
       | else-stops_idle w ↦ w.result-is ∙ ap (λ (b : Bool). settled_steps b (part_view part) done) (sym w.if-stops_idle.false)
     ] in
