@@ -1,5 +1,5 @@
 -- Loops over what a session says.
-use Rattle.std.proofs.Common.{◌≡◌, ◌∙◌, ◌<◌, ◌≤◌, ◌+◌, ℕ, zero, suc, Option, Some, None, List, [], ◌∷◌, Bool, true, false, if◌then◌else◌, subst, ◌++◌, length, map, get_or, drop, take, refl, sym, ap, arith, append_assoc, append-nil}
+use Rattle.std.proofs.Common.{◌≡◌, ◌∙◌, ◌<◌, ◌≤◌, ◌+◌, ℕ, zero, suc, Option, Some, None, List, [], ◌∷◌, Bool, true, if◌then◌else◌, subst, ◌++◌, length, map, get_or, drop, take, refl, sym, ap, arith, append_assoc, append-nil}
 use Rattle.std.specs.Prelude.{Vec, max, option_map, slice_get, ◌==◌}
 use Rattle.std.specs.declared.alloc.Global.{Global}
 use Rattle.std.proofs.lemmas.Bool.Decides.{nat_tests}
@@ -10,7 +10,7 @@ use Rattle.cpm_batch.specs.declared.input.Start.{Start}
 use Rattle.cpm_batch.specs.declared.input.Start.TheVariants as start
 use Rattle.cpm_config.specs.declared.config.SessionConfig.{SessionConfig}
 use Rattle.cpm_geom.specs.declared.image.Image.{Image}
-use Rattle.cpm_script.specs.Cues.{Awaited, Counted, CueText, Pressed, all_said, cue_text, cued_key_count}
+use Rattle.cpm_script.specs.Cues.{Counted, CueText, all_said, cue_text, cued_key_count}
 use Rattle.cpm_script.specs.declared.cue.Cue.{Cue}
 use Rattle.cpm_script.specs.declared.cue.Cue.TheVariants as cue
 use Rattle.cpm_script.specs.declared.script.Key.{Key}
@@ -67,7 +67,7 @@ pub key_timed : (keys more : List Key) (cs : List Cue) (i : ℕ) (x : Cue) (key 
 key_timed keys more cs i x key within is this pushed =
     ap (λ (ks : List Key). timed_after ks (timed_keys (map cue_text (drop (i + 1) cs)))) pushed ∙ one_timed keys key (timed_keys (map cue_text (drop (i + 1) cs)))
     ∙ sym (this_first (λ (said : List CueText). timed_after keys (timed_keys said)) cs i x within is
-        ∙ ap (λ (y : Cue). timed_after keys (timed_keys (cue_text y ∷ map cue_text (drop (i + 1) cs)))) this)
+    ∙ ap (λ (y : Cue). timed_after keys (timed_keys (cue_text y ∷ map cue_text (drop (i + 1) cs)))) this)
 
 none_first : (keys : List Key) (x : Cue) (rest : List Cue) → ((key : Key) → x ≡ cue.Key key → ⊥) → timed_after keys (timed_keys (cue_text x ∷ map cue_text rest)) ≡ None
 none_first keys (cue.Key key) rest other = absurd (other key refl)

@@ -1,11 +1,11 @@
 -- What settling sessions rests on.
-use Rattle.std.proofs.Common.{◌≡◌, ◌∙◌, ◌<◌, ◌≤◌, ◌+◌, ◌-◌, ◌⊎◌, ⊎_elim, inl, inr, ℕ, zero, suc, Bool, true, false, ◌&&◌, List, [], ◌∷◌, ◌++◌, length, drop, get_or, map, Option, Some, None, refl, sym, ap, subst, arith, append_assoc, append-nil}
-use Rattle.std.specs.Prelude.{Vec, ⊤, IfSome, IsSome, max, nat_lt, option_map, slice_get}
+use Rattle.std.proofs.Common.{◌≡◌, ◌∙◌, ◌<◌, ◌≤◌, ◌+◌, ⊎_elim, inl, inr, ℕ, zero, suc, Bool, true, false, ◌&&◌, List, [], ◌∷◌, ◌++◌, length, drop, get_or, map, Option, Some, None, refl, sym, ap, subst, arith, append_assoc, append-nil}
+use Rattle.std.specs.Prelude.{Vec, IfSome, IsSome, max, nat_lt, option_map, slice_get}
 use Rattle.std.specs.List.{All}
 use Rattle.std.specs.declared.alloc.Global.{Global}
 use Rattle.std.proofs.Math.Nat.{le-max_left, le-max_right}
 use Rattle.std.proofs.lemmas.List.{length-append, length-drop, length-map, map-append, map_push}
-use Rattle.std.proofs.lemmas.List.Elements.{All-append, All-cons, All-drop, All-filter, All-get_or, All-nil}
+use Rattle.std.proofs.lemmas.List.Elements.{All-append, All-cons, All-drop, All-filter, All-nil}
 use Rattle.std.proofs.lemmas.Option.{get_or_from_slice_get, slice_get-map, slice_get_within}
 use Rattle.cpm_batch.specs.Inputs.{Forks, IsOpened, Opens, SessionInput, StartInput, given, timed_keys}
 use Rattle.cpm_batch.specs.declared.input.Input.{Input}
@@ -29,9 +29,9 @@ use Rattle.cpm_script.proofs.CueLemmas.{ascii-append, counted-keys, keys_in-appe
 use Rattle.cpm_script.proofs.ForkLemmas.{length-keys_before}
 use Rattle.cpm_run.specs.Playing.{IsForkPressable, IsPressableBy}
 use Rattle.cpm_run.specs.Run.{starts_read}
-use Rattle.cpm_run.specs.Settled.{AreSettled, HasPlayedKeys, IsPlayedAlone, IsSettled, SessionPart, SettledSession, TypedSession}
+use Rattle.cpm_run.specs.Settled.{AreSettled, HasPlayedKeys, IsSettled, SessionPart, SettledSession, TypedSession}
 use Rattle.cpm_run.specs.Settled.{before_in, forked_at, keys_if_settled, opened_by, part_of, said_at, settled_steps, settled_view, starts_of, steps_at}
-use Rattle.cpm_run.specs.Settling.{AreBelow80h, AreFitInputs, AreOpenable, ArePlain, AreReady, AreSound, AreSoundKeys, HasParent, IsFitInput, IsFitPart, IsOpenable}
+use Rattle.cpm_run.specs.Settling.{AreBelow80h, AreFitInputs, AreOpenable, AreReady, AreSound, AreSoundKeys, HasParent, IsFitInput, IsFitPart, IsOpenable}
 use Rattle.cpm_run.specs.Settling.{IsPartReady, IsPartRefusal, IsSettlingRefusal, IsSound}
 use Rattle.cpm_run.specs.declared.settled.SettledInput.{SettledInput}
 use Rattle.cpm_run.specs.declared.error.RunError.{RunError}
@@ -324,9 +324,11 @@ keys_more system stops_idle typed sessions before [] [] i s all one =
     (subst (λ (xs : List SettledSession). IsSettled system stops_idle (part_of typed sessions xs i) i s) (append-nil before) one, tt)
 keys_more system stops_idle typed sessions before [] (x ∷ ss) i s all one = absurd all
 keys_more system stops_idle typed sessions before (j ∷ is) [] i s all one = absurd all
-keys_more system stops_idle typed sessions before (j ∷ is) (x ∷ ss) i s all one =
-    (all.0, keys_more system stops_idle typed sessions (before ++ x ∷ []) is ss i s all.1
-    (subst (λ (xs : List SettledSession). IsSettled system stops_idle (part_of typed sessions xs i) i s) (sym (append_assoc before (x ∷ []) ss)) one))
+keys_more system stops_idle typed sessions before (j ∷ is) (x ∷ ss) i s all one = (
+  all.0,
+  keys_more system stops_idle typed sessions (before ++ x ∷ []) is ss i s all.1
+      (subst (λ (xs : List SettledSession). IsSettled system stops_idle (part_of typed sessions xs i) i s) (sym (append_assoc before (x ∷ []) ss)) one),
+)
 
 -- the code's values: the next of those still to come, after those that are settled
 pub settled_next : (system : Disk) (stops_idle : Bool) (typed : Option TypedSession) (sessions : List SessionConfig) (all : List SessionInput) (rest more : List Input) (input : Input) (settled now : List SettledInput)
@@ -396,14 +398,14 @@ pub next_ready : (system : Disk) (stops_idle : Bool) (typed : Option TypedSessio
     → IsSettledTo system stops_idle typed sessions all (i ∷ rest) settled → AreReady stops_idle typed all → IsPartReady stops_idle (said_at typed place i.said) (opened_by (starts_of settled) i.start)
 next_ready system stops_idle typed sessions all rest i settled place h ready =
     ⊎_elim (λ plain.
-      let timed = subst (λ (is : List SessionInput). All (λ (x : SessionInput). IsSome (timed_keys x.said)) is) (sym h.parts) plain.timed in
-      inl (plain.runs_on, untyped typed place i.said plain.untyped (all_there (λ (x : SessionInput). IsSome (timed_keys x.said)) h.done rest i timed)))
+    let timed = subst (λ (is : List SessionInput). All (λ (x : SessionInput). IsSome (timed_keys x.said)) is) (sym h.parts) plain.timed in
+    inl (plain.runs_on, untyped typed place i.said plain.untyped (all_there (λ (x : SessionInput). IsSome (timed_keys x.said)) h.done rest i timed)))
     (λ openable.
-      let joined : starts_read all ≡ starts_read h.done ++ i.start ∷ starts_read rest = sym (ap starts_read h.parts) ∙ starts_joined h.done (i ∷ rest) in
-      let good = subst AreOpenable joined openable in
-      let own = all_there (λ (b : StartInput). IsOpened b → IsOpenable b) (starts_read h.done) (starts_read rest) i.start good in
-      let before = all_before (λ (b : StartInput). IsOpened b → IsOpenable b) (starts_read h.done) (i.start ∷ starts_read rest) good in
-      inr (openable_there (starts_of settled) i.start (subst AreOpenable h.starts before) own h.fit.0.parent)) ready
+    let joined : starts_read all ≡ starts_read h.done ++ i.start ∷ starts_read rest = sym (ap starts_read h.parts) ∙ starts_joined h.done (i ∷ rest) in
+    let good = subst AreOpenable joined openable in
+    let own = all_there (λ (b : StartInput). IsOpened b → IsOpenable b) (starts_read h.done) (starts_read rest) i.start good in
+    let before = all_before (λ (b : StartInput). IsOpened b → IsOpenable b) (starts_read h.done) (i.start ∷ starts_read rest) good in
+    inr (openable_there (starts_of settled) i.start (subst AreOpenable h.starts before) own h.fit.0.parent)) ready
 
 -- ---- how settling is refused
 

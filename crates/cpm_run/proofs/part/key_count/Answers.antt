@@ -19,8 +19,8 @@ loop-cue-preserved c =
       }
       | in-Key w ↦ record {
         same =
-          ⊎_elim (λ key. omega (arith, i.same, w.count-is, key_counted cs place c.cue-item.result key.0 within c.cue-item.is key.1))
-          (λ press. omega (arith, i.same, w.count-is, press_counted cs place c.cue-item.result press.0 within c.cue-item.is press.1)) w.in-Key.is;
+            ⊎_elim (λ key. omega (arith, i.same, w.count-is, key_counted cs place c.cue-item.result key.0 within c.cue-item.is key.1))
+            (λ press. omega (arith, i.same, w.count-is, press_counted cs place c.cue-item.result press.0 within c.cue-item.is press.1)) w.in-Key.is;
         fits = omega (arith, i.fits, w.count-is);
       }
     ]

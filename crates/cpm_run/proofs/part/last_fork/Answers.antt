@@ -1,7 +1,6 @@
-use Rattle.std.proofs.Common.{◌≡◌, ◌∙◌, ◌<◌, ◌≤◌, List, ap, get_or, length, subst}
+use Rattle.std.proofs.Common.{◌≡◌, ◌∙◌, ◌<◌, ◌≤◌, List, get_or, length, subst}
 use Rattle.std.specs.Prelude.{max}
 use Rattle.cpm_config.specs.declared.config.SessionConfig.{SessionConfig}
-use Rattle.cpm_run.specs.Settled.{fork_count}
 use Rattle.cpm_run.proofs.PartLemmas.{all_forks, fork_more, no_forks}
 use Rattle.cpm_run.proofs.part.last_fork.Goals as goal
 

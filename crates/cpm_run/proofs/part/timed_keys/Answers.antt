@@ -1,7 +1,6 @@
-use Rattle.std.proofs.Common.{◌≡◌, ◌∙◌, List, ap, map}
+use Rattle.std.proofs.Common.{◌∙◌, map}
 use Rattle.cpm_batch.specs.Inputs.{timed_keys}
 use Rattle.cpm_script.specs.Cues.{cue_text}
-use Rattle.cpm_script.specs.declared.script.Key.{Key}
 use Rattle.cpm_run.proofs.PartLemmas.{all_timed, key_timed, nil_timed, none_timed}
 use Rattle.cpm_run.proofs.part.timed_keys.Goals as goal
 

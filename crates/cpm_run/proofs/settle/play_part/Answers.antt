@@ -1,12 +1,7 @@
-use Rattle.std.proofs.Common.{arith, ◌≤◌, ◌≡◌, ◌∙◌, ◌++◌, Bool, true, false, ◌&&◌, List, ap, drop, length, map, refl, rules, sym, subst}
-use Rattle.std.specs.Prelude.{Vec, max}
-use Rattle.std.specs.declared.alloc.Global.{Global}
+use Rattle.std.proofs.Common.{arith, ◌≤◌, ◌≡◌, ◌∙◌, ◌++◌, Bool, ◌&&◌, ap, drop, length, refl, rules, sym}
+use Rattle.std.specs.Prelude.{max}
 use Rattle.cpm_machine.specs.Serve.{look_of}
 use Rattle.cpm_machine.specs.declared.reply.Look.{Look}
-use Rattle.cpm_script.specs.Cues.{Counted, cue_text}
-use Rattle.cpm_script.specs.declared.cue.Cue.{Cue}
-use Rattle.cpm_script.specs.declared.cue.Cue.TheVariants.{Key as Timed}
-use Rattle.cpm_script.specs.declared.script.Key.{Key}
 use Rattle.cpm_run.specs.Settled.{settled_steps}
 use Rattle.cpm_run.specs.Settling.{part_view}
 use Rattle.cpm_run.proofs.SettleLemmas.{came_sound, cues_ascii, cues_few, cues_say, all_cues, all_keys, at_least, played_by}
@@ -37,7 +32,7 @@ returns-clause-played g c =
     let count : c.len.result ≡ length first = search rules in
     let keys : c.in_ok-joined.field-0.items ≡ first ++ drop (length first) came =
     all_keys first c.as_slice-4.result.now came c.as_slice-3.result.now c.keys_after-own.result.now c.in_ok-joined.field-0.items c.len.result c.as_slice-4.ensures.value c.as_slice-3.ensures.value count c.keys_after-own.ensures
-        c.in_ok-joined.ensures in
+    c.in_ok-joined.ensures in
     let steps : c.if-stops_idle.result ≡ settled_steps c.args.stops_idle (part_view part) done = elim c.if-stops_idle.branch [
       | then-stops_idle w ↦
           let most : c.if-stops_idle.result ≡ max done (max part.at part.last) = cc (w.result-is, w.max.ensures, w.max-then-stops_idle.ensures) in
@@ -63,7 +58,7 @@ returns-clause-sound g c =
     let count : c.len.result ≡ length first = search rules in
     let keys : c.in_ok-joined.field-0.items ≡ first ++ drop (length first) came =
     all_keys first c.as_slice-4.result.now came c.as_slice-3.result.now c.keys_after-own.result.now c.in_ok-joined.field-0.items c.len.result c.as_slice-4.ensures.value c.as_slice-3.ensures.value count c.keys_after-own.ensures
-        c.in_ok-joined.ensures in
+    c.in_ok-joined.ensures in
     let steps : c.if-stops_idle.result ≡ settled_steps c.args.stops_idle (part_view part) done = elim c.if-stops_idle.branch [
       | then-stops_idle w ↦
           let most : c.if-stops_idle.result ≡ max done (max part.at part.last) = cc (w.result-is, w.max.ensures, w.max-then-stops_idle.ensures) in

@@ -1,4 +1,4 @@
-use Rattle.std.proofs.Common.{◌≡◌, ◌∙◌, [], ap, arith, length, map, refl, rules, sym}
+use Rattle.std.proofs.Common.{◌≡◌, ◌∙◌, [], ap, length, map, rules}
 use Rattle.std.specs.Vec.Iter.{into_iter_items, into_iter_len}
 use Rattle.std.proofs.lemmas.List.{nil_from_length}
 use Rattle.std.proofs.lemmas.Result.{err_from_is_err_and}
@@ -17,21 +17,21 @@ pub settle_session-requires-clause-fit : goal.settle_session-requires-clause-fit
 settle_session-requires-clause-fit g c =
     let l = c.loop-input in
     let next = settled_next c.args.system.now c.args.stops_idle (typed_view c.args.typed.now) c.args.config.now.sessions.items (map given c.args.inputs.items) (into_iter_items l.rest) (into_iter_items c.next.new.self) c.in-Some.input l.settled.items c.as_slice-before.result.now
-        c.in-Some.ensures.cases.0 c.as_slice-before.ensures.value l.invariant in
+    c.in-Some.ensures.cases.0 c.as_slice-before.ensures.value l.invariant in
     next.fit.0
 
 pub settle_session-requires-clause-sound : goal.settle_session-requires-clause-sound
 settle_session-requires-clause-sound g c =
     let l = c.loop-input in
     let next = settled_next c.args.system.now c.args.stops_idle (typed_view c.args.typed.now) c.args.config.now.sessions.items (map given c.args.inputs.items) (into_iter_items l.rest) (into_iter_items c.next.new.self) c.in-Some.input l.settled.items c.as_slice-before.result.now
-        c.in-Some.ensures.cases.0 c.as_slice-before.ensures.value l.invariant in
+    c.in-Some.ensures.cases.0 c.as_slice-before.ensures.value l.invariant in
     next.sound
 
 pub settle_session-requires-clause-ready : goal.settle_session-requires-clause-ready
 settle_session-requires-clause-ready g c =
     let l = c.loop-input in
     let next = settled_next c.args.system.now c.args.stops_idle (typed_view c.args.typed.now) c.args.config.now.sessions.items (map given c.args.inputs.items) (into_iter_items l.rest) (into_iter_items c.next.new.self) c.in-Some.input l.settled.items c.as_slice-before.result.now
-        c.in-Some.ensures.cases.0 c.as_slice-before.ensures.value l.invariant in
+    c.in-Some.ensures.cases.0 c.as_slice-before.ensures.value l.invariant in
     next_ready c.args.system.now c.args.stops_idle (typed_view c.args.typed.now) c.args.config.now.sessions.items (map given c.args.inputs.items) (map given (into_iter_items c.next.new.self)) (given c.in-Some.input)
     (map settled_view c.as_slice-before.result.now) (length c.as_slice-before.result.now) next c.requires.ready
 
@@ -40,7 +40,7 @@ returns-in_err-next-clause-refusal g c =
     let p = err_from_is_err_and c.from_residual.result c.from_residual.ensures.1 in
     let l = c.loop-input in
     let next = settled_next c.args.system.now c.args.stops_idle (typed_view c.args.typed.now) c.args.config.now.sessions.items (map given c.args.inputs.items) (into_iter_items l.rest) (into_iter_items c.next.new.self) c.in-Some.input l.settled.items c.as_slice-before.result.now
-        c.in-Some.ensures.cases.0 c.as_slice-before.ensures.value l.invariant in
+    c.in-Some.ensures.cases.0 c.as_slice-before.ensures.value l.invariant in
     rw (p.1, p.2) (next_refused c.args.system.now c.args.stops_idle (typed_view c.args.typed.now) c.args.config.now.sessions.items (map given c.args.inputs.items) (map given (into_iter_items c.next.new.self)) (given c.in-Some.input)
     (map settled_view c.as_slice-before.result.now) c.in_err-next.field-0.0 next c.in_err-next.ensures.refusal)
 
@@ -51,7 +51,7 @@ pub loop-input-preserved : goal.loop-input-preserved
 loop-input-preserved g c =
     let l = c.loop-input in
     let next = settled_next c.args.system.now c.args.stops_idle (typed_view c.args.typed.now) c.args.config.now.sessions.items (map given c.args.inputs.items) (into_iter_items l.rest) (into_iter_items c.next.new.self) c.in-Some.input l.settled.items c.as_slice-before.result.now
-        c.in-Some.ensures.cases.0 c.as_slice-before.ensures.value l.invariant in
+    c.in-Some.ensures.cases.0 c.as_slice-before.ensures.value l.invariant in
     settled_more c.args.system.now c.args.stops_idle (typed_view c.args.typed.now) c.args.config.now.sessions.items (map given c.args.inputs.items) (map given (into_iter_items c.next.new.self)) (given c.in-Some.input)
     (map settled_view c.as_slice-before.result.now) (map settled_view c.push.new.self.items) (settled_view c.in_ok-next.next) next c.in_ok-next.ensures.settled c.in_ok-next.ensures.sound
     (pushed_view l.settled.items c.as_slice-before.result.now c.push.new.self.items c.in_ok-next.next c.as_slice-before.ensures.value c.in_ok-push.ensures.items)
@@ -61,7 +61,7 @@ returns-in_err-push-clause-refusal g c =
     let p = err_from_is_err_and c.from_residual-in_err-push.result c.from_residual-in_err-push.ensures.1 in
     let l = c.loop-input in
     let next = settled_next c.args.system.now c.args.stops_idle (typed_view c.args.typed.now) c.args.config.now.sessions.items (map given c.args.inputs.items) (into_iter_items l.rest) (into_iter_items c.next.new.self) c.in-Some.input l.settled.items c.as_slice-before.result.now
-        c.in-Some.ensures.cases.0 c.as_slice-before.ensures.value l.invariant in
+    c.in-Some.ensures.cases.0 c.as_slice-before.ensures.value l.invariant in
     rw (p.1, p.2) (next_refused c.args.system.now c.args.stops_idle (typed_view c.args.typed.now) c.args.config.now.sessions.items (map given c.args.inputs.items) (map given (into_iter_items c.next.new.self)) (given c.in-Some.input)
     (map settled_view c.as_slice-before.result.now) refusal.OutOfMemory next tt)
 

@@ -1,6 +1,4 @@
-use Rattle.std.proofs.Common.{◌≡◌, ◌∙◌, ◌++◌, List, Some, Option, ap, refl, sym, map}
-use Rattle.cpm_batch.specs.Inputs.{timed_keys}
-use Rattle.cpm_script.specs.declared.script.Key.{Key}
+use Rattle.std.proofs.Common.{refl}
 use Rattle.cpm_run.specs.Settling.{part_view}
 use Rattle.cpm_run.proofs.SettleLemmas.{written_part}
 use Rattle.cpm_run.proofs.settle.settle_part.Goals as goal
