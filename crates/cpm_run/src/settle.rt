@@ -94,13 +94,23 @@ fn play_part<T: RunWatcher>(
         watcher,
     );
     // (what is dropped can always be written, so that it fails for nothing else)
-    let Ok(LivePlay { keys: came, steps: done }) = played else {
+    let Ok(
+        LivePlay {
+            keys: came,
+            steps: done,
+        },
+    ) = played
+    else {
         return Err(RunError::OutOfMemory);
     };
     let own = keys_after(came.as_slice(), before.len());
     Ok(PartPlay {
         keys: joined(alloc, before.as_slice(), own)?,
-        steps: if stops_idle { at.max(last).max(done) } else { steps },
+        steps: if stops_idle {
+            done.max(at.max(last))
+        } else {
+            steps
+        },
         is_idle: stops_idle && machine.look().waiting,
     })
 }
@@ -202,7 +212,9 @@ pub(crate) fn settle<'a, T: RunWatcher>(
     let mut rest = inputs.into_iter();
     while let Some(input) = rest.next() {
         let before = settled.as_slice();
-        let next = settle_session(alloc, config, system, input, before, typed, stops_idle, watcher)?;
+        let next = settle_session(
+            alloc, config, system, input, before, typed, stops_idle, watcher,
+        )?;
         settled.push(next)?;
     }
     Ok(settled)

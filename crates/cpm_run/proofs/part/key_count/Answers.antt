@@ -1,23 +1,29 @@
-use Rattle.std.proofs.Common.{rules, ◌≡◌, Some, IfOk, map, option_map, ℕ, ◌+◌, ◌-◌, ◌*◌, ◌<◌, ◌≤◌, length, ◌/◌, ◌%◌, Bool, true, false, nat_eq, nat_lt, List, [], ◌∷◌, ◌++◌, slice_index_or, slice_set, bit_and, bit_or, Fits, w8, w32, w64, Bor, MutBor}
-use Rattle.cpm_batch.specs.Inputs.{IsOpened, given, start_view, timed_keys}
-use Rattle.cpm_play.specs.Cued.{key_count}
-use Rattle.cpm_script.specs.Cues.{all_said, cue_text}
-use Rattle.cpm_run.specs.Settled.{before_in, fork_count, forked_at, last_fork, opened_by, part_of, said_at, settled_view, starts_of, steps_at, typed_view}
-use Rattle.cpm_run.specs.Settling.{HasParent, part_view}
+use Rattle.std.proofs.Common.{⊎_elim, arith}
+use Rattle.cpm_run.proofs.PartLemmas.{key_counted, none_counted, press_counted, wait_counted}
+use Rattle.cpm_run.proofs.part.key_count.Goals.{in-Wait, in-Key}
 use Rattle.cpm_run.proofs.part.key_count.Goals as goal
 
--- src/part.rt:39:5
 pub loop-cue-init : goal.loop-cue-init
-loop-cue-init c = ?
+loop-cue-init c = record { same = omega arith; fits = omega arith }
 
--- src/part.rt:41:44
-pub overflow_add-count : goal.overflow_add-count
-overflow_add-count c = ?
-
--- src/part.rt:39:5
 pub loop-cue-preserved : goal.loop-cue-preserved
-loop-cue-preserved c = ?
+loop-cue-preserved c =
+    let i = c.loop-cue.invariant in
+    let cs = c.args.cues.now in
+    let place = c.loop-cue.cue-index in
+    let within = c.loop-cue-test.true in
+    elim c.match-cue.branch [
+      | in-Wait w ↦ record {
+        same = omega (arith, i.same, w.count-is, wait_counted cs place c.cue-item.result w.in-Wait.field-0 within c.cue-item.is w.in-Wait.is);
+        fits = omega (arith, i.fits, w.count-is);
+      }
+      | in-Key w ↦ record {
+        same =
+            ⊎_elim (λ key. omega (arith, i.same, w.count-is, key_counted cs place c.cue-item.result key.0 within c.cue-item.is key.1))
+            (λ press. omega (arith, i.same, w.count-is, press_counted cs place c.cue-item.result press.0 within c.cue-item.is press.1)) w.in-Key.is;
+        fits = omega (arith, i.fits, w.count-is);
+      }
+    ]
 
--- src/part.rt:35:1
 pub returns : goal.returns
-returns c = ?
+returns c = omega (arith, c.loop-cue.invariant.same, none_counted c.args.cues.now c.loop-cue.cue-index c.loop-cue-test.false)

@@ -1,19 +1,23 @@
-use Rattle.std.proofs.Common.{rules, ◌≡◌, Some, IfOk, map, option_map, ℕ, ◌+◌, ◌-◌, ◌*◌, ◌<◌, ◌≤◌, length, ◌/◌, ◌%◌, Bool, true, false, nat_eq, nat_lt, List, [], ◌∷◌, ◌++◌, slice_index_or, slice_set, bit_and, bit_or, Fits, w8, w32, w64, Bor, MutBor}
-use Rattle.cpm_batch.specs.Inputs.{IsOpened, given, start_view, timed_keys}
-use Rattle.cpm_play.specs.Cued.{key_count}
-use Rattle.cpm_script.specs.Cues.{all_said, cue_text}
-use Rattle.cpm_run.specs.Settled.{before_in, fork_count, forked_at, last_fork, opened_by, part_of, said_at, settled_view, starts_of, steps_at, typed_view}
-use Rattle.cpm_run.specs.Settling.{HasParent, part_view}
+use Rattle.std.proofs.Common.{◌≡◌, ◌∙◌, ◌<◌, ◌≤◌, List, get_or, length, subst}
+use Rattle.std.specs.Prelude.{max}
+use Rattle.cpm_config.specs.declared.config.SessionConfig.{SessionConfig}
+use Rattle.cpm_run.proofs.PartLemmas.{all_forks, fork_more, no_forks}
 use Rattle.cpm_run.proofs.part.last_fork.Goals as goal
 
--- src/part.rt:77:5
 pub loop-session-init : goal.loop-session-init
-loop-session-init c = ?
+loop-session-init c = no_forks c.args.name.now c.args.config.now.sessions.items
 
--- src/part.rt:77:5
 pub loop-session-preserved : goal.loop-session-preserved
-loop-session-preserved c = ?
+loop-session-preserved c =
+    let i = c.loop-session.session-index in
+    let s = c.session-item.result in
+    let all = c.deref-session-items.ensures.value in
+    let within = subst (λ (ss : List SessionConfig). i < length ss) all c.loop-session-test.true in
+    let is = subst (λ (ss : List SessionConfig). s ≡ get_or ss i s) all c.session-item.is in
+    fork_more c.args.name.now c.loop-session.last c.max-last.result c.args.config.now.sessions.items i s within is
+    (subst (λ n. c.max-last.result ≡ max n c.loop-session.last) c.fork_count.ensures c.max-last.ensures) ∙ c.loop-session.invariant
 
--- src/part.rt:73:1
 pub returns : goal.returns
-returns c = ?
+returns c =
+    let past = subst (λ (ss : List SessionConfig). length ss ≤ c.loop-session.session-index) c.deref-session-items.ensures.value c.loop-session-test.false in
+    all_forks c.args.name.now c.loop-session.last c.args.config.now.sessions.items c.loop-session.session-index past ∙ c.loop-session.invariant

@@ -1,23 +1,20 @@
-use Rattle.std.proofs.Common.{rules, ◌≡◌, Some, IfOk, map, option_map, ℕ, ◌+◌, ◌-◌, ◌*◌, ◌<◌, ◌≤◌, length, ◌/◌, ◌%◌, Bool, true, false, nat_eq, nat_lt, List, [], ◌∷◌, ◌++◌, slice_index_or, slice_set, bit_and, bit_or, Fits, w8, w32, w64, Bor, MutBor}
-use Rattle.cpm_batch.specs.Inputs.{IsOpened, given, start_view, timed_keys}
-use Rattle.cpm_play.specs.Cued.{key_count}
-use Rattle.cpm_script.specs.Cues.{all_said, cue_text}
-use Rattle.cpm_run.specs.Settled.{before_in, fork_count, forked_at, last_fork, opened_by, part_of, said_at, settled_view, starts_of, steps_at, typed_view}
-use Rattle.cpm_run.specs.Settling.{HasParent, part_view}
+use Rattle.std.proofs.Common.{◌∙◌, map}
+use Rattle.cpm_batch.specs.Inputs.{timed_keys}
+use Rattle.cpm_script.specs.Cues.{cue_text}
+use Rattle.cpm_run.proofs.PartLemmas.{all_timed, key_timed, nil_timed, none_timed}
 use Rattle.cpm_run.proofs.part.timed_keys.Goals as goal
 
--- src/part.rt:53:5
 pub loop-cue-init : goal.loop-cue-init
-loop-cue-init c = ?
+loop-cue-init c = nil_timed c.new-keys.result.items (timed_keys (map cue_text c.args.cues.now)) c.new-keys.ensures.items
 
--- src/part.rt:55:13
 pub returns-in_default : goal.returns-in_default
-returns-in_default c = ?
+returns-in_default c =
+    none_timed c.loop-cue.keys.items c.args.cues.now c.loop-cue.cue-index c.cue-item.result c.loop-cue-test.true c.cue-item.is c.in_default.not-Key ∙ c.loop-cue.invariant
 
--- src/part.rt:53:5
 pub loop-cue-preserved : goal.loop-cue-preserved
-loop-cue-preserved c = ?
+loop-cue-preserved c =
+    key_timed c.loop-cue.keys.items c.push.new.self.items c.args.cues.now c.loop-cue.cue-index c.cue-item.result c.in-Key.key c.loop-cue-test.true c.cue-item.is c.in-Key.is
+    c.in_ok-push.ensures.items ∙ c.loop-cue.invariant
 
--- src/part.rt:49:1
 pub returns : goal.returns
-returns c = ?
+returns c = all_timed c.loop-cue.keys.items c.args.cues.now c.loop-cue.cue-index c.loop-cue-test.false ∙ c.loop-cue.invariant
