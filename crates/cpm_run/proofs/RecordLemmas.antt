@@ -9,7 +9,7 @@ use Rattle.cpm_script.specs.Recording.{key_line, recorded}
 use Rattle.cpm_script.specs.declared.script.Key.{Key}
 use Rattle.cpm_store.specs.Writes.{NamedBytes}
 use Rattle.cpm_run.specs.Playing.{IsPressableBy}
-use Rattle.cpm_run.specs.Run.{record_of, records_of}
+use Rattle.cpm_run.specs.Run.{record_of, record_outputs}
 use Rattle.cpm_run.specs.Settled.{SettledSession, settled_view}
 use Rattle.cpm_run.specs.Settling.{AreBelow80h, AreSound}
 use Rattle.cpm_run.specs.declared.options.RecordFile.{RecordFile}
@@ -31,31 +31,31 @@ lines-all keys i lines past all = sym (append-nil lines) ∙ sym (at_drop_all (�
 
 -- ---- records
 
-none_left : (rs : List RecordFile) → records_of rs [] ≡ []
+none_left : (rs : List RecordFile) → record_outputs rs [] ≡ []
 none_left [] = refl
 none_left (r ∷ rs) = refl
 
 pub records-past : (rs : List RecordFile) (ss : List SettledInput) (i : ℕ) (outputs : List NamedBytes) → length ss ≤ i
-    → outputs ++ records_of (drop i rs) (map settled_view (drop i ss)) ≡ records_of rs (map settled_view ss) → outputs ≡ records_of rs (map settled_view ss)
+    → outputs ++ record_outputs (drop i rs) (map settled_view (drop i ss)) ≡ record_outputs rs (map settled_view ss) → outputs ≡ record_outputs rs (map settled_view ss)
 records-past rs ss i outputs past all =
     sym (append-nil outputs) ∙ ap (λ (os : List NamedBytes). outputs ++ os) (sym (none_left (drop i rs)))
-    ∙ sym (at_drop_all (λ (xs : List SettledInput). outputs ++ records_of (drop i rs) (map settled_view xs)) ss i past) ∙ all
+    ∙ sym (at_drop_all (λ (xs : List SettledInput). outputs ++ record_outputs (drop i rs) (map settled_view xs)) ss i past) ∙ all
 
 pub records-all : (rs : List RecordFile) (ss : List SettledInput) (i : ℕ) (outputs : List NamedBytes) → length rs ≤ i
-    → outputs ++ records_of (drop i rs) (map settled_view (drop i ss)) ≡ records_of rs (map settled_view ss) → outputs ≡ records_of rs (map settled_view ss)
+    → outputs ++ record_outputs (drop i rs) (map settled_view (drop i ss)) ≡ record_outputs rs (map settled_view ss) → outputs ≡ record_outputs rs (map settled_view ss)
 records-all rs ss i outputs past all =
-    sym (append-nil outputs) ∙ sym (at_drop_all (λ (xs : List RecordFile). outputs ++ records_of xs (map settled_view (drop i ss))) rs i past) ∙ all
+    sym (append-nil outputs) ∙ sym (at_drop_all (λ (xs : List RecordFile). outputs ++ record_outputs xs (map settled_view (drop i ss))) rs i past) ∙ all
 
 pub records-more : (rs : List RecordFile) (ss : List SettledInput) (i : ℕ) (d : RecordFile) (e : SettledInput) (own : List Key) (outputs more : List NamedBytes) → i < length rs → i < length ss
     → e ≡ get_or ss i e → own ≡ drop e.before e.keys.items → more ≡ outputs ++ record_of (get_or rs i d) own
-    → outputs ++ records_of (drop i rs) (map settled_view (drop i ss)) ≡ records_of rs (map settled_view ss)
-    → more ++ records_of (drop (i + 1) rs) (map settled_view (drop (i + 1) ss)) ≡ records_of rs (map settled_view ss)
+    → outputs ++ record_outputs (drop i rs) (map settled_view (drop i ss)) ≡ record_outputs rs (map settled_view ss)
+    → more ++ record_outputs (drop (i + 1) rs) (map settled_view (drop (i + 1) ss)) ≡ record_outputs rs (map settled_view ss)
 records-more rs ss i d e own outputs more there too at own_is is all =
-    let rest = records_of (drop (i + 1) rs) (map settled_view (drop (i + 1) ss)) in
+    let rest = record_outputs (drop (i + 1) rs) (map settled_view (drop (i + 1) ss)) in
     ap (λ (os : List NamedBytes). os ++ rest) is ∙ append_assoc outputs (record_of (get_or rs i d) own) rest
     ∙ ap (λ (ks : List Key). outputs ++ (record_of (get_or rs i d) ks ++ rest)) (own_is ∙ ap (λ (x : SettledInput). drop x.before x.keys.items) at)
-    ∙ ap (λ (xs : List SettledInput). outputs ++ records_of (get_or rs i d ∷ drop (i + 1) rs) (map settled_view xs)) (sym (drop_more ss i e too))
-    ∙ ap (λ (xs : List RecordFile). outputs ++ records_of xs (map settled_view (drop i ss))) (sym (drop_more rs i d there)) ∙ all
+    ∙ ap (λ (xs : List SettledInput). outputs ++ record_outputs (get_or rs i d ∷ drop (i + 1) rs) (map settled_view xs)) (sym (drop_more ss i e too))
+    ∙ ap (λ (xs : List RecordFile). outputs ++ record_outputs xs (map settled_view (drop i ss))) (sym (drop_more rs i d there)) ∙ all
 
 -- own keys are below 80h
 pub own-below : (ss : List SettledInput) (i : ℕ) (e : SettledInput) (own : List Key) → AreSound (map settled_view ss) → i < length ss → e ≡ get_or ss i e → own ≡ drop e.before e.keys.items → AreBelow80h own

@@ -32,7 +32,7 @@ use Rattle.cpm_run.specs.Run.{starts_read}
 use Rattle.cpm_run.specs.Settled.{AreSettled, HasPlayedKeys, IsSettled, SessionPart, SettledSession, TypedSession}
 use Rattle.cpm_run.specs.Settled.{before_in, forked_at, keys_if_settled, opened_by, part_of, said_at, settled_steps, settled_view, starts_of, steps_at}
 use Rattle.cpm_run.specs.Settling.{AreBelow80h, AreFitInputs, AreOpenable, AreReady, AreSound, AreSoundKeys, HasParent, IsFitInput, IsFitPart, IsOpenable}
-use Rattle.cpm_run.specs.Settling.{IsPartReady, IsPartRefusal, IsSettlingRefusal, IsSound}
+use Rattle.cpm_run.specs.Settling.{IsPartReady, IsPartRefusal, IsSettlingRefusal, IsSoundAfter}
 use Rattle.cpm_run.specs.declared.settled.SettledInput.{SettledInput}
 use Rattle.cpm_run.specs.declared.error.RunError.{RunError}
 use Rattle.cpm_run.proofs.OrderLemmas.{own_from}
@@ -252,7 +252,7 @@ pressable ss (Forks parent at) s own h joined order few within =
     fork_sound ss parent at h.0 own s (slice_get ss parent) refl (sym (slice_get-map (λ (x : SettledSession). x.start) ss parent) ∙ h.1) h.2 joined order few within
 
 pub session_sound : (typed : Option TypedSession) (sessions : List SessionConfig) (ss : List SettledSession) (i : SessionInput) (p : SessionPart) (s : SettledSession) → p ≡ part_of typed sessions ss i → AreSound ss
-    → HasParent (starts_of ss) i.start → s.start ≡ i.start → AreSoundKeys p s.keys s.steps → IsSound ss s
+    → HasParent (starts_of ss) i.start → s.start ≡ i.start → AreSoundKeys p s.keys s.steps → IsSoundAfter ss s
 session_sound typed sessions ss i p s is sound parent begins keys =
     let before : p.before ≡ before_in ss i.start = ap (λ (q : SessionPart). q.before) is in
     let at : p.at ≡ forked_at i.start = ap (λ (q : SessionPart). q.at) is in
@@ -313,7 +313,7 @@ still_sound : (ss : List SettledSession) (s : SettledSession) (o : Option Settle
 still_sound ss s None h = tt
 still_sound ss s (Some x) h = (still_pressable ss s x.start x h.0, h.1)
 
-sound_more : (ss : List SettledSession) (s : SettledSession) → AreSound ss → IsSound ss s → AreSound (ss ++ s ∷ [])
+sound_more : (ss : List SettledSession) (s : SettledSession) → AreSound ss → IsSoundAfter ss s → AreSound (ss ++ s ∷ [])
 sound_more ss s all one =
     sound_there (IsSoundIn (ss ++ s ∷ [])) ss s (λ (place : ℕ). still_sound ss s (slice_get ss place) (all place)) (still_pressable ss s s.start s one.pressable, one.ascii)
 
@@ -350,7 +350,7 @@ pushed_view settled now more s same pushed =
 
 -- one more
 pub settled_more : (system : Disk) (stops_idle : Bool) (typed : Option TypedSession) (sessions : List SessionConfig) (all rest : List SessionInput) (i : SessionInput) (settled more : List SettledSession) (s : SettledSession)
-    → IsSettledTo system stops_idle typed sessions all (i ∷ rest) settled → IsSettled system stops_idle (part_of typed sessions settled i) i s → IsSound settled s → more ≡ settled ++ s ∷ []
+    → IsSettledTo system stops_idle typed sessions all (i ∷ rest) settled → IsSettled system stops_idle (part_of typed sessions settled i) i s → IsSoundAfter settled s → more ≡ settled ++ s ∷ []
     → IsSettledTo system stops_idle typed sessions all rest more
 settled_more system stops_idle typed sessions all rest i settled more s h one sound pushed =
     let begins : starts_of (settled ++ s ∷ []) ≡ starts_of settled ++ i.start ∷ [] =

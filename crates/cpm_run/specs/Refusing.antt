@@ -1,5 +1,6 @@
 -- When a run is refused, and what it leaves then. All of it is own.
-use Rattle.std.specs.Prelude.{⊤, Bool, ◌≡◌, ◌≢◌, ◌⊎◌, ◌<◌, ◌+◌, ℕ, List, [], ◌∷◌, ◌++◌, length, map, chars, slice_get, Option, Some, None, option_map, string_bytes}
+use Rattle.std.specs.Prelude.{⊤, Bool, ◌≡◌, ◌≢◌, ◌⊎◌, ◌<◌, ◌+◌, ℕ, List, [], ◌∷◌, ◌++◌, length, map, chars, slice_get}
+use Rattle.std.specs.Prelude.{Option, Some, None, option_map, string_bytes}
 use Rattle.cpm_batch.specs.Inputs.{AreInputs, IsInputFault, IsOpened, SessionInput, StartInput}
 use Rattle.cpm_batch.specs.Reads.{AreRead, StopsAtInput}
 use Rattle.cpm_batch.specs.declared.error.ReadError.TheVariants as reading
@@ -121,9 +122,12 @@ IsSettleRefusal config options io system inputs (refusal.SessionRefused name fau
 IsSettleRefusal config options io system inputs (refusal.FramesExceeded name quotas frames) =
     (quotas ≡ pages_of_config config) × (frames ≡ config.frames)
     × IsFirstRefused (starts_read inputs) (new_host system config.frames) (starts_read inputs) NoFrames × AreUntouched io
-IsSettleRefusal config options io system inputs (refusal.InputUnreadable reason) = IsTypingCut config options io system inputs (refusal.InputUnreadable reason)
-IsSettleRefusal config options io system inputs (refusal.OutputUnwritable reason) = IsTypingCut config options io system inputs (refusal.OutputUnwritable reason)
-IsSettleRefusal config options io system inputs (refusal.RecordUnwritable reason) = IsTypingCut config options io system inputs (refusal.RecordUnwritable reason)
+IsSettleRefusal config options io system inputs (refusal.InputUnreadable reason) =
+    IsTypingCut config options io system inputs (refusal.InputUnreadable reason)
+IsSettleRefusal config options io system inputs (refusal.OutputUnwritable reason) =
+    IsTypingCut config options io system inputs (refusal.OutputUnwritable reason)
+IsSettleRefusal config options io system inputs (refusal.RecordUnwritable reason) =
+    IsTypingCut config options io system inputs (refusal.RecordUnwritable reason)
 IsSettleRefusal config options io system inputs (refusal.TooManyKeys shown) = HasTooManyKeys config options io system inputs shown.bytes
 IsSettleRefusal config options io system inputs refusal.OutOfMemory = ⊤
 IsSettleRefusal config options io system inputs _ = ⊥
@@ -173,7 +177,8 @@ pub record LeavesAll (io : Streams) (old new : Option StoreFiles) : Type 0 where
 abbrev pub IsRunRefusal : Config → RunOptions → Streams → Option StoreFiles → Option StoreFiles → RunError → Type 0
 IsRunRefusal config options io old new (refusal.ConfigRefused (Range place)) = (config_fault config ≡ Some place) × LeavesAll io old new
 IsRunRefusal config options io old new (refusal.NoSession name) = (config_fault config ≡ None) × IsNoSession config options name.bytes × LeavesAll io old new
-IsRunRefusal config options io old new (refusal.NotOpened name) = (config_fault config ≡ None) × IsForkedSession config options name.bytes × LeavesAll io old new
+IsRunRefusal config options io old new (refusal.NotOpened name) =
+    (config_fault config ≡ None) × IsForkedSession config options name.bytes × LeavesAll io old new
 IsRunRefusal config options io old new (refusal.FileRefused e) = (config_fault config ≡ None) × IsInputFault old config e × LeavesAll io old new
 IsRunRefusal config options io old new (refusal.WriteFault name) = StopsWriting config options io old new (refusal.WriteFault name)
 IsRunRefusal config options io old new refusal.OutOfMemory = (new ≡ old) ⊎ StopsWriting config options io old new refusal.OutOfMemory

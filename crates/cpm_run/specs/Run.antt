@@ -93,14 +93,14 @@ files_left system inputs = map (λ i. session_output i.session (run_of system in
 abbrev pub record_of : RecordFile → (own : List Key) → List NamedBytes
 record_of r own = if r.needs_key && (length own == 0) then [] else (r.name.now, recorded own) ∷ []
 
-abbrev pub records_of : List RecordFile → List SettledSession → List NamedBytes
-records_of [] ss = []
-records_of (r ∷ rs) [] = []
-records_of (r ∷ rs) (s ∷ ss) = record_of r (drop s.before s.keys) ++ records_of rs ss
+abbrev pub record_outputs : List RecordFile → List SettledSession → List NamedBytes
+record_outputs [] ss = []
+record_outputs (r ∷ rs) [] = []
+record_outputs (r ∷ rs) (s ∷ ss) = record_of r (drop s.before s.keys) ++ record_outputs rs ss
 
 -- all that is written, in order: what the sessions leave, and then the records of their keys
 abbrev pub outputs_of : Disk → List RecordFile → List SettledSession → List NamedBytes
-outputs_of system records inputs = files_of_all (files_left system inputs) ++ records_of records inputs
+outputs_of system records inputs = files_of_all (files_left system inputs) ++ record_outputs records inputs
 
 -- a number that no host can have, or no turn
 abbrev pub top_fault : Config → Option Field

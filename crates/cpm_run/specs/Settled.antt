@@ -165,7 +165,8 @@ pub record IsSettled (system : Disk) (stops_idle : Bool) (p : SessionPart) (i : 
   pub keys : HasSettledBy system p stops_idle (timed_keys p.said) s.keys s.steps s.is_idle
 
 -- each session in order, after those before it
-abbrev pub AreSettled : Disk → (stops_idle : Bool) → Option TypedSession → List SessionConfig → (settled : List SettledSession) → List SessionInput → List SettledSession → Type 0
+abbrev pub AreSettled : Disk → (stops_idle : Bool) → Option TypedSession → List SessionConfig
+    → (settled : List SettledSession) → List SessionInput → List SettledSession → Type 0
 AreSettled system stops_idle typed sessions settled [] [] = ⊤
 AreSettled system stops_idle typed sessions settled (i ∷ is) (s ∷ ss) =
     IsSettled system stops_idle (part_of typed sessions settled i) i s × AreSettled system stops_idle typed sessions (settled ++ s ∷ []) is ss
@@ -205,7 +206,8 @@ most_steps = 2 ^ 64 - 1
 
 -- A session that begins so was played by itself by the keys that were typed: it has shown what the machine run alone by these shows, each at the count at
 -- which it was accepted; and the record has got just these. It has the steps that were executed meanwhile, up to the last fork.
-pub record IsTypedBy (system : Disk) (sessions : List SessionConfig) (name : List ℕ) (start : StartInput) (io : Streams) (keys : List Key) (steps : ℕ) : Type 0 where
+pub record IsTypedBy (system : Disk) (sessions : List SessionConfig) (name : List ℕ) (start : StartInput) (io : Streams)
+    (keys : List Key) (steps : ℕ) : Type 0 where
   pub done : ℕ
   pub given : AreGiven most_keys done keys
   pub read : AreTypedKeysRead io.unread io.left keys
@@ -215,7 +217,8 @@ pub record IsTypedBy (system : Disk) (sessions : List SessionConfig) (name : Lis
   pub long : steps ≡ max done (last_fork name sessions)
 
 -- so it was with the session of this name, which is opened
-pub record IsTypedAt (system : Disk) (sessions : List SessionConfig) (name : List ℕ) (inputs : List SessionInput) (io : Streams) (t : TypedSession) : Type 0 where
+pub record IsTypedAt (system : Disk) (sessions : List SessionConfig) (name : List ℕ) (inputs : List SessionInput) (io : Streams)
+    (t : TypedSession) : Type 0 where
   pub input : SessionInput
   pub place : place_of name (map session_view sessions) ≡ Some t.place
   pub there : slice_get inputs t.place ≡ Some input

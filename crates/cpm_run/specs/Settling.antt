@@ -1,5 +1,6 @@
 -- What settling the sessions of a run rests on, and how it is refused. All of it is own.
-use Rattle.std.specs.Prelude.{⊤, ◌≡◌, ◌≤◌, ◌<◌, ◌⊎◌, ◌+◌, ◌++◌, ◌∷◌, ℕ, Bool, true, false, List, [], length, map, Option, Some, None, option_map, IfSome, IsSome, slice_get}
+use Rattle.std.specs.Prelude.{⊤, ◌≡◌, ◌≤◌, ◌<◌, ◌⊎◌, ◌+◌, ◌++◌, ◌∷◌, ℕ, Bool, true, false, List, [], length, map, slice_get}
+use Rattle.std.specs.Prelude.{Option, Some, None, option_map, IfSome, IsSome}
 use Rattle.std.specs.List.{All}
 use Rattle.cpm_batch.specs.Inputs.{Forks, IsOpened, Opens, SessionInput, StartInput, start_view, timed_keys}
 use Rattle.cpm_config.specs.Rules.{is_opened, origin_view, place_of, session_view}
@@ -17,8 +18,8 @@ use Rattle.cpm_run.specs.Playing.{IsPressableBy}
 use Rattle.cpm_run.specs.Refusing.{IsOverfull}
 use Rattle.cpm_slots.specs.Host.{new_host}
 use Rattle.cpm_run.specs.Run.{AllAccepted, IsOpening, starts_read}
-use Rattle.cpm_run.specs.Settled.{AreSettled, AreUntouched, IsTypedIfAny, SessionPart, SettledSession, Streams, TypedSession, forked_at, opening_of, part_of, said_at}
-use Rattle.cpm_run.specs.Settled.{steps_at}
+use Rattle.cpm_run.specs.Settled.{AreSettled, AreUntouched, IsTypedIfAny, SessionPart, SettledSession, Streams, TypedSession}
+use Rattle.cpm_run.specs.Settled.{forked_at, opening_of, part_of, said_at, steps_at}
 use Rattle.cpm_run.specs.declared.options.RunOptions.{RunOptions}
 use Rattle.cpm_run.specs.declared.error.RunError.{RunError}
 use Rattle.cpm_run.specs.declared.error.RunError.TheVariants as refusal
@@ -80,7 +81,7 @@ abbrev pub AreSound : List SettledSession → Type 0
 AreSound ss = (place : ℕ) → IfSome (slice_get ss place) (λ s. IsPressableBy ss s.start s × AreBelow80h s.keys)
 
 -- one that comes after them, too
-pub record IsSound (ss : List SettledSession) (s : SettledSession) : Type 0 where
+pub record IsSoundAfter (ss : List SettledSession) (s : SettledSession) : Type 0 where
   pub pressable : IsPressableBy ss s.start s
   pub ascii : AreBelow80h s.keys
 

@@ -25,4 +25,4 @@ pub use illegal::IllegalBytes;
 pub use options::{RecordFile, RunOptions};
 pub use report::{Report, SessionReport};
 pub use run::run_host;
-pub use watcher::{RunWatcher, RunStage};
+pub use watcher::{RunStage, RunWatcher};

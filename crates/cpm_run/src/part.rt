@@ -3,7 +3,8 @@ ghost use Rattle.std.specs.Prelude.{◌≡◌, Some, IfOk, map, option_map};
 ghost use Rattle.cpm_batch.specs.Inputs.{IsOpened, given, start_view, timed_keys};
 ghost use Rattle.cpm_play.specs.Cued.{key_count};
 ghost use Rattle.cpm_script.specs.Cues.{all_said, cue_text};
-ghost use Rattle.cpm_run.specs.Settled.{before_in, fork_count, forked_at, last_fork, opened_by, part_of, said_at, settled_view, starts_of, steps_at, typed_view};
+ghost use Rattle.cpm_run.specs.Settled.{before_in, fork_count, forked_at, last_fork, opened_by, part_of, said_at};
+ghost use Rattle.cpm_run.specs.Settled.{settled_view, starts_of, steps_at, typed_view};
 ghost use Rattle.cpm_run.specs.Settling.{HasParent, part_view};
 
 use crate::alone::after_keys;
@@ -157,7 +158,8 @@ pub(crate) fn part_of<'a>(
     requires { HasParent (starts_of (map settled_view settled.now)) (start_view start.now) }
     ensures part { IfOk result (λ p. part_view p ≡ part_of (typed_view typed.now) config.now.sessions.items (map settled_view settled.entry.now)
         (record { session = session.now; start = start_view start.entry.now; said = all_said cues })) }
-    ensures opened { IfOk result (λ p. opened_by (starts_of (map settled_view settled.entry.now)) (start_view start.entry.now) ≡ Some (start_view p.opened.now)) }
+    ensures opened { IfOk result (λ p. opened_by (starts_of (map settled_view settled.entry.now)) (start_view start.entry.now)
+        ≡ Some (start_view p.opened.now)) }
     ensures open { IfOk result (λ p. IsOpened (start_view p.opened.now)) }
 {
     let place = settled.len();

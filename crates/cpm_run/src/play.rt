@@ -154,7 +154,8 @@ fn prepare_all(
 ) -> Result<Vec<Player>, RunError>
     requires { host.old.host.slots ≡ [] }
     ensures prepared { IfOk result (λ players. HavePlayers host.new.host.slots (map settled_view inputs.entry.items) players.items) }
-    ensures accepted { OnOk result ((all : List StartInput) → HasForkRoom all host.new.host → AllAccepted all host.old.host (starts_of (map settled_view inputs.entry.items))) }
+    ensures accepted { OnOk result ((all : List StartInput) → HasForkRoom all host.new.host
+        → AllAccepted all host.old.host (starts_of (map settled_view inputs.entry.items))) }
     ensures short { OnOk result ((all : List StartInput) (fault : OpenErrorValue) → IsShortFor host.new.host (forks_in all) (fork_pages_in all) fault
         → IsFirstRefused all host.old.host (starts_of (map settled_view inputs.entry.items)) fault) }
     ensures differ { IfOk result (λ players. AllDiffer players.items) }

@@ -2,7 +2,7 @@
 ghost use Rattle.std.specs.Prelude.{◌≡◌, ◌++◌, IfOk, OnOk, map};
 ghost use Rattle.cpm_script.specs.Recording.{recorded};
 ghost use Rattle.cpm_store.specs.Writes.{named_output};
-ghost use Rattle.cpm_run.specs.Run.{record_of, records_of};
+ghost use Rattle.cpm_run.specs.Run.{record_of, record_outputs};
 ghost use Rattle.cpm_run.specs.Settled.{settled_view};
 ghost use Rattle.cpm_run.specs.Settling.{AreBelow80h, AreSound};
 
@@ -54,7 +54,7 @@ pub(crate) fn records_of<'a>(
     settled: &[SettledInput<'_>],
 ) -> Result<Vec<Output<'a>>, AllocError>
     requires { AreSound (map settled_view settled.now) }
-    ensures { IfOk result (λ v. map named_output v.items ≡ records_of records.entry.now (map settled_view settled.now)) }
+    ensures { IfOk result (λ v. map named_output v.items ≡ record_outputs records.entry.now (map settled_view settled.now)) }
 {
     let mut outputs = Vec::new(alloc);
     for (place, record) in records.iter().enumerate() {

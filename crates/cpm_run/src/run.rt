@@ -18,7 +18,7 @@ use crate::report::Report;
 use crate::settled::SettledInputs;
 use crate::stages::settle_inputs;
 use crate::typed::typed_place;
-use crate::watcher::{RunWatcher, RunStage};
+use crate::watcher::{RunStage, RunWatcher};
 use cpm_batch::{outputs_of, read_inputs};
 use cpm_command_line::shown;
 use cpm_config::{Config, ConfigError, ConfigKey, Field};

@@ -6,7 +6,7 @@ ghost use Rattle.cpm_script.specs.Cues.{all_said};
 ghost use Rattle.cpm_run.specs.Playing.{ArePressable};
 ghost use Rattle.cpm_run.specs.Settled.{AreSettled, HasPlayedKeys, HasSettledBy, IsSettled, opened_by, part_of, said_at, settled_view, starts_of, typed_view};
 ghost use Rattle.cpm_run.specs.Settling.{AreFitInputs, AreReady, AreSound, AreSoundKeys, IsFitInput, IsFitPart, IsOpenable, IsPartReady, IsPartRefusal};
-ghost use Rattle.cpm_run.specs.Settling.{IsSettlingRefusal, IsSound, part_view};
+ghost use Rattle.cpm_run.specs.Settling.{IsSettlingRefusal, IsSoundAfter, part_view};
 ghost use Rattle.std.specs.Prelude.{Some, length};
 
 use crate::alone::{after_keys, machine_of};
@@ -14,7 +14,7 @@ use crate::error::RunError;
 use crate::part::{Part, key_count, part_of, timed_keys};
 use crate::settled::SettledInput;
 use crate::typed::TypedKeys;
-use crate::watcher::{RunWatcher, RunStage};
+use crate::watcher::{RunStage, RunWatcher};
 use cpm_batch::Input;
 use cpm_command_line::shown;
 use cpm_config::Config;
@@ -162,7 +162,7 @@ fn settle_session<'a, T: RunWatcher>(
         (opened_by (starts_of (map settled_view settled.now)) (start_view input.start)) }
     ensures settled { IfOk result (λ s. IsSettled system.now stops_idle
         (part_of (typed_view typed.now) config.now.sessions.items (map settled_view settled.now) (given input.entry)) (given input.entry) (settled_view s)) }
-    ensures sound { IfOk result (λ s. IsSound (map settled_view settled.now) (settled_view s)) }
+    ensures sound { IfOk result (λ s. IsSoundAfter (map settled_view settled.now) (settled_view s)) }
     ensures refusal { IfErr result (IsPartRefusal
         (part_of (typed_view typed.now) config.now.sessions.items (map settled_view settled.now) (given input.entry)) (given input.entry)) }
 {

@@ -17,7 +17,7 @@ use crate::settle::settle;
 use crate::settled::SettledInputs;
 use crate::trial::judge_openings;
 use crate::typed::{TypedKeys, type_at};
-use crate::watcher::{RunWatcher, RunStage};
+use crate::watcher::{RunStage, RunWatcher};
 use cpm_batch::{Input, Inputs};
 use cpm_config::Config;
 use cpm_script::Cue;

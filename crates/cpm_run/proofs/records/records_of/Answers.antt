@@ -1,13 +1,13 @@
 use Rattle.std.proofs.Common.{◌≡◌, ◌<◌, ◌∙◌, ◌++◌, ap, arith, drop, length, map}
 use Rattle.std.proofs.lemmas.Bool.Decides.{nat_tests}
 use Rattle.cpm_store.specs.Writes.{named_output}
-use Rattle.cpm_run.specs.Run.{records_of}
+use Rattle.cpm_run.specs.Run.{record_outputs}
 use Rattle.cpm_run.specs.Settled.{settled_view}
 use Rattle.cpm_run.proofs.RecordLemmas.{own-below, records-all, records-more, records-past}
 use Rattle.cpm_run.proofs.records.records_of.Goals as goal
 
 pub loop-place-init : goal.loop-place-init
-loop-place-init c = ap (λ os. map named_output os ++ records_of c.args.records.now (map settled_view c.args.settled.now)) c.new-outputs.ensures.items
+loop-place-init c = ap (λ os. map named_output os ++ record_outputs c.args.records.now (map settled_view c.args.settled.now)) c.new-outputs.ensures.items
 
 pub returns-in_default : goal.returns-in_default
 returns-in_default c =
