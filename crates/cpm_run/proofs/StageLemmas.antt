@@ -26,11 +26,13 @@ use Rattle.cpm_slots.specs.Host.{Host, new_host, room_fault, with_opened}
 use Rattle.cpm_run.specs.Playing.{IsSessionsRefusal}
 use Rattle.cpm_run.specs.Refusing.{IsSettleRefusal}
 use Rattle.cpm_run.specs.Run.{AllAccepted, IsOpening, starts_read}
-use Rattle.cpm_run.specs.Settled.{AreUntouched, IsTypedAt, IsTypedIfAny, Streams, TypedSession, forked_at}
+use Rattle.cpm_run.specs.Settled.{AreUntouched, IsTypedAt, IsTypedIfAny, Streams, TypedSession, forked_at, streams, typed_view}
 use Rattle.cpm_run.specs.Settling.{AreFitInputs, AreFitStarts, AreOpenable, IsFitInput, IsOpenable, IsSettlingRefusal}
 use Rattle.cpm_run.specs.declared.error.RunError.{RunError}
 use Rattle.cpm_run.specs.declared.error.RunError.TheVariants as refusal
 use Rattle.cpm_run.specs.declared.options.RunOptions.{RunOptions}
+use Rattle.cpm_run.specs.declared.typed.TypedKeys.{TypedKeys}
+use Rattle.std.specs.Borrow.{Bor}
 
 -- ---- scripts that wait
 
@@ -202,3 +204,21 @@ settle_refused config options io system inputs typed (refusal.TooManyKeys shown)
     record { judged = judged; typed = typed; heard = heard; over = record { done = r.done; input = r.input; rest = r.rest; order = r.order; settled = r.settled; before = r.before; over = r.refused } }
 settle_refused config options io system inputs typed refusal.OutOfMemory judged heard r = tt
 settle_refused config options io system inputs typed _ judged heard r = absurd r.refused
+
+pub settle_refused_as : (config : Config) (options : RunOptions) (io : Streams) (system : Disk) (inputs : List SessionInput) (typed heard : Option TypedKeys) (e : RunError) → typed ≡ heard
+    → AllAccepted (starts_read inputs) (new_host system config.frames) (starts_read inputs) ⊎ AreUntouched io
+    → IsTypedIfAny system config.sessions.items (option_map (λ n. n.now) options.typed) inputs io (typed_view heard)
+    → IsSettlingRefusal system options.stops_idle (typed_view typed) config.sessions.items inputs e → IsSettleRefusal config options io system inputs e
+settle_refused_as config options io system inputs typed heard e same judged given r =
+    settle_refused config options io system inputs (typed_view heard) e judged given
+    (subst (λ (t : Option TypedKeys). IsSettlingRefusal system options.stops_idle (typed_view t) config.sessions.items inputs e) same r)
+
+-- where nothing is to be typed, nothing was
+pub nothing_heard : (config : Config) (options : RunOptions) (io : Streams) (system : Disk) (inputs : List SessionInput) → options.typed ≡ None → AreUntouched io
+    → IsTypedIfAny system config.sessions.items (option_map (λ n. n.now) options.typed) inputs io None
+nothing_heard config options io system inputs none untouched =
+    subst (λ (o : Option (Bor (List ℕ))). IsTypedIfAny system config.sessions.items (option_map (λ n. n.now) o) inputs io None) (sym none) (refl, untouched)
+
+-- what wasn't used
+pub none_touched : (unread before unrecorded : Option (List ℕ)) → AreUntouched (streams unread unread before before unrecorded unrecorded)
+none_touched unread before unrecorded = record { unread = refl; unwritten = refl; unrecorded = refl }

@@ -1,4 +1,4 @@
-use Rattle.std.proofs.Common.{◌≡◌, ◌∙◌, map, rules}
+use Rattle.std.proofs.Common.{◌∙◌, rules}
 use Rattle.std.proofs.lemmas.Iterator.{YieldsList-from_map, YieldsList-from_slice, items_from_collect}
 use Rattle.std.proofs.lemmas.Result.{IfOk-weaker}
 use Rattle.cpm_run.proofs.RecordLemmas.{idles}

@@ -1,4 +1,4 @@
-use Rattle.std.proofs.Common.{◌≡◌, ◌∙◌, ◌++◌, ap, arith}
+use Rattle.std.proofs.Common.{◌∙◌, ◌++◌, ap, arith}
 use Rattle.cpm_run.proofs.RecordLemmas.{lines-all, lines-begun, lines-more}
 use Rattle.cpm_run.proofs.records.lines_of.Goals.{in-Some+in_ok-extend_from_slice, in_default}
 use Rattle.cpm_run.proofs.records.lines_of.Goals as goal

@@ -1,4 +1,4 @@
-use Rattle.std.proofs.Common.{◌≡◌, ◌∙◌, None, ap, map, refl, sym, take}
+use Rattle.std.proofs.Common.{◌∙◌, ap, map, refl, sym, take}
 use Rattle.std.proofs.lemmas.List.{take_all}
 use Rattle.std.proofs.lemmas.List.Elements.{All-nil, All-same}
 use Rattle.cpm_batch.specs.Inputs.{given}

@@ -1,5 +1,5 @@
-use Rattle.std.proofs.Common.{◌≡◌, ◌∙◌, ap, refl, sym}
-use Rattle.std.specs.Prelude.{is_some, not}
+use Rattle.std.proofs.Common.{◌∙◌, ap, refl, sym}
+use Rattle.std.specs.Prelude.{not}
 use Rattle.cpm_run.proofs.StageLemmas.{key-left, none-left, wait-found}
 use Rattle.cpm_run.proofs.stages.waits.Goals as goal
 
