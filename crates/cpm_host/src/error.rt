@@ -128,9 +128,7 @@ impl HostError {
         ensures { result ≡ status_of self.now }
     {
         match self {
-            HostError::Usage(_)
-            | HostError::NotText
-            | HostError::TailRefused(_) => 1,
+            HostError::Usage(_) | HostError::NotText | HostError::TailRefused(_) => 1,
             HostError::RunRefused(error) => error.status(),
             HostError::DiskRefused(error) => error.status(),
             HostError::CheckRefused(error) => error.status(),

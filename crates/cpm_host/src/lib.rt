@@ -27,7 +27,8 @@ pub use cpm_debug::{DebugError, run_debug};
 pub use cpm_machine::{End, Tail};
 pub use cpm_play::{CuedKeys, NoWatcher, Progress, Watcher};
 pub use cpm_run::{
-    IllegalBytes, RecordFile, Report, RunError, RunOptions, RunWatcher, SessionReport, RunStage, run_host,
+    IllegalBytes, RecordFile, Report, RunError, RunOptions, RunStage, RunWatcher, SessionReport,
+    run_host,
 };
 pub use cpm_script::{Cue, Key, LineFault, MOST_KEYS, ScriptError, key_line, read_keys};
 pub use cpm_store::{MemoryStore, Store, StoreError};

@@ -13,8 +13,8 @@ use crate::error::HostError;
 use cpm_geom::{Format, Image};
 use cpm_machine::Machine;
 use cpm_play::{LivePlay, play_live};
-use cpm_script::laws::recorded_keys;
 use cpm_script::Key;
+use cpm_script::laws::recorded_keys;
 use std::alloc::Global;
 use std::io::{Read, Write};
 

@@ -165,9 +165,10 @@ fit_one t starts i keys opened fit = by_test (length starts == t.place) refl
 fit_from : (t : TypedSession) (starts : List StartInput) (is : List SessionInput) → AreInOrder (map Counted t.keys)
     → ((place : ℕ) (i : SessionInput) → slice_get is place ≡ Some i → length starts + place ≡ t.place → IsOpened i.start) → AreFitInputs None starts is → AreFitInputs (Some t) starts is
 fit_from t starts [] keys opened fit = tt
-fit_from t starts (i ∷ is) keys opened fit =
-    (fit_one t starts i keys (λ e. opened 0 i refl (omega (arith, e))) fit.0,
-    fit_from t (starts ++ i.start ∷ []) is keys (λ place j there e. opened (suc place) j there (let more = length-append starts (i.start ∷ []) in omega (arith, e, more))) fit.1)
+fit_from t starts (i ∷ is) keys opened fit = (
+  fit_one t starts i keys (λ e. opened 0 i refl (omega (arith, e))) fit.0,
+  fit_from t (starts ++ i.start ∷ []) is keys (λ place j there e. opened (suc place) j there (let more = length-append starts (i.start ∷ []) in omega (arith, e, more))) fit.1,
+)
 
 fit_typed : (system : Disk) (sessions : List SessionConfig) (name : List ℕ) (inputs : List SessionInput) (io : Streams) (t : TypedSession) → IsTypedAt system sessions name inputs io t
     → AreFitInputs None [] inputs → AreFitInputs (Some t) [] inputs
@@ -175,10 +176,10 @@ fit_typed system sessions name inputs io t at fit =
     let given = at.typed.given in
     fit_from t [] inputs (typed_order t.keys given.typed given.few)
     (λ place i there e.
-      let here : place ≡ t.place = omega (arith, e) in
-      let found : Some i ≡ Some at.input = sym there ∙ ap (slice_get inputs) here ∙ at.there in
-      let same : at.input ≡ i = cc in
-      subst (λ (x : SessionInput). IsOpened x.start) same at.opened)
+    let here : place ≡ t.place = omega (arith, e) in
+    let found : Some i ≡ Some at.input = sym there ∙ ap (slice_get inputs) here ∙ at.there in
+    let same : at.input ≡ i = cc in
+    subst (λ (x : SessionInput). IsOpened x.start) same at.opened)
     fit
 
 pub typed_fit : (system : Disk) (sessions : List SessionConfig) (name : Option (List ℕ)) (inputs : List SessionInput) (io : Streams) (typed : Option TypedSession)

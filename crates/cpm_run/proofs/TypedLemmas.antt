@@ -121,9 +121,9 @@ here_from config name place inputs at sessions begins =
       first = at.first;
       within = here;
       opened = λ i is.
-        let same : Some at.session ≡ Some i.session.now = sym at.there ∙ ap (λ (ss : List SessionConfig). slice_get ss place) (sym sessions) ∙ session_there inputs place i here is in
-        let one : at.session ≡ i.session.now = cc in
-        all_there BeginsAsConfigured (map given inputs) place (given i) begins (given_there inputs place i here is) (ap (λ (s : SessionConfig). is_opened (origin_view s.origin)) (sym one) ∙ at.opened);
+          let same : Some at.session ≡ Some i.session.now = sym at.there ∙ ap (λ (ss : List SessionConfig). slice_get ss place) (sym sessions) ∙ session_there inputs place i here is in
+          let one : at.session ≡ i.session.now = cc in
+          all_there BeginsAsConfigured (map given inputs) place (given i) begins (given_there inputs place i here is) (ap (λ (s : SessionConfig). is_opened (origin_view s.origin)) (sym one) ∙ at.opened);
     }
 
 pub typed_here : (config : Config) (options : RunOptions) (typed : Option ℕ) (name : Bor (List ℕ)) (place : ℕ) (inputs : List Input) → IsTypedPlace config options typed → options.typed ≡ Some name
@@ -148,14 +148,17 @@ pub heard_at : (system : Disk) (config : Config) (options : RunOptions) (name : 
     → IsTypedBy system config.sessions.items name.now (start_view i.start) io heard.keys.items heard.steps
     → IsTypedIfAny system config.sessions.items (option_map (λ n. n.now) options.typed) (map given inputs) io (typed_view (Some heard))
 heard_at system config options name place inputs i io heard asked here is same typed =
-    subst (λ (o : Option (Bor (List ℕ))). IsTypedIfAny system config.sessions.items (option_map (λ n. n.now) o) (map given inputs) io (typed_view (Some heard))) (sym asked)
-    (record { place = heard.place; keys = heard.keys.items; steps = heard.steps }, refl, record {
-      input = given i;
-      place = here.first ∙ ap (λ (n : ℕ). Some n) (sym same);
-      there = ap (slice_get (map given inputs)) same ∙ given_there inputs place i here.within is;
-      opened = here.opened i is;
-      typed = typed;
-    })
+    subst (λ (o : Option (Bor (List ℕ))). IsTypedIfAny system config.sessions.items (option_map (λ n. n.now) o) (map given inputs) io (typed_view (Some heard))) (sym asked) (
+      record { place = heard.place; keys = heard.keys.items; steps = heard.steps },
+      refl,
+      record {
+        input = given i;
+        place = here.first ∙ ap (λ (n : ℕ). Some n) (sym same);
+        there = ap (slice_get (map given inputs)) same ∙ given_there inputs place i here.within is;
+        opened = here.opened i is;
+        typed = typed;
+      },
+    )
 
 module _ (config : Config) (options : RunOptions) (name : Bor (List ℕ)) (place : ℕ) (inputs : List Input) (i : Input) (io : Streams) (system : Disk)
     (accepted : AllAccepted (starts_read (map given inputs)) (new_host system config.frames) (starts_read (map given inputs))) (asked : options.typed ≡ Some name)

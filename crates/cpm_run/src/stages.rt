@@ -83,7 +83,9 @@ fn type_if_any<I: Read, W: Write, R: Write, T: RunWatcher>(
     watcher.begin(RunStage::Typing);
     let session = &inputs.sessions[place];
     let system = &inputs.system;
-    let heard = type_at(alloc, config, name, system, session, place, input, out, record)?;
+    let heard = type_at(
+        alloc, config, name, system, session, place, input, out, record,
+    )?;
     Ok(Some(heard))
 }
 
@@ -118,10 +120,14 @@ pub(crate) fn settle_inputs<'a, I: Read, W: Write, R: Write, T: RunWatcher>(
     let mut heard = None;
     if plays_alone(options, inputs.sessions.as_slice()) {
         judge_openings(alloc, config, &inputs)?;
-        heard = type_if_any(alloc, config, options, typed, &inputs, input, out, record, watcher)?;
+        heard = type_if_any(
+            alloc, config, options, typed, &inputs, input, out, record, watcher,
+        )?;
     }
     let Inputs { system, sessions } = inputs;
     let stops_idle = options.stops_idle;
-    let sessions = settle(alloc, config, &system, sessions, &heard, stops_idle, watcher)?;
+    let sessions = settle(
+        alloc, config, &system, sessions, &heard, stops_idle, watcher,
+    )?;
     Ok(SettledInputs { system, sessions })
 }

@@ -31,10 +31,7 @@ fn trial_start(alloc: Global, start: &Start) -> Result<Start, AllocError>
 }
 
 /// All sessions, each without a key or a step.
-fn trial_of<'a>(
-    alloc: Global,
-    inputs: &[Input<'a>],
-) -> Result<Vec<SettledInput<'a>>, AllocError>
+fn trial_of<'a>(alloc: Global, inputs: &[Input<'a>]) -> Result<Vec<SettledInput<'a>>, AllocError>
     ensures { IfOk result (λ v. map settled_view v.items ≡ map trial_of (map given inputs.now)) }
 {
     let mut trial = Vec::new(alloc);

@@ -13,8 +13,8 @@ use crate::progress::{Audience, Form, Teller};
 use crate::record::record_in;
 use crate::refused::CommandRefusal;
 use crate::screen::{Lines, Screen};
-use crate::typing::{Terminals, tell_full, tell_quit};
 use crate::sessions::waiting_word;
+use crate::typing::{Terminals, tell_full, tell_quit};
 use cpm_geom::Image;
 use cpm_host::{
     ComTask, CuedKeys, Ending, HostError, LiveResult, ProgramResult, ProgramStart, Script, Tail,

@@ -219,11 +219,7 @@ pub struct MachineFiles<'a, R: LockableFiles> {
 
 impl<'a, R: LockableFiles> MachineFiles<'a, R> {
     /// The files, of which no call has failed yet.
-    pub fn new(
-        rt: &'a R,
-        outputs: Outputs,
-        guard: Guard<'a>,
-    ) -> MachineFiles<'a, R>
+    pub fn new(rt: &'a R, outputs: Outputs, guard: Guard<'a>) -> MachineFiles<'a, R>
         ensures { result.failures ≡ 0 }
     {
         MachineFiles {

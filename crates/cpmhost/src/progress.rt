@@ -3,7 +3,7 @@
 use crate::held::LockableFiles;
 use crate::patient::{PatientError, PatientOutput, StandardError};
 use crate::typing::{Terminals, tell_quit};
-use cpm_host::{Config, Progress, RunWatcher, SessionConfig, RunStage, Watcher};
+use cpm_host::{Config, Progress, RunStage, RunWatcher, SessionConfig, Watcher};
 use std::cell::Cell;
 use std::io::Write;
 

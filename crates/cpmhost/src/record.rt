@@ -31,11 +31,7 @@ pub fn record_in<'a, R: LockableFiles>(
             Err(reason) => return Err(CommandRefusal::from(unwritable(name, reason))),
         },
     };
-    Ok(Record {
-        rt,
-        begun,
-        keys: 0,
-    })
+    Ok(Record { rt, begun, keys: 0 })
 }
 
 impl<R: LockableFiles> Record<'_, R> {
@@ -123,7 +119,11 @@ impl<R: LockableFiles> Write for Record<'_, R> {
             None => buf.len(),
         };
         // (each key is a line)
-        let lines = buf.iter().take(written).filter(|byte| **byte == b'\n').count();
+        let lines = buf
+            .iter()
+            .take(written)
+            .filter(|byte| **byte == b'\n')
+            .count();
         self.keys = self.keys.saturating_add(lines);
         Ok(written)
     }

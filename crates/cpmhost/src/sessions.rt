@@ -15,8 +15,8 @@ use crate::refused::{CommandRefusal, PathLine};
 use crate::screen::{Lines, Screen};
 use crate::typing::{Terminals, tell_full};
 use cpm_host::{
-    Config, HostError, MOST_KEYS, RecordFile, Report, RunError, RunOptions, RunTask,
-    SessionReport, run_host,
+    Config, HostError, MOST_KEYS, RecordFile, Report, RunError, RunOptions, RunTask, SessionReport,
+    run_host,
 };
 use std::alloc::AllocError;
 use std::cell::Cell;
@@ -101,7 +101,15 @@ fn run_config<'a>(
     };
     let mut files = MachineFiles::new(rt, outputs, guard);
     let mut record = record_in(rt, outputs, task.record)?;
-    let ran = play_sessions(rt, config, options, &mut files, &mut record, task, terminals);
+    let ran = play_sessions(
+        rt,
+        config,
+        options,
+        &mut files,
+        &mut record,
+        task,
+        terminals,
+    );
     let ran = ran.map_err(|error| files.refuse(error));
     let typed = record.keys();
     let report = record.end(ran)?;
@@ -154,12 +162,7 @@ fn play_sessions<'a, R: LockableFiles + Input>(
 }
 
 /// Tells where no more was typed since a script has not more keys, and which script is as it was since no key came.
-fn tell_typed(
-    rt: &impl StandardError,
-    records: &[RecordFile<'_>],
-    is_typed: bool,
-    keys: usize,
-) {
+fn tell_typed(rt: &impl StandardError, records: &[RecordFile<'_>], is_typed: bool, keys: usize) {
     if !is_typed {
         return;
     }

@@ -3,7 +3,7 @@
 use crate::same::same;
 use cpm_geom::{Format, Image};
 use cpm_host::{
-    Config, MemoryStore, NoWatcher, Progress, RunOptions, RunWatcher, RunStage, Store, Watcher,
+    Config, MemoryStore, NoWatcher, Progress, RunOptions, RunStage, RunWatcher, Store, Watcher,
     run_host,
 };
 use std::io;

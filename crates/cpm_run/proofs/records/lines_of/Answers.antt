@@ -12,7 +12,7 @@ loop-key-preserved c =
     let within = c.loop-key-test.true in
     elim c.match-key_line.branch [
       | in-Some+in_ok-extend_from_slice w ↦ lines-more c.args.keys.now l.key-index (record { count = 0; byte = 0 }) l.lines.items c.match-key_line.lines.items within
-        (ap (λ v. v.items) w.lines-is ∙ w.in_ok-extend_from_slice.ensures.items ∙ ap (λ bs. l.lines.items ++ bs) (w.as_bytes.ensures.value ∙ w.deref.ensures.0 ∙ w.in-Some.ensures.1)) l.invariant
+          (ap (λ v. v.items) w.lines-is ∙ w.in_ok-extend_from_slice.ensures.items ∙ ap (λ bs. l.lines.items ++ bs) (w.as_bytes.ensures.value ∙ w.deref.ensures.0 ∙ w.in-Some.ensures.1)) l.invariant
       | in_default w ↦ let low = c.requires l.key-index (record { count = 0; byte = 0 }) within in let high = w.in_default.ensures in absurd (omega (arith, low, high))
     ]
 

@@ -8,8 +8,7 @@ use Rattle.cpm_run.proofs.run.write_files.Goals as goal
 pub returns-in-Device-clause-refusal : goal.returns-in-Device-clause-refusal
 returns-in-Device-clause-refusal g c =
     let place = c.in-Err.error.place in
-    let told = c.shown.ensures ∙ ap (λ (o : Output). shown_of (chars o.name.now)) (sym c.index-outputs-error.is) in
-    (
+    let told = c.shown.ensures ∙ ap (λ (o : Output). shown_of (chars o.name.now)) (sym c.index-outputs-error.is) in (
       place,
       output_at c.args.outputs.now place c.index-outputs-error.result c.shown.result.bytes c.in-Err.ensures.place c.index-outputs-error.is told,
       c.in-Err.ensures.stopped,

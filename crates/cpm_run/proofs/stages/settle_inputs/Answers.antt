@@ -16,7 +16,7 @@ settle-requires-clause-fit g c =
     let inputs = map given c.args.inputs.sessions.items in
     elim c.if-plays_alone.branch [
       | then-plays_alone+in_ok-judge_openings+in_ok-heard w ↦ rw (w.heard-is)
-        (typed_fit c.args.inputs.system c.args.config.now.sessions.items (option_map (λ n. n.now) c.args.options.typed) inputs _ _ w.in_ok-heard.ensures.typed c.requires.fit)
+          (typed_fit c.args.inputs.system c.args.config.now.sessions.items (option_map (λ n. n.now) c.args.options.typed) inputs _ _ w.in_ok-heard.ensures.typed c.requires.fit)
       | else-plays_alone w ↦ rw (w.heard-is) c.requires.fit
     ]
 
@@ -25,10 +25,10 @@ settle-requires-clause-ready g c =
     let inputs = map given c.args.inputs.sessions.items in
     elim c.if-plays_alone.branch [
       | then-plays_alone+in_ok-judge_openings+in_ok-heard w ↦
-        inr (accepted_openable (starts_read inputs) (new_host c.args.inputs.system c.args.config.now.frames) (starts_read inputs) w.in_ok-judge_openings.ensures.accepted)
+          inr (accepted_openable (starts_read inputs) (new_host c.args.inputs.system c.args.config.now.frames) (starts_read inputs) w.in_ok-judge_openings.ensures.accepted)
       | else-plays_alone w ↦
-        let plain = c.plays_alone.ensures w.if-plays_alone.false in
-        rw (w.heard-is) (inl (subst (λ xs. ArePlain c.args.options.stops_idle None (map given xs)) c.as_slice.ensures.value plain.1))
+          let plain = c.plays_alone.ensures w.if-plays_alone.false in
+          rw (w.heard-is) (inl (subst (λ xs. ArePlain c.args.options.stops_idle None (map given xs)) c.as_slice.ensures.value plain.1))
     ]
 
 pub returns-in_err-sessions-clause-refusal : goal.returns-in_err-sessions-clause-refusal
@@ -41,10 +41,10 @@ returns-in_err-sessions-clause-refusal g c =
     let e = c.in_err-sessions.field-0.0 in
     rw (p.1, p.2) (elim c.if-plays_alone.branch [
       | then-plays_alone+in_ok-judge_openings+in_ok-heard w ↦ rw (w.input-is, w.out-is, w.record-is)
-        (settle_refused_as config options _ system inputs c.if-plays_alone.heard _ e w.heard-is (inl w.in_ok-judge_openings.ensures.accepted) w.in_ok-heard.ensures.typed c.in_err-sessions.ensures.refusal)
+          (settle_refused_as config options _ system inputs c.if-plays_alone.heard _ e w.heard-is (inl w.in_ok-judge_openings.ensures.accepted) w.in_ok-heard.ensures.typed c.in_err-sessions.ensures.refusal)
       | else-plays_alone w ↦
-        let plain = c.plays_alone.ensures w.if-plays_alone.false in
-        rw (w.input-is, w.out-is, w.record-is)
-        (settle_refused_as config options _ system inputs c.if-plays_alone.heard None e w.heard-is (inr (none_touched _ _ _))
-        (nothing_heard config options _ system inputs plain.0 (none_touched _ _ _)) c.in_err-sessions.ensures.refusal)
+          let plain = c.plays_alone.ensures w.if-plays_alone.false in
+          rw (w.input-is, w.out-is, w.record-is)
+          (settle_refused_as config options _ system inputs c.if-plays_alone.heard None e w.heard-is (inr (none_touched _ _ _))
+          (nothing_heard config options _ system inputs plain.0 (none_touched _ _ _)) c.in_err-sessions.ensures.refusal)
     ])
