@@ -18,7 +18,7 @@ use crate::settled::SettledInputs;
 use crate::trial::judge_openings;
 use crate::typed::{TypedKeys, type_at};
 use crate::watcher::{RunStage, RunWatcher};
-use cpm_batch::{Input, Inputs};
+use cpm_batch::{Input, Inputs, Start};
 use cpm_config::Config;
 use cpm_script::Cue;
 use cpm_slots::{LEAST_FRAMES, MOST_FRAMES};
@@ -38,7 +38,7 @@ fn waits(cues: &[Cue]) -> bool
 }
 
 /// Whether a session is played by itself before the run: where one types, where sessions stop idle, and where a script waits.
-fn plays_alone(options: RunOptions<'_>, inputs: &[Input<'_>]) -> bool
+fn has_waiting(options: RunOptions<'_>, inputs: &[Input<'_>]) -> bool
     ensures { result ≡ false → (options.entry.typed ≡ None) × ArePlain options.entry.stops_idle None (map given inputs.now) }
 {
     if options.typed.is_some() || options.stops_idle {
@@ -50,6 +50,23 @@ fn plays_alone(options: RunOptions<'_>, inputs: &[Input<'_>]) -> bool
         }
     }
     false
+}
+
+/// Whether a session is forked.
+fn has_fork(inputs: &[Input<'_>]) -> bool {
+    for input in inputs {
+        if let Start::Forked { .. } = &input.start {
+            return true;
+        }
+    }
+    false
+}
+
+/// Whether all openings and forks are judged before the run: where a session is played by itself, and where one is forked, since hours may pass up to a fork.
+fn plays_alone(options: RunOptions<'_>, inputs: &[Input<'_>]) -> bool
+    ensures { result ≡ false → (options.entry.typed ≡ None) × ArePlain options.entry.stops_idle None (map given inputs.now) }
+{
+    has_waiting(options, inputs) || has_fork(inputs)
 }
 
 /// What is typed at the session that is named, if one is.

@@ -3,7 +3,7 @@ use Rattle.std.proofs.lemmas.List.{take_all}
 use Rattle.std.proofs.lemmas.List.Elements.{All-nil, All-same}
 use Rattle.cpm_batch.specs.Inputs.{given}
 use Rattle.cpm_run.proofs.StageLemmas.{IsTimed, none-asked, timed-more}
-use Rattle.cpm_run.proofs.stages.plays_alone.Goals as goal
+use Rattle.cpm_run.proofs.stages.has_waiting.Goals as goal
 
 pub loop-input-init : goal.loop-input-init
 loop-input-init c = All-nil IsTimed
