@@ -170,7 +170,8 @@ fn play_cued<W: Write, E: StandardError>(
 ) -> Result<LiveResult, CommandRefusal>
     requires { AreFit cued.cues.now }
 {
-    let mut record = record_in(rt, outputs, task.record)?;
+    let keys = Cell::new(0);
+    let mut record = record_in(rt, outputs, task.record, &keys)?;
     let steps = task.steps.unwrap_or(STEPS);
     let played = run_waiting(rt.alloc(), start, steps, cued, out, &mut record, teller);
     teller.end();
@@ -218,7 +219,8 @@ fn play_keyboard<W: Write>(
     start: ProgramStart,
     out: &mut W,
 ) -> Result<(ProgramResult, bool), CommandRefusal> {
-    let mut record = record_in(rt, outputs, task.record)?;
+    let keys = Cell::new(0);
+    let mut record = record_in(rt, outputs, task.record, &keys)?;
     let most_keys = record.most_keys();
     tell_quit(rt);
     let played = play_live(rt, task, start, most_keys, out, &mut record);

@@ -2,8 +2,8 @@
 
 use crate::held::LockableFiles;
 use crate::patient::{PatientError, PatientOutput, StandardError};
-use crate::typing::{Terminals, tell_quit};
-use cpm_host::{Config, Progress, RunStage, RunWatcher, SessionConfig, Watcher};
+use crate::typing::{Terminals, tell_full, tell_quit};
+use cpm_host::{Config, MOST_KEYS, Progress, RunStage, RunWatcher, SessionConfig, Watcher};
 use std::cell::Cell;
 use std::io::Write;
 
@@ -179,6 +179,8 @@ pub struct RunTeller<'a, R: LockableFiles> {
     is_typing: bool,
     /// Whether what comes next on standard output begins a line.
     is_at_line_start: &'a Cell<bool>,
+    /// How many keys were typed.
+    keys: &'a Cell<usize>,
 }
 
 impl<'a, R: LockableFiles> RunTeller<'a, R> {
@@ -189,6 +191,7 @@ impl<'a, R: LockableFiles> RunTeller<'a, R> {
         form: Form,
         terminals: Terminals,
         is_at_line_start: &'a Cell<bool>,
+        keys: &'a Cell<usize>,
     ) -> RunTeller<'a, R> {
         RunTeller {
             rt,
@@ -198,17 +201,26 @@ impl<'a, R: LockableFiles> RunTeller<'a, R> {
             terminals,
             is_typing: false,
             is_at_line_start,
+            keys,
         }
     }
 
     /// Ends what is told. At a terminal what comes after a session that was typed at begins on a line of its own.
     pub fn end(&mut self) {
-        if self.is_typing && self.terminals.is_output_terminal && !self.is_at_line_start.get() {
+        if self.is_typing {
+            self.is_typing = false;
+            self.end_typing();
+        }
+        self.teller.end();
+    }
+
+    /// Ends the line of a session that was typed at, and tells where no more was typed since a script has not more keys.
+    fn end_typing(&self) {
+        if self.terminals.is_output_terminal && !self.is_at_line_start.get() {
             // (where this fails, so does the report, which says it)
             let _ = PatientOutput::new(self.rt).write_all(b"\n");
         }
-        self.is_typing = false;
-        self.teller.end();
+        tell_full(self.rt, self.keys.get(), MOST_KEYS);
     }
 }
 

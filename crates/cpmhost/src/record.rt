@@ -6,6 +6,7 @@ use crate::output::{OutputFile, Outputs};
 use crate::patient::PatientError;
 use crate::refused::{CommandRefusal, PathLine, RefusalDetail};
 use cpm_host::{HostError, MOST_KEYS};
+use std::cell::Cell;
 use std::io;
 use std::io::Write;
 
@@ -15,14 +16,15 @@ pub struct Record<'a, R: LockableFiles> {
     rt: &'a R,
     begun: Option<OutputFile<'a, R>>,
     /// How many keys it got.
-    keys: usize,
+    keys: &'a Cell<usize>,
 }
 
-/// The record in the file of a name, which stays as it is until the record has ended; or none.
+/// The record in the file of a name, which stays as it is until the record has ended; or none. Its keys are counted.
 pub fn record_in<'a, R: LockableFiles>(
     rt: &'a R,
     outputs: Outputs,
     name: Option<&str>,
+    keys: &'a Cell<usize>,
 ) -> Result<Record<'a, R>, CommandRefusal> {
     let begun = match name {
         None => None,
@@ -31,15 +33,10 @@ pub fn record_in<'a, R: LockableFiles>(
             Err(reason) => return Err(CommandRefusal::from(unwritable(name, reason))),
         },
     };
-    Ok(Record { rt, begun, keys: 0 })
+    Ok(Record { rt, begun, keys })
 }
 
 impl<R: LockableFiles> Record<'_, R> {
-    /// How many keys it got.
-    pub fn keys(&self) -> usize {
-        self.keys
-    }
-
     /// How many keys it takes: a script has not more.
     pub fn most_keys(&self) -> usize {
         if self.begun.is_some() {
@@ -53,7 +50,7 @@ impl<R: LockableFiles> Record<'_, R> {
     /// without a key replaces none.
     pub fn end<T: Drop>(self, played: Result<T, CommandRefusal>) -> Result<T, CommandRefusal> {
         let Record { rt, begun, keys } = self;
-        let has_keys = keys > 0;
+        let has_keys = keys.get() > 0;
         let Some(begun) = begun else {
             return played;
         };
@@ -124,7 +121,7 @@ impl<R: LockableFiles> Write for Record<'_, R> {
             .take(written)
             .filter(|byte| **byte == b'\n')
             .count();
-        self.keys = self.keys.saturating_add(lines);
+        self.keys.set(self.keys.get().saturating_add(lines));
         Ok(written)
     }
 

@@ -13,10 +13,9 @@ use crate::progress::{Form, RunTeller};
 use crate::record::{Record, record_in};
 use crate::refused::{CommandRefusal, PathLine};
 use crate::screen::{Lines, Screen};
-use crate::typing::{Terminals, tell_full};
+use crate::typing::Terminals;
 use cpm_host::{
-    Config, HostError, MOST_KEYS, RecordFile, Report, RunError, RunOptions, RunTask, SessionReport,
-    run_host,
+    Config, HostError, RecordFile, Report, RunError, RunOptions, RunTask, SessionReport, run_host,
 };
 use std::alloc::AllocError;
 use std::cell::Cell;
@@ -24,7 +23,7 @@ use std::fs;
 use std::io::{BufReader, BufWriter, Write};
 use std::rt::Files;
 
-/// Runs the sessions of the configuration in a file.
+/// Runs the sessions of the configuration in a file. The script of one that is typed at is looked at with the other files, and not read.
 #[inline(never)]
 pub fn run_sessions(
     rt: &(impl LockableFiles + Input),
@@ -33,12 +32,12 @@ pub fn run_sessions(
     terminals: Terminals,
 ) -> Result<(), CommandRefusal> {
     let mut config = read_config(rt, task.config)?;
-    drop_script(&mut config, task.keyboard);
     let bounds = check_bounds(rt, &config, task)?;
     check_outputs(rt, outputs, &config)?;
     check_record(rt, outputs, task.record)?;
     check_scripts(rt, outputs, &config, task.scripts)?;
     check_apart(rt, task.config, &config, task)?;
+    drop_script(&mut config, task.keyboard);
     let scripts = script_paths(rt.alloc(), &config, task.scripts)?;
     run_config(rt, outputs, &config, &scripts, &bounds, task, terminals)
 }
@@ -99,22 +98,31 @@ fn run_config<'a>(
         stops_idle: task.stops_idle,
         records: records.as_slice(),
     };
+    let keys = Cell::new(0);
     let mut files = MachineFiles::new(rt, outputs, guard);
-    let mut record = record_in(rt, outputs, task.record)?;
+    let mut record = record_in(rt, outputs, task.record, &keys)?;
     let ran = play_sessions(
         rt,
         config,
         options,
         &mut files,
         &mut record,
+        &keys,
         task,
         terminals,
     );
-    let ran = ran.map_err(|error| files.refuse(error));
-    let typed = record.keys();
-    let report = record.end(ran)?;
-    tell_typed(rt, &records, task.keyboard.is_some(), typed);
-    end_run(rt, files.into_batch(), &report)
+    match ran {
+        Ok(report) => {
+            tell_kept(rt, &records, keys.get());
+            let ended = end_run(rt, files.into_batch(), &report);
+            record.end(Ok(()))?;
+            ended
+        }
+        Err(error) => {
+            let refused = files.refuse(error);
+            record.end(Err(refused))
+        }
+    }
 }
 
 /// Gives what was written its names, and prints how each session ended.
@@ -132,7 +140,8 @@ fn play_sessions<'a, R: LockableFiles + Input>(
     config: &Config,
     options: RunOptions<'_>,
     files: &mut MachineFiles<'a, R>,
-    record: &mut Record<'a, R>,
+    record: &mut Record<'_, R>,
+    keys: &Cell<usize>,
     task: &RunTask<'_>,
     terminals: Terminals,
 ) -> Result<Report, RunError> {
@@ -143,7 +152,7 @@ fn play_sessions<'a, R: LockableFiles + Input>(
     );
     let mut lines = Lines::new(screen, &is_at_line_start);
     let form = Form::of(task.has_progress, terminals.is_error_terminal);
-    let mut teller = RunTeller::new(rt, config, form, terminals, &is_at_line_start);
+    let mut teller = RunTeller::new(rt, config, form, terminals, &is_at_line_start, keys);
     let Ok(mut input) = BufReader::new(rt.alloc(), PatientInput::new(rt)) else {
         return Err(RunError::OutOfMemory);
     };
@@ -161,12 +170,8 @@ fn play_sessions<'a, R: LockableFiles + Input>(
     ran
 }
 
-/// Tells where no more was typed since a script has not more keys, and which script is as it was since no key came.
-fn tell_typed(rt: &impl StandardError, records: &[RecordFile<'_>], is_typed: bool, keys: usize) {
-    if !is_typed {
-        return;
-    }
-    tell_full(rt, keys, MOST_KEYS);
+/// Tells which script is as it was, since no key came.
+fn tell_kept(rt: &impl StandardError, records: &[RecordFile<'_>], keys: usize) {
     if keys > 0 {
         return;
     }
