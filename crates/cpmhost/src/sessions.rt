@@ -39,7 +39,14 @@ pub fn run_sessions(
     check_apart(rt, task.config, &config, task)?;
     drop_script(&mut config, task.keyboard);
     let scripts = script_paths(rt.alloc(), &config, task.scripts)?;
-    run_config(rt, outputs, &config, &scripts, &bounds, task, terminals)
+    let records = records_of(rt, &config, &scripts, task.keyboard)?;
+    let held = hold_images(rt, &config)?;
+    let guard = Guard {
+        bounds: &bounds,
+        shows_controls: !task.is_raw,
+        held: &held,
+    };
+    run_config(rt, outputs, &config, records.as_slice(), guard, task, terminals)
 }
 
 /// The configuration in a file.
@@ -77,26 +84,19 @@ fn records_of<'a>(
 }
 
 /// Runs the sessions of a configuration, gives what they wrote its names, and prints how each ended.
-fn run_config<'a>(
-    rt: &'a (impl LockableFiles + Input),
+fn run_config(
+    rt: &(impl LockableFiles + Input),
     outputs: Outputs,
     config: &Config,
-    scripts: &'a [String],
-    bounds: &'a Bounds,
-    task: &RunTask<'a>,
+    records: &[RecordFile<'_>],
+    guard: Guard<'_>,
+    task: &RunTask<'_>,
     terminals: Terminals,
 ) -> Result<(), CommandRefusal> {
-    let held = hold_images(rt, config)?;
-    let guard = Guard {
-        bounds,
-        shows_controls: !task.is_raw,
-        held: &held,
-    };
-    let records = records_of(rt, config, scripts, task.keyboard)?;
     let options = RunOptions {
         typed: task.keyboard,
         stops_idle: task.stops_idle,
-        records: records.as_slice(),
+        records,
     };
     let keys = Cell::new(0);
     let mut files = MachineFiles::new(rt, outputs, guard);
@@ -113,7 +113,7 @@ fn run_config<'a>(
     );
     match ran {
         Ok(report) => {
-            tell_kept(rt, &records, keys.get());
+            tell_kept(rt, records, keys.get());
             let ended = end_run(rt, files.into_batch(), &report);
             record.end(Ok(()))?;
             ended
