@@ -91,7 +91,13 @@ host_error_of_disk_command disk_error.OutOfMemory = OutOfMemory
 -- what a refused run comes to
 abbrev pub host_error_of_run : RunError → HostError
 host_error_of_run (run.ConfigRefused fault) = RunRefused (run.ConfigRefused fault)
+host_error_of_run (run.NoSession name) = RunRefused (run.NoSession name)
+host_error_of_run (run.NotOpened name) = RunRefused (run.NotOpened name)
 host_error_of_run (run.FileRefused e) = RunRefused (run.FileRefused e)
+host_error_of_run (run.TooManyKeys count) = RunRefused (run.TooManyKeys count)
+host_error_of_run (run.InputUnreadable reason) = RunRefused (run.InputUnreadable reason)
+host_error_of_run (run.OutputUnwritable reason) = RunRefused (run.OutputUnwritable reason)
+host_error_of_run (run.RecordUnwritable reason) = RunRefused (run.RecordUnwritable reason)
 host_error_of_run (run.WriteFault name) = RunRefused (run.WriteFault name)
 host_error_of_run run.OutOfMemory = OutOfMemory
 host_error_of_run (run.SessionRefused name fault) = RunRefused (run.SessionRefused name fault)
