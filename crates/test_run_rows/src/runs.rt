@@ -238,9 +238,10 @@ impl Runs {
         let stops_idle = stops_idle(arguments)?;
         match self.ran(alloc, self.config.as_str().len(), stops_idle)? {
             Ok(report) => {
+                let lines = report_lines(alloc, &report)?;
                 self.report = report;
                 self.status = 0;
-                Ok(RowAnswer::Words(report_lines(alloc, &self.report)?))
+                Ok(RowAnswer::Words(lines))
             }
             Err(error) => self.refuse(alloc, error),
         }
