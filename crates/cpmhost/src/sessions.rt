@@ -46,7 +46,15 @@ pub fn run_sessions(
         shows_controls: !task.is_raw,
         held: &held,
     };
-    run_config(rt, outputs, &config, records.as_slice(), guard, task, terminals)
+    run_config(
+        rt,
+        outputs,
+        &config,
+        records.as_slice(),
+        guard,
+        task,
+        terminals,
+    )
 }
 
 /// The configuration in a file.
