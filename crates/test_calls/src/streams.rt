@@ -89,13 +89,6 @@ fn config(rt: &(impl Abort + AllocGlobal)) -> Config {
     Config::read(rt.alloc(), TWO.as_bytes()).expect(rt, "a configuration")
 }
 
-/// One types at the first session.
-const TYPED: RunOptions<'static> = RunOptions {
-    typed: Some("one"),
-    stops_idle: false,
-    records: &[],
-};
-
 /// Fails unless a run at which one types is refused so, before it writes a file.
 fn is_refused<I: Read, W: Write, R: Write>(
     rt: &(impl Abort + AllocGlobal),
@@ -107,11 +100,17 @@ fn is_refused<I: Read, W: Write, R: Write>(
 ) {
     let config = config(rt);
     let mut store = filled(rt);
+    // (one types at the first session)
+    let options = RunOptions {
+        typed: Some("one"),
+        stops_idle: false,
+        records: &[],
+    };
     let alloc = rt.alloc();
     match run_host(
         alloc,
         &config,
-        TYPED,
+        options,
         &mut store,
         input,
         out,
@@ -158,10 +157,16 @@ fn a_watcher_is_told_what_begins(rt: HostRuntime) {
     let mut stages = Stages {
         begun: Vec::new(rt.alloc()),
     };
+    // (one types at the first session)
+    let options = RunOptions {
+        typed: Some("one"),
+        stops_idle: false,
+        records: &[],
+    };
     let ran = run_host(
         rt.alloc(),
         &config,
-        TYPED,
+        options,
         &mut store,
         &mut typed,
         &mut text,

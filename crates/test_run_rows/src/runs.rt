@@ -236,7 +236,8 @@ impl Runs {
     /// `run`: runs the sessions. `run stop-idle`: each ends where it waits and no key will come. The line that reports each.
     fn run(&mut self, alloc: Global, arguments: &[Word<'_>]) -> Result<RowAnswer, RowFault> {
         let stops_idle = stops_idle(arguments)?;
-        match self.ran(alloc, self.config.as_str().len(), stops_idle)? {
+        let length = self.config.as_str().len();
+        match self.ran(alloc, length, stops_idle)? {
             Ok(report) => {
                 let lines = report_lines(alloc, &report)?;
                 self.report = report;
