@@ -118,7 +118,7 @@ def commands():
         Command("com-typed", (*keep_words, "--keyboard", "--record", "record"), record, b"cd."),
         Command("com-no-key", ("com", "keep.com", "--keyboard", "--record", "record"), record),
         Command("run", ("run", "run.toml", "--record-all", "keys"), run),
-        Command("run-typed", ("run", "run.toml", "--keyboard", "one", "--record", "record"), {**run, "record": b"0 old^M\n"}, b"SAVE 1 T.COM\r"),
+        Command("run-typed", ("run", "run.toml", "--keyboard", "one", "--record", "record"), {**run, "record": b"0 old^M\n"}, b"SAVE 1 T.COM\rB:\rSAVE 1 B\r"),
         Command("asm", ("asm", "a.asm", "a.com"), source),
         Command("asm-list", ("asm", "a.asm", "link", "--list", "a.lst"), {**source, "link": Link("room/real"), "room/real": b"real"}),
         Command("asm-closed", ("asm", "a.asm", "new.com"), source, closed=(0, 1, 2)),

@@ -8,11 +8,10 @@ use Rattle.cpm_config.specs.declared.config.Config.{Config}
 use Rattle.cpm_config.specs.declared.config.Origin.TheVariants as origin
 use Rattle.cpm_config.specs.declared.config.SessionConfig.{SessionConfig}
 use Rattle.cpm_geom.specs.Disk.{Disk}
-use Rattle.cpm_script.specs.Fork.{keys_before}
 use Rattle.cpm_store.specs.Files.{StoreFiles, StoreName}
 use Rattle.cpm_batch.specs.declared.error.ReadError.{ReadError}
 use Rattle.cpm_batch.specs.declared.input.Input.{Input}
-use Rattle.cpm_batch.specs.Inputs.{AllImages, AllInputs, given, HasInput, ImageIn, IsFirstFault, IsImageIn, IsMet, IsNeedRefusal, IsReadRefusal, IsSessionRefusal, AreFirstFault, Need, SessionInput, forked_script_needs, image_needs, keys_of_session, needs_from, needs_of}
+use Rattle.cpm_batch.specs.Inputs.{AllImages, AllInputs, given, HasInput, ImageIn, IsFirstFault, IsImageIn, IsMet, IsNeedRefusal, IsReadRefusal, IsSessionRefusal, AreFirstFault, Need, SessionInput, forked_script_needs, image_needs, known_before, needs_from, needs_of, said_of_session}
 
 -- each of the needs is met
 abbrev pub AllMet : Option StoreFiles → List Need → Type 0
@@ -121,9 +120,9 @@ inputs_as files now is same h = subst (λ (f : Option StoreFiles). AllInputs f [
 
 -- the needs of a forked session
 pub forked_needs : (before : List SessionInput) (session : SessionConfig) (parent : String Global) (at : ℕ) (name : StoreName) → session.origin ≡ origin.Forked parent at → name ≡ string_bytes parent
-    → forked_script_needs at (keys_before at (keys_of_session before name)) session.keys ≡ needs_of before session
+    → forked_script_needs at (known_before at (said_of_session before name)) session.keys ≡ needs_of before session
 forked_needs before session parent at name is named =
-    ap (λ (n : StoreName). forked_script_needs at (keys_before at (keys_of_session before n)) session.keys) named ∙ ap (needs_from before session.keys) (sym is)
+    ap (λ (n : StoreName). forked_script_needs at (known_before at (said_of_session before n)) session.keys) named ∙ ap (needs_from before session.keys) (sym is)
 
 -- ---- a configuration
 

@@ -1,5 +1,5 @@
 pub mod InputLemmas
-pub mod KeyLemmas
+pub mod KnownLemmas
 pub mod OutputLemmas
 pub mod ParentLemmas
 pub mod ReadLemmas

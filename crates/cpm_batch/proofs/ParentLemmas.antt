@@ -1,5 +1,5 @@
 -- The session that another one is forked from, among those that were read before it.
-use Rattle.std.proofs.Common.{◌≡◌, ◌∙◌, ◌<◌, ℕ, Bool, true, false, cond, if◌then◌else◌, List, [], ◌∷◌, ◌++◌, length, map, get_or, take, drop, ◌+◌, Option, Some, None, refl, sym, subst, ap, arith}
+use Rattle.std.proofs.Common.{◌≡◌, ◌∙◌, ◌<◌, ◌≤◌, ℕ, Bool, true, false, cond, if◌then◌else◌, List, [], ◌∷◌, ◌++◌, length, map, get_or, take, drop, ◌+◌, Option, Some, None, refl, sym, subst, ap, arith}
 use Rattle.std.specs.Prelude.{is_some, nat_lt, option_and_then, option_map, slice_get}
 use Rattle.std.specs.List.{All, find, position_from, position_or_len}
 use Rattle.std.proofs.lemmas.Bool.Decides.{nat_tests}
@@ -14,29 +14,29 @@ use Rattle.cpm_config.proofs.FaultLemmas.{faultless_step}
 use Rattle.cpm_config.specs.declared.config.Origin.{Origin}
 use Rattle.cpm_config.specs.declared.config.Origin.TheVariants as origin
 use Rattle.cpm_config.specs.declared.config.SessionConfig.{SessionConfig}
-use Rattle.cpm_script.specs.Fork.{keys_before}
-use Rattle.cpm_script.specs.declared.script.Key.{Key}
+use Rattle.cpm_script.specs.Cues.{all_said, cue_text}
+use Rattle.cpm_script.specs.declared.cue.Cue.{Cue}
 use Rattle.cpm_store.specs.Files.{StoreFiles, StoreName}
-use Rattle.cpm_batch.specs.Inputs.{AllInputs, HasInputOf, IsOpened, IsParent, SessionInput, given, keys_if_any, keys_of_session, session_place}
+use Rattle.cpm_batch.specs.Inputs.{AllInputs, HasInputOf, IsOpened, IsParent, SessionInput, given, known_before, said_if_any, said_of_session, session_place}
 use Rattle.cpm_batch.specs.declared.input.Input.{Input}
-use Rattle.cpm_batch.proofs.KeyLemmas.{AreFew, few-before, few-behind, few-opened}
+use Rattle.cpm_batch.proofs.KnownLemmas.{AreFew, few-forked, few-known, few-opened}
 
 -- what was read for a session: not too many keys, and a start as its session has it
 record IsSound (i : SessionInput) : Type 0 where
-  pub few : AreFew i.keys
+  pub few : AreFew i.said
   pub opened : is_opened (origin_view i.session.origin) ≡ true → IsOpened i.start
 
 sound_at : (is : List SessionInput) (place : ℕ) (i : SessionInput) → All IsSound is → slice_get is place ≡ Some i → IsSound i
 sound_at is place i all there =
     subst IsSound (get_or_from_slice_get is place i i there) (All-get_or IsSound is place i (slice_get_within is place i there) all)
 
-sound_opened : (files : Option StoreFiles) (o : Origin) (before : List SessionInput) (i : SessionInput) → All IsSound before → i.session.origin ≡ o → HasInputOf files before o i → IsSound i
-sound_opened files (origin.Opened cpu quota drives) before i all is h = record {
-  few = few-opened files i.session.keys i.keys h.keys;
+sound_opened : (files : Option StoreFiles) (o : Origin) (before : List SessionInput) (i : SessionInput) → i.session.origin ≡ o → HasInputOf files before o i → IsSound i
+sound_opened files (origin.Opened cpu quota drives) before i is h = record {
+  few = few-opened files i.session.keys i.said h.said;
   opened = λ opened. subst IsOpened (sym h.start) tt;
 }
-sound_opened files (origin.Forked parent at) before i all is h = record {
-  few = few-behind files i.session.keys at (keys_before at h.parent.keys) i.keys (few-before at h.parent.keys (sound_at before h.place h.parent all h.found.there).few) h.keys;
+sound_opened files (origin.Forked parent at) before i is h = record {
+  few = few-forked files i.session.keys at (known_before at h.parent.said) i.said h.said;
   opened = λ opened. let no = sym (ap (λ (x : Origin). is_opened (origin_view x)) is) ∙ opened in absurd (cc);
 }
 
@@ -44,7 +44,7 @@ sound_more : (files : Option StoreFiles) (before is : List SessionInput) → All
 sound_more files before [] all h = All-same IsSound (before ++ []) before (append-nil before) all
 sound_more files before (i ∷ is) all h =
     All-same IsSound (before ++ i ∷ is) ((before ++ i ∷ []) ++ is) (sym (append_assoc before (i ∷ []) is))
-    (sound_more files (before ++ i ∷ []) is (All-push IsSound before i all (sound_opened files i.session.origin before i all refl h.0)) h.1)
+    (sound_more files (before ++ i ∷ []) is (All-push IsSound before i all (sound_opened files i.session.origin before i refl h.0)) h.1)
 
 -- ---- the first that passes a test
 
@@ -76,7 +76,7 @@ pub record HasParent (is : List SessionInput) (name : StoreName) : Type 0 where
   pub place : ℕ
   pub parent : SessionInput
   pub found : IsParent is name place parent
-  pub few : AreFew parent.keys
+  pub few : AreFew parent.said
 
 abbrev seen : SessionInput → SessionEntries
 seen i = session_view i.session
@@ -102,31 +102,32 @@ parent_by is name (Some s) all found some = by_test (is_opened s.origin) refl so
 pub parent_found : (files : Option StoreFiles) (is : List SessionInput) (name : StoreName) → AllInputs files [] is → is_some (parent_in (map (λ i. session_view i.session) is) name) ≡ true → HasParent is name
 parent_found files is name h some = parent_by is name (named_in (map seen is) name) (sound_more files [] is (All-nil IsSound) h) refl some
 
--- the parent at a place, and the first keys of a session that is forked from it
-pub record IsReadParent (is : List Input) (name : StoreName) (place at : ℕ) (first : List Key) : Type 0 where
+-- the parent at a place, and how many keys it is known to have before a session is forked from it
+pub record IsReadParent (is : List Input) (name : StoreName) (place at first : ℕ) : Type 0 where
   pub parent : SessionInput
   pub found : IsParent (map given is) name place parent
-  pub few : AreFew first
-  pub keys : first ≡ keys_before at parent.keys
-  pub named : first ≡ keys_before at (keys_of_session (map given is) name)
+  pub few : first ≤ 4096
+  pub known : first ≡ known_before at parent.said
+  pub named : first ≡ known_before at (said_of_session (map given is) name)
 
-pub parent_read : (files : Option StoreFiles) (is : List Input) (name : StoreName) (place at : ℕ) (i : Input) (own first : List Key) → AllInputs files [] (map given is)
+pub parent_read : (files : Option StoreFiles) (is : List Input) (name : StoreName) (place at : ℕ) (i : Input) (own : List Cue) (first : ℕ) → AllInputs files [] (map given is)
     → is_some (parent_in (map (λ i. session_view i.session) (map given is)) name) ≡ true → Some place ≡ session_place (map given is) name → place < length is → i ≡ get_or is place i
-    → own ≡ (get_or is place i).keys.items → first ≡ keys_before at own → IsReadParent is name place at first
+    → own ≡ (get_or is place i).cues.items → first ≡ known_before at (map cue_text own) → IsReadParent is name place at first
 parent_read files is name place at i own first all some named within is_at own_is first_is =
     let h = parent_found files (map given is) name all some in
     let same_place : h.place ≡ place = let f = h.found.first in cc in
     let there : slice_get (map given is) place ≡ Some (given i) =
     slice_get-map given is place ∙ ap (option_map given) (slice_get-get_or is place i within ∙ ap (λ (x : Input). Some x) (sym is_at)) in
     let same : h.parent ≡ given i = let f = ap (slice_get (map given is)) (sym same_place) ∙ h.found.there in cc in
-    let keys : first ≡ keys_before at i.keys.items = first_is ∙ ap (keys_before at) (own_is ∙ ap (λ (x : Input). x.keys.items) (sym is_at)) in
-    let found : keys_of_session (map given is) name ≡ i.keys.items = ap (λ (p : Option ℕ). keys_if_any (option_and_then (slice_get (map given is)) p)) (sym named) ∙ ap keys_if_any there in
+    let known : first ≡ known_before at (all_said i.cues) =
+    first_is ∙ ap (λ (cs : List Cue). known_before at (map cue_text cs)) (own_is ∙ ap (λ (x : Input). x.cues.items) (sym is_at)) in
+    let found : said_of_session (map given is) name ≡ all_said i.cues = ap (λ (p : Option ℕ). said_if_any (option_and_then (slice_get (map given is)) p)) (sym named) ∙ ap said_if_any there in
     record {
       parent = given i;
       found = record { first = sym named; there = there; opened = subst (λ (x : SessionInput). IsOpened x.start) same h.found.opened };
-      few = subst AreFew (sym keys) (few-before at i.keys.items (subst (λ (x : SessionInput). AreFew x.keys) same h.few));
-      keys = keys;
-      named = keys ∙ ap (keys_before at) (sym found);
+      few = subst (λ n. n ≤ 4096) (sym known) (few-known at (all_said i.cues) (subst (λ (x : SessionInput). AreFew x.said) same h.few));
+      known = known;
+      named = known ∙ ap (known_before at) (sym found);
     }
 
 -- ---- forks that break no rule

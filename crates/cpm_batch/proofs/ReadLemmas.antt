@@ -7,9 +7,8 @@ use Rattle.cpm_geom.specs.Disk.{Disk}
 use Rattle.cpm_store.specs.Files.{CountsFailure, StoreFiles, StoreName}
 use Rattle.cpm_store.specs.Log.{StoreAccess, Gave, LogLeadsBy, Then}
 use Rattle.cpm_store.proofs.LogLemmas.{ran_more, ran_one, unwritten_more}
-use Rattle.cpm_script.specs.Fork.{forked_script}
-use Rattle.cpm_script.specs.Script.{script}
-use Rattle.cpm_script.specs.declared.script.Key.{Key}
+use Rattle.cpm_script.specs.Cues.{CueText, cues}
+use Rattle.cpm_script.specs.Fork.{forked_cues}
 use Rattle.std.specs.Prelude.{Err, IfErr, IfOk, Ok, OnOk, Option, Result, Some, None, Vec}
 use Rattle.cpm_config.specs.declared.config.Origin.{Origin}
 use Rattle.cpm_config.specs.declared.config.Origin.TheVariants as origin
@@ -18,42 +17,42 @@ use Rattle.cpm_flags.specs.declared.regs.Cpu.{Cpu}
 use Rattle.cpm_batch.specs.declared.error.ReadError.{ReadError}
 use Rattle.cpm_batch.specs.declared.error.ReadError.TheVariants.{OutOfMemory}
 use Rattle.cpm_batch.specs.Inputs.{IsFileFault, IsImage, SessionInput, given}
-use Rattle.cpm_batch.specs.Reads.{AreForkedKeysRead, AreImagesRead, AreInputsRead, AreKeysRead, IsForkedRead, IsForkedScriptRead, IsImageRead, IsInputRead, IsInputReadOf, IsOpenedRead, IsScriptRead, OnlyRead}
+use Rattle.cpm_batch.specs.Reads.{AreImagesRead, AreInputsRead, IsForkedRead, IsForkedSaidRead, IsForkedScriptRead, IsImageRead, IsInputRead, IsInputReadOf, IsOpenedRead, IsSaidRead, IsScriptRead, OnlyRead}
 use Rattle.cpm_batch.specs.declared.input.Input.{Input}
 
 -- one read
 pub image_read : {S : Type 0} (does : S → StoreAccess → S → Type 0) (name : StoreName) (bytes : List ℕ) (d : Disk) (s t : S) → does s (Gave name bytes) t → IsImage bytes d → LogLeadsBy does (IsImageRead name d) s t
 image_read does name bytes d s t call image = (Gave name bytes ∷ [], record { bytes = bytes; image = image; calls = refl }, ran_one does (Gave name bytes) s t call)
 
-pub script_read : {S : Type 0} (does : S → StoreAccess → S → Type 0) (name : StoreName) (text : List ℕ) (keys : List Key) (s t : S) → does s (Gave name text) t → script text ≡ Ok keys → LogLeadsBy does (IsScriptRead name keys) s t
-script_read does name text keys s t call read = (Gave name text ∷ [], record { text = text; read = read; calls = refl }, ran_one does (Gave name text) s t call)
+pub script_read : {S : Type 0} (does : S → StoreAccess → S → Type 0) (name : StoreName) (text : List ℕ) (said : List CueText) (s t : S) → does s (Gave name text) t → cues text ≡ Ok said → LogLeadsBy does (IsScriptRead name said) s t
+script_read does name text said s t call read = (Gave name text ∷ [], record { text = text; read = read; calls = refl }, ran_one does (Gave name text) s t call)
 
-pub forked_script_read : {S : Type 0} (does : S → StoreAccess → S → Type 0) (name text : StoreName) (at : ℕ) (before keys : List Key) (s t : S) → does s (Gave name text) t → forked_script at before text ≡ Ok keys
-    → LogLeadsBy does (IsForkedScriptRead name at before keys) s t
-forked_script_read does name text at before keys s t call read =
+pub forked_script_read : {S : Type 0} (does : S → StoreAccess → S → Type 0) (name text : StoreName) (at before : ℕ) (said : List CueText) (s t : S) → does s (Gave name text) t → forked_cues at before text ≡ Ok said
+    → LogLeadsBy does (IsForkedScriptRead name at before said) s t
+forked_script_read does name text at before said s t call read =
     (Gave name text ∷ [], record { text = text; read = read; calls = refl }, ran_one does (Gave name text) s t call)
 
 -- the same of the text of a name
 pub image_read_as : {S : Type 0} (does : S → StoreAccess → S → Type 0) (name text : StoreName) (d : Disk) (s t : S) → text ≡ name → LogLeadsBy does (IsImageRead text d) s t → LogLeadsBy does (IsImageRead name d) s t
 image_read_as does name text d s t is h = subst (λ (n : StoreName). LogLeadsBy does (IsImageRead n d) s t) is h
 
--- the keys of a script that is named, and of none
-pub script_named : {S : Type 0} (does : S → StoreAccess → S → Type 0) (script : Option (String Global)) (name : String Global) (text : StoreName) (keys : List Key) (s t : S) → script ≡ Some name → text ≡ string_bytes name
-    → LogLeadsBy does (IsScriptRead text keys) s t → LogLeadsBy does (AreKeysRead script keys) s t
-script_named does script name text keys s t is named h =
-    subst (λ (o : Option (String Global)). LogLeadsBy does (AreKeysRead o keys) s t) (sym is) (subst (λ (n : StoreName). LogLeadsBy does (IsScriptRead n keys) s t) named h)
+-- what a script says that is named, and what none does
+pub script_named : {S : Type 0} (does : S → StoreAccess → S → Type 0) (script : Option (String Global)) (name : String Global) (text : StoreName) (said : List CueText) (s t : S) → script ≡ Some name → text ≡ string_bytes name
+    → LogLeadsBy does (IsScriptRead text said) s t → LogLeadsBy does (IsSaidRead script said) s t
+script_named does script name text said s t is named h =
+    subst (λ (o : Option (String Global)). LogLeadsBy does (IsSaidRead o said) s t) (sym is) (subst (λ (n : StoreName). LogLeadsBy does (IsScriptRead n said) s t) named h)
 
-pub no_script : {S : Type 0} (does : S → StoreAccess → S → Type 0) (script : Option (String Global)) (keys : List Key) (s : S) → script ≡ None → keys ≡ [] → LogLeadsBy does (AreKeysRead script keys) s s
-no_script does script keys s is none = subst (λ (o : Option (String Global)). LogLeadsBy does (AreKeysRead o keys) s s) (sym is) ([], (none, refl), refl)
+pub no_script : {S : Type 0} (does : S → StoreAccess → S → Type 0) (script : Option (String Global)) (said : List CueText) (s : S) → script ≡ None → said ≡ [] → LogLeadsBy does (IsSaidRead script said) s s
+no_script does script said s is none = subst (λ (o : Option (String Global)). LogLeadsBy does (IsSaidRead o said) s s) (sym is) ([], (none, refl), refl)
 
-pub forked_script_named : {S : Type 0} (does : S → StoreAccess → S → Type 0) (script : Option (String Global)) (name : String Global) (text : StoreName) (at : ℕ) (before keys : List Key) (s t : S)
-    → script ≡ Some name → text ≡ string_bytes name → LogLeadsBy does (IsForkedScriptRead text at before keys) s t → LogLeadsBy does (AreForkedKeysRead script at before keys) s t
-forked_script_named does script name text at before keys s t is named h =
-    subst (λ (o : Option (String Global)). LogLeadsBy does (AreForkedKeysRead o at before keys) s t) (sym is) (subst (λ (n : StoreName). LogLeadsBy does (IsForkedScriptRead n at before keys) s t) named h)
+pub forked_script_named : {S : Type 0} (does : S → StoreAccess → S → Type 0) (script : Option (String Global)) (name : String Global) (text : StoreName) (at before : ℕ) (said : List CueText) (s t : S)
+    → script ≡ Some name → text ≡ string_bytes name → LogLeadsBy does (IsForkedScriptRead text at before said) s t → LogLeadsBy does (IsForkedSaidRead script at before said) s t
+forked_script_named does script name text at before said s t is named h =
+    subst (λ (o : Option (String Global)). LogLeadsBy does (IsForkedSaidRead o at before said) s t) (sym is) (subst (λ (n : StoreName). LogLeadsBy does (IsForkedScriptRead n at before said) s t) named h)
 
-pub no_forked_script : {S : Type 0} (does : S → StoreAccess → S → Type 0) (script : Option (String Global)) (at : ℕ) (before keys : List Key) (s : S) → script ≡ None → keys ≡ before
-    → LogLeadsBy does (AreForkedKeysRead script at before keys) s s
-no_forked_script does script at before keys s is same = subst (λ (o : Option (String Global)). LogLeadsBy does (AreForkedKeysRead o at before keys) s s) (sym is) ([], (same, refl), refl)
+pub no_forked_script : {S : Type 0} (does : S → StoreAccess → S → Type 0) (script : Option (String Global)) (at before : ℕ) (said : List CueText) (s : S) → script ≡ None → said ≡ []
+    → LogLeadsBy does (IsForkedSaidRead script at before said) s s
+no_forked_script does script at before said s is same = subst (λ (o : Option (String Global)). LogLeadsBy does (IsForkedSaidRead o at before said) s s) (sym is) ([], (same, refl), refl)
 
 -- the reads of a session that begins so
 pub opened_read : {S : Type 0} (does : S → StoreAccess → S → Type 0) (r : Result Input ReadError) (before : List SessionInput) (session : SessionConfig) (cpu : Cpu) (quota : ℕ) (drives : Vec (String Global) Global)

@@ -9,15 +9,14 @@ use Rattle.cpm_config.specs.declared.config.Origin.{Origin}
 use Rattle.cpm_config.specs.declared.config.Origin.TheVariants as origin
 use Rattle.cpm_config.specs.declared.config.SessionConfig.{SessionConfig}
 use Rattle.cpm_geom.specs.Disk.{Disk}
-use Rattle.cpm_script.specs.Fork.{keys_before}
-use Rattle.cpm_script.specs.declared.script.Key.{Key}
+use Rattle.cpm_script.specs.Cues.{CueText}
 use Rattle.cpm_store.specs.Files.{StoreName}
 use Rattle.cpm_store.specs.Log.{StoreAccess, AreNoWrites, Missed, LogLeadsBy, Then}
 use Rattle.cpm_store.proofs.LogLemmas.{no_writes_more, ran_more, ran_one}
 use Rattle.cpm_batch.specs.declared.error.ReadError.{ReadError}
 use Rattle.cpm_batch.specs.declared.error.ReadError.TheVariants.{File, OutOfMemory}
-use Rattle.cpm_batch.specs.Inputs.{ForkedScriptIn, ImageIn, IsMissed, Need, ScriptIn, SessionInput, image_needs, needed_name, needs_of, script_needs, forked_script_needs}
-use Rattle.cpm_batch.specs.Reads.{AreForkedKeysRead, AreImagesRead, AreInputsRead, AreKeysRead, IsFaultRead, IsImageRead, IsInputRead, IsInputReadOf, IsNeedRead, StopsAmongNeeds, StopsAmongSessions, StopsAtFault, StopsAtSession, StopsReading}
+use Rattle.cpm_batch.specs.Inputs.{ForkedScriptIn, ImageIn, IsMissed, Need, ScriptIn, SessionInput, image_needs, known_before, needed_name, needs_of, script_needs, forked_script_needs}
+use Rattle.cpm_batch.specs.Reads.{AreImagesRead, AreInputsRead, IsFaultRead, IsForkedSaidRead, IsImageRead, IsInputRead, IsInputReadOf, IsNeedRead, IsSaidRead, StopsAmongNeeds, StopsAmongSessions, StopsAtFault, StopsAtSession, StopsReading}
 use Rattle.cpm_batch.proofs.ReadLemmas.{then_more}
 
 -- a read of each of the needs in order, in which it was met
@@ -60,13 +59,13 @@ images_need [] (d ∷ ds) log h = absurd h
 images_need (name ∷ names) [] log h = absurd h
 images_need (name ∷ names) (d ∷ ds) log h = record { first = h.first; rest = h.rest; order = h.order; begins = (d, h.begins); goes_on = images_need names ds h.rest h.goes_on }
 
-keys_need : (name : Option (String Global)) (keys : List Key) (log : List StoreAccess) → AreKeysRead name keys log → AreNeedsRead (script_needs name) log
-keys_need None keys log h = h.1
-keys_need (Some name) keys log h = one_need (ScriptIn (string_bytes name)) log (keys, h)
+said_need : (name : Option (String Global)) (said : List CueText) (log : List StoreAccess) → IsSaidRead name said log → AreNeedsRead (script_needs name) log
+said_need None said log h = h.1
+said_need (Some name) said log h = one_need (ScriptIn (string_bytes name)) log (said, h)
 
-forked_keys_need : (name : Option (String Global)) (at : ℕ) (before keys : List Key) (log : List StoreAccess) → AreForkedKeysRead name at before keys log → AreNeedsRead (forked_script_needs at before name) log
-forked_keys_need None at before keys log h = h.1
-forked_keys_need (Some name) at before keys log h = one_need (ForkedScriptIn (string_bytes name) at before) log (keys, h)
+forked_said_need : (name : Option (String Global)) (at before : ℕ) (said : List CueText) (log : List StoreAccess) → IsForkedSaidRead name at before said log → AreNeedsRead (forked_script_needs at before name) log
+forked_said_need None at before said log h = h.1
+forked_said_need (Some name) at before said log h = one_need (ForkedScriptIn (string_bytes name) at before) log (said, h)
 
 -- ---- sessions, each behind those before it
 
@@ -75,9 +74,9 @@ input_unwritten before (origin.Opened cpu quota names) i log h =
     needs_unwritten (image_needs names.items ++ script_needs i.session.keys) log
     (subst (AreNeedsRead (image_needs names.items ++ script_needs i.session.keys)) (sym h.calls.order)
     (needs_read_append (image_needs names.items) (script_needs i.session.keys) h.calls.first h.calls.rest (images_need names.items h.drives h.calls.first h.calls.begins)
-    (keys_need i.session.keys i.keys h.calls.rest h.calls.goes_on)))
+    (said_need i.session.keys i.said h.calls.rest h.calls.goes_on)))
 input_unwritten before (origin.Forked parent at) i log h =
-    needs_unwritten (forked_script_needs at (keys_before at h.parent.keys) i.session.keys) log (forked_keys_need i.session.keys at (keys_before at h.parent.keys) i.keys log h.calls)
+    needs_unwritten (forked_script_needs at (known_before at h.parent.said) i.session.keys) log (forked_said_need i.session.keys at (known_before at h.parent.said) i.said log h.calls)
 
 inputs_unwritten : (before is : List SessionInput) (log : List StoreAccess) → AreInputsRead before is log → AreNoWrites log
 inputs_unwritten before [] log h = subst AreNoWrites (sym h) tt
@@ -183,13 +182,13 @@ module _ {S : Type 0} (does : S → StoreAccess → S → Type 0) where
   pub image_stopped_as : (name text : StoreName) (e : ReadError) (s t : S) → text ≡ name → LogLeadsBy does (StopsAmongNeeds (ImageIn text ∷ []) e) s t → LogLeadsBy does (StopsAmongNeeds (ImageIn name ∷ []) e) s t
   image_stopped_as name text e s t is h = subst (λ (n : StoreName). LogLeadsBy does (StopsAmongNeeds (ImageIn n ∷ []) e) s t) is h
 
-  pub keys_stopped : (script : Option (String Global)) (name : String Global) (text : StoreName) (e : ReadError) (s t : S) → script ≡ Some name → text ≡ string_bytes name
+  pub said_stopped : (script : Option (String Global)) (name : String Global) (text : StoreName) (e : ReadError) (s t : S) → script ≡ Some name → text ≡ string_bytes name
       → LogLeadsBy does (StopsAmongNeeds (ScriptIn text ∷ []) e) s t → LogLeadsBy does (StopsAmongNeeds (script_needs script) e) s t
-  keys_stopped script name text e s t is named h =
+  said_stopped script name text e s t is named h =
       subst (λ (o : Option (String Global)). LogLeadsBy does (StopsAmongNeeds (script_needs o) e) s t) (sym is) (subst (λ (n : StoreName). LogLeadsBy does (StopsAmongNeeds (ScriptIn n ∷ []) e) s t) named h)
 
-  pub forked_keys_stopped : (script : Option (String Global)) (name : String Global) (text : StoreName) (at : ℕ) (before : List Key) (e : ReadError) (s t : S) → script ≡ Some name → text ≡ string_bytes name
+  pub forked_said_stopped : (script : Option (String Global)) (name : String Global) (text : StoreName) (at before : ℕ) (e : ReadError) (s t : S) → script ≡ Some name → text ≡ string_bytes name
       → LogLeadsBy does (StopsAmongNeeds (ForkedScriptIn text at before ∷ []) e) s t → LogLeadsBy does (StopsAmongNeeds (forked_script_needs at before script) e) s t
-  forked_keys_stopped script name text at before e s t is named h =
+  forked_said_stopped script name text at before e s t is named h =
       subst (λ (o : Option (String Global)). LogLeadsBy does (StopsAmongNeeds (forked_script_needs at before o) e) s t) (sym is)
       (subst (λ (n : StoreName). LogLeadsBy does (StopsAmongNeeds (ForkedScriptIn n at before ∷ []) e) s t) named h)

@@ -1,6 +1,7 @@
 -- What the sessions of a configuration need, and what is read for them. All of it is own.
 use Rattle.std.specs.Prelude.{⊤, ◌≡◌, ◌⊎◌, ℕ, List, [], ◌∷◌, ◌++◌, length, map, chars, slice_get}
-use Rattle.std.specs.Prelude.{Option, Some, None, option_and_then, Ok, Err, String, string_bytes}
+use Rattle.std.specs.Prelude.{Option, Some, None, option_and_then, option_map, Ok, Err, String, string_bytes}
+use Rattle.std.specs.Option.{option_map_or}
 use Rattle.std.specs.List.{concat}
 use Rattle.std.specs.declared.alloc.Global.{Global}
 use Rattle.cpm_command_line.specs.Shown.{shown_of}
@@ -12,8 +13,8 @@ use Rattle.cpm_config.specs.declared.config.SessionConfig.{SessionConfig}
 use Rattle.cpm_flags.specs.declared.regs.Cpu.{Cpu}
 use Rattle.cpm_geom.specs.Disk.{Disk, IsDisk}
 use Rattle.cpm_geom.specs.Geometry.{format_of_length}
-use Rattle.cpm_script.specs.Fork.{forked_script, keys_before}
-use Rattle.cpm_script.specs.Script.{script}
+use Rattle.cpm_script.specs.Cues.{Awaited, Counted, CueText, Pressed, all_said, cues}
+use Rattle.cpm_script.specs.Fork.{forked_cues, keys_before}
 use Rattle.cpm_script.specs.declared.fault.LineFault.{LineFault}
 use Rattle.cpm_script.specs.declared.script.Key.{Key}
 use Rattle.cpm_store.specs.Files.{StoreFiles, Finds, StoreName}
@@ -37,17 +38,17 @@ pub record IsImageIn (files : Option StoreFiles) (name : StoreName) (d : Disk) :
   pub found : Finds files name bytes
   pub image : IsImage bytes d
 
--- the file has a key script of these keys
-pub record IsScriptIn (files : Option StoreFiles) (name : StoreName) (keys : List Key) : Type 0 where
+-- the file has a key script that says this
+pub record IsScriptIn (files : Option StoreFiles) (name : StoreName) (said : List CueText) : Type 0 where
   pub text : List ℕ
   pub found : Finds files name text
-  pub read : script text ≡ Ok keys
+  pub read : cues text ≡ Ok said
 
--- the file has a key script with which a session that is forked at this count of steps, after the keys that its parent had before, has these keys
-pub record IsForkedScriptIn (files : Option StoreFiles) (name : StoreName) (at : ℕ) (before keys : List Key) : Type 0 where
+-- the file has a key script that says this for a session that is forked at this count of steps, after so many keys that its parent had before
+pub record IsForkedScriptIn (files : Option StoreFiles) (name : StoreName) (at before : ℕ) (said : List CueText) : Type 0 where
   pub text : List ℕ
   pub found : Finds files name text
-  pub read : forked_script at before text ≡ Ok keys
+  pub read : forked_cues at before text ≡ Ok said
 
 -- the file has so many bytes, which no image has
 pub record IsNoImageIn (files : Option StoreFiles) (name : StoreName) (count : ℕ) : Type 0 where
@@ -60,13 +61,13 @@ pub record IsNoImageIn (files : Option StoreFiles) (name : StoreName) (count : �
 pub record IsNoScriptIn (files : Option StoreFiles) (name : StoreName) (line : ℕ) (fault : LineFault) : Type 0 where
   pub text : List ℕ
   pub found : Finds files name text
-  pub read : script text ≡ Err (line, fault)
+  pub read : cues text ≡ Err (line, fault)
 
--- the same of a session that is forked at this count of steps, after these keys
-pub record IsNoForkedScriptIn (files : Option StoreFiles) (name : StoreName) (at : ℕ) (before : List Key) (line : ℕ) (fault : LineFault) : Type 0 where
+-- the same of a session that is forked at this count of steps, after so many keys
+pub record IsNoForkedScriptIn (files : Option StoreFiles) (name : StoreName) (at before line : ℕ) (fault : LineFault) : Type 0 where
   pub text : List ℕ
   pub found : Finds files name text
-  pub read : forked_script at before text ≡ Err (line, fault)
+  pub read : forked_cues at before text ≡ Err (line, fault)
 
 -- ---- what is read for a session
 
@@ -82,11 +83,22 @@ start_view (start.Forked parent at) = Forks parent at
 pub record SessionInput : Type 0 where
   pub session : SessionConfig
   pub start : StartInput
-  -- all keys that it has: those before its fork, where it is forked, and those of its script
-  pub keys : List Key
+  -- what its own script says
+  pub said : List CueText
 
 abbrev pub given : Input → SessionInput
-given i = record { session = i.session.now; start = start_view i.start; keys = i.keys.items }
+given i = record { session = i.session.now; start = start_view i.start; said = all_said i.cues }
+
+-- the keys of a script, each with its count; none where one of its lines waits, before it is played
+abbrev pub timed_keys : List CueText → Option (List Key)
+timed_keys [] = Some []
+timed_keys (Counted key ∷ cs) = option_map (λ keys. key ∷ keys) (timed_keys cs)
+timed_keys (Awaited text ∷ cs) = None
+timed_keys (Pressed byte ∷ cs) = None
+
+-- how many keys a script is known to have before a count
+abbrev pub known_before : ℕ → List CueText → ℕ
+known_before at said = option_map_or (λ keys. length (keys_before at keys)) (timed_keys said) 0
 
 -- ---- for one that is opened
 
@@ -97,16 +109,16 @@ AllImages files (name ∷ names) (d ∷ ds) = IsImageIn files (string_bytes name
 AllImages files [] (d ∷ ds) = ⊥
 AllImages files (name ∷ names) [] = ⊥
 
--- the keys are those of the script, if there is one
-abbrev pub HasKeys : Option StoreFiles → Option (String Global) → List Key → Type 0
-HasKeys files None keys = keys ≡ []
-HasKeys files (Some name) keys = IsScriptIn files (string_bytes name) keys
+-- this is said by the script, if there is one
+abbrev pub HasSaid : Option StoreFiles → Option (String Global) → List CueText → Type 0
+HasSaid files None said = said ≡ []
+HasSaid files (Some name) said = IsScriptIn files (string_bytes name) said
 
 pub record IsOpenedInput (files : Option StoreFiles) (cpu : Cpu) (quota : ℕ) (names : List (String Global)) (i : SessionInput) : Type 0 where
   pub drives : List Disk
   pub start : i.start ≡ Opens cpu quota drives
   pub images : AllImages files names drives
-  pub keys : HasKeys files i.session.keys i.keys
+  pub said : HasSaid files i.session.keys i.said
 
 -- ---- for one that is forked, after what was read for the sessions before it
 
@@ -124,17 +136,17 @@ pub record IsParent (before : List SessionInput) (name : StoreName) (place : ℕ
   pub there : slice_get before place ≡ Some parent
   pub opened : IsOpened parent.start
 
--- the keys are those before the fork, and after them those of the script, if there is one
-abbrev pub HasForkedKeys : Option StoreFiles → Option (String Global) → (at : ℕ) → (before keys : List Key) → Type 0
-HasForkedKeys files None at before keys = keys ≡ before
-HasForkedKeys files (Some name) at before keys = IsForkedScriptIn files (string_bytes name) at before keys
+-- this is said by its own script, if there is one, after so many keys before the fork
+abbrev pub HasForkedSaid : Option StoreFiles → Option (String Global) → (at before : ℕ) → List CueText → Type 0
+HasForkedSaid files None at before said = said ≡ []
+HasForkedSaid files (Some name) at before said = IsForkedScriptIn files (string_bytes name) at before said
 
 pub record IsForkedInput (files : Option StoreFiles) (before : List SessionInput) (name : StoreName) (at : ℕ) (i : SessionInput) : Type 0 where
   pub place : ℕ
   pub parent : SessionInput
   pub found : IsParent before name place parent
   pub start : i.start ≡ Forks place at
-  pub keys : HasForkedKeys files i.session.keys at (keys_before at parent.keys) i.keys
+  pub said : HasForkedSaid files i.session.keys at (known_before at parent.said) i.said
 
 -- ---- for each
 
@@ -159,11 +171,11 @@ pub record AreInputs (files : Option StoreFiles) (config : Config) (system : Dis
 
 -- ---- what a session needs, in the order in which it is read
 
--- a file that is to hold an image, or a key script; one of a session that is forked at a count of steps stands after the keys that its parent had before
+-- a file that is to hold an image, or a key script; one of a session that is forked at a count of steps stands after so many keys that its parent had before
 pub data Need : Type 0 where
   ImageIn : (name : StoreName) → Need
   ScriptIn : (name : StoreName) → Need
-  ForkedScriptIn : (name : StoreName) (at : ℕ) (before : List Key) → Need
+  ForkedScriptIn : (name : StoreName) (at before : ℕ) → Need
 
 abbrev pub image_needs : List (String Global) → List Need
 image_needs names = map (λ name. ImageIn (string_bytes name)) names
@@ -172,23 +184,23 @@ abbrev pub script_needs : Option (String Global) → List Need
 script_needs None = []
 script_needs (Some name) = ScriptIn (string_bytes name) ∷ []
 
-abbrev pub forked_script_needs : (at : ℕ) (before : List Key) → Option (String Global) → List Need
+abbrev pub forked_script_needs : (at before : ℕ) → Option (String Global) → List Need
 forked_script_needs at before None = []
 forked_script_needs at before (Some name) = ForkedScriptIn (string_bytes name) at before ∷ []
 
--- the keys of what was read for a session, if it was
-abbrev pub keys_if_any : Option SessionInput → List Key
-keys_if_any None = []
-keys_if_any (Some i) = i.keys
+-- what the script says that was read for a session, if it was
+abbrev pub said_if_any : Option SessionInput → List CueText
+said_if_any None = []
+said_if_any (Some i) = i.said
 
--- those of the first session of this name
-abbrev pub keys_of_session : List SessionInput → StoreName → List Key
-keys_of_session before name = keys_if_any (option_and_then (slice_get before) (session_place before name))
+-- that of the first session of this name
+abbrev pub said_of_session : List SessionInput → StoreName → List CueText
+said_of_session before name = said_if_any (option_and_then (slice_get before) (session_place before name))
 
 -- of a session with this script that begins so
 abbrev pub needs_from : (before : List SessionInput) → Option (String Global) → Origin → List Need
 needs_from before keys (origin.Opened cpu quota drives) = image_needs drives.items ++ script_needs keys
-needs_from before keys (origin.Forked parent at) = forked_script_needs at (keys_before at (keys_of_session before (string_bytes parent))) keys
+needs_from before keys (origin.Forked parent at) = forked_script_needs at (known_before at (said_of_session before (string_bytes parent))) keys
 
 -- of a session, after what was read for those before it
 abbrev pub needs_of : (before : List SessionInput) → SessionConfig → List Need
@@ -199,8 +211,8 @@ needs_of before s = needs_from before s.keys s.origin
 -- the file holds what is needed
 abbrev pub IsMet : Option StoreFiles → Need → Type 0
 IsMet files (ImageIn name) = (d : Disk) × IsImageIn files name d
-IsMet files (ScriptIn name) = (keys : List Key) × IsScriptIn files name keys
-IsMet files (ForkedScriptIn name at before) = (keys : List Key) × IsForkedScriptIn files name at before keys
+IsMet files (ScriptIn name) = (said : List CueText) × IsScriptIn files name said
+IsMet files (ForkedScriptIn name at before) = (said : List CueText) × IsForkedScriptIn files name at before said
 
 -- the name of the file
 abbrev pub needed_name : Need → StoreName

@@ -10,13 +10,13 @@ use Rattle.cpm_config.specs.declared.config.SessionConfig.{SessionConfig}
 use Rattle.cpm_flags.specs.declared.regs.Cpu.{Cpu}
 use Rattle.cpm_geom.specs.Disk.{Disk}
 use Rattle.cpm_geom.specs.Geometry.{format_of_length}
-use Rattle.cpm_script.specs.Fork.{forked_script, keys_before}
-use Rattle.cpm_script.specs.Script.{script}
+use Rattle.cpm_script.specs.Cues.{CueText, cues}
+use Rattle.cpm_script.specs.Fork.{forked_cues}
 use Rattle.cpm_script.specs.declared.fault.LineFault.{LineFault}
-use Rattle.cpm_script.specs.declared.script.Key.{Key}
 use Rattle.cpm_store.specs.Files.{CountsFailure, StoreFiles, StoreName}
 use Rattle.cpm_store.specs.Log.{StoreAccess, AreNoWrites, Gave, Missed, LogLeadsBy, Then}
-use Rattle.cpm_batch.specs.Inputs.{Forks, ForkedScriptIn, ImageIn, IsFileFault, IsImage, IsParent, Need, Opens, ScriptIn, SessionInput, needed_name, needs_of}
+use Rattle.cpm_batch.specs.Inputs.{Forks, ForkedScriptIn, ImageIn, IsFileFault, IsImage, IsParent, Need, Opens, ScriptIn, SessionInput}
+use Rattle.cpm_batch.specs.Inputs.{known_before, needed_name, needs_of}
 use Rattle.cpm_batch.specs.declared.error.ReadError.{ReadError}
 use Rattle.cpm_batch.specs.declared.error.ReadError.TheVariants.{File, Image, Script, OutOfMemory}
 
@@ -26,17 +26,17 @@ pub record IsImageRead (name : StoreName) (d : Disk) (log : List StoreAccess) : 
   pub image : IsImage bytes d
   pub calls : log ≡ Gave name bytes ∷ []
 
--- one read, in which the file gave a key script of these keys
-pub record IsScriptRead (name : StoreName) (keys : List Key) (log : List StoreAccess) : Type 0 where
+-- one read, in which the file gave a key script that says this
+pub record IsScriptRead (name : StoreName) (said : List CueText) (log : List StoreAccess) : Type 0 where
   pub text : List ℕ
-  pub read : script text ≡ Ok keys
+  pub read : cues text ≡ Ok said
   pub calls : log ≡ Gave name text ∷ []
 
--- one read, in which the file gave a key script with which a session that is forked at this count of steps, after the keys that its parent had before,
--- has these keys
-pub record IsForkedScriptRead (name : StoreName) (at : ℕ) (before keys : List Key) (log : List StoreAccess) : Type 0 where
+-- one read, in which the file gave a key script that says this for a session that is forked at this count of steps, after so many keys that its parent had
+-- before
+pub record IsForkedScriptRead (name : StoreName) (at before : ℕ) (said : List CueText) (log : List StoreAccess) : Type 0 where
   pub text : List ℕ
-  pub read : forked_script at before text ≡ Ok keys
+  pub read : forked_cues at before text ≡ Ok said
   pub calls : log ≡ Gave name text ∷ []
 
 -- a read of each of these files in order, in which it gave the image of its disk
@@ -46,29 +46,29 @@ AreImagesRead (name ∷ names) (d ∷ ds) log = Then (IsImageRead (string_bytes 
 AreImagesRead [] (d ∷ ds) log = ⊥
 AreImagesRead (name ∷ names) [] log = ⊥
 
--- a read of the script, if there is one, in which it gave the keys
-abbrev pub AreKeysRead : Option (String Global) → List Key → List StoreAccess → Type 0
-AreKeysRead None keys log = (keys ≡ []) × (log ≡ [])
-AreKeysRead (Some name) keys log = IsScriptRead (string_bytes name) keys log
+-- a read of the script, if there is one, in which it said this
+abbrev pub IsSaidRead : Option (String Global) → List CueText → List StoreAccess → Type 0
+IsSaidRead None said log = (said ≡ []) × (log ≡ [])
+IsSaidRead (Some name) said log = IsScriptRead (string_bytes name) said log
 
--- a read of the script of a forked session, if there is one, in which it gave the keys after those before the fork
-abbrev pub AreForkedKeysRead : Option (String Global) → (at : ℕ) → (before keys : List Key) → List StoreAccess → Type 0
-AreForkedKeysRead None at before keys log = (keys ≡ before) × (log ≡ [])
-AreForkedKeysRead (Some name) at before keys log = IsForkedScriptRead (string_bytes name) at before keys log
+-- a read of the script of a forked session, if there is one, in which it said this after so many keys before the fork
+abbrev pub IsForkedSaidRead : Option (String Global) → (at before : ℕ) → List CueText → List StoreAccess → Type 0
+IsForkedSaidRead None at before said log = (said ≡ []) × (log ≡ [])
+IsForkedSaidRead (Some name) at before said log = IsForkedScriptRead (string_bytes name) at before said log
 
--- the reads of a session that is opened: its drives, then its keys
+-- the reads of a session that is opened: its drives, then its script
 pub record IsOpenedRead (cpu : Cpu) (quota : ℕ) (names : List (String Global)) (i : SessionInput) (log : List StoreAccess) : Type 0 where
   pub drives : List Disk
   pub start : i.start ≡ Opens cpu quota drives
-  pub calls : Then (AreImagesRead names drives) (AreKeysRead i.session.keys i.keys) log
+  pub calls : Then (AreImagesRead names drives) (IsSaidRead i.session.keys i.said) log
 
--- those of a session that is forked, after what was read for the sessions before it: its keys
+-- those of a session that is forked, after what was read for the sessions before it: its script
 pub record IsForkedRead (before : List SessionInput) (name : StoreName) (at : ℕ) (i : SessionInput) (log : List StoreAccess) : Type 0 where
   pub place : ℕ
   pub parent : SessionInput
   pub found : IsParent before name place parent
   pub start : i.start ≡ Forks place at
-  pub calls : AreForkedKeysRead i.session.keys at (keys_before at parent.keys) i.keys log
+  pub calls : IsForkedSaidRead i.session.keys at (known_before at parent.said) i.said log
 
 -- those of a session that begins so
 abbrev pub IsInputReadOf : (before : List SessionInput) → Origin → SessionInput → List StoreAccess → Type 0
@@ -100,20 +100,20 @@ pub record IsNoImageRead (name : StoreName) (count : ℕ) (log : List StoreAcces
 -- one read, in which the file gave a text whose first line with a fault has this number
 pub record IsNoScriptRead (name : StoreName) (line : ℕ) (fault : LineFault) (log : List StoreAccess) : Type 0 where
   pub text : List ℕ
-  pub read : script text ≡ Err (line, fault)
+  pub read : cues text ≡ Err (line, fault)
   pub calls : log ≡ Gave name text ∷ []
 
--- the same of a session that is forked at this count of steps, after these keys
-pub record IsNoForkedScriptRead (name : StoreName) (at : ℕ) (before : List Key) (line : ℕ) (fault : LineFault) (log : List StoreAccess) : Type 0 where
+-- the same of a session that is forked at this count of steps, after so many keys
+pub record IsNoForkedScriptRead (name : StoreName) (at before line : ℕ) (fault : LineFault) (log : List StoreAccess) : Type 0 where
   pub text : List ℕ
-  pub read : forked_script at before text ≡ Err (line, fault)
+  pub read : forked_cues at before text ≡ Err (line, fault)
   pub calls : log ≡ Gave name text ∷ []
 
 -- one read, in which the file held what is needed
 abbrev pub IsNeedRead : Need → List StoreAccess → Type 0
 IsNeedRead (ImageIn name) log = (d : Disk) × IsImageRead name d log
-IsNeedRead (ScriptIn name) log = (keys : List Key) × IsScriptRead name keys log
-IsNeedRead (ForkedScriptIn name at before) log = (keys : List Key) × IsForkedScriptRead name at before keys log
+IsNeedRead (ScriptIn name) log = (said : List CueText) × IsScriptRead name said log
+IsNeedRead (ForkedScriptIn name at before) log = (said : List CueText) × IsForkedScriptRead name at before said log
 
 -- one read, which failed, or in which the file didn't hold it, as the error says
 abbrev pub IsFaultRead : Need → ReadError → List StoreAccess → Type 0

@@ -1,12 +1,13 @@
 //! Reading what the sessions of a configuration need, in their order.
 ghost use Rattle.std.specs.Prelude.{◌≡◌, ◌∷◌, ◌++◌, ◌⊎◌, [], IfErr, IfOk, None, OnErr, map};
 ghost use Rattle.cpm_config.specs.Rules.{config_view, fork_field_fault, forks_fault, session_view};
+ghost use Rattle.cpm_script.specs.Cues.{all_said};
 ghost use Rattle.cpm_store.specs.Files.{Finds};
 ghost use Rattle.cpm_store.specs.Log.{Gave, Missed, LogLeadsBy};
-ghost use Rattle.cpm_batch.specs.Inputs.{AllImages, AllInputs, AreInputs, HasInput, HasKeys, ImageIn, IsImageIn, IsMissed, IsNeedRefusal};
+ghost use Rattle.cpm_batch.specs.Inputs.{AllImages, AllInputs, AreInputs, HasInput, HasSaid, ImageIn, IsImageIn, IsMissed, IsNeedRefusal};
 ghost use Rattle.cpm_batch.specs.Inputs.{IsOpenedInput, IsReadRefusal, IsScriptIn, IsSessionRefusal, ScriptIn, given, image_needs, needs_of, script_needs};
-ghost use Rattle.cpm_batch.specs.Reads.{AreImagesRead, AreInputsRead, AreKeysRead, AreRead, IsImageRead, IsInputRead, IsOpenedRead};
-ghost use Rattle.cpm_batch.specs.Reads.{IsScriptRead, OnlyRead, StopsAmongNeeds, StopsAmongSessions, StopsReading};
+ghost use Rattle.cpm_batch.specs.Reads.{AreImagesRead, AreInputsRead, AreRead, IsImageRead, IsInputRead, IsOpenedRead};
+ghost use Rattle.cpm_batch.specs.Reads.{IsSaidRead, IsScriptRead, OnlyRead, StopsAmongNeeds, StopsAmongSessions, StopsReading};
 
 use crate::error::ReadError;
 use crate::forked::read_forked;
@@ -14,7 +15,7 @@ use cpm_command_line::shown;
 use cpm_config::{Config, Origin, SessionConfig};
 use cpm_flags::Cpu;
 use cpm_geom::Image;
-use cpm_script::{Key, ScriptError, read_keys};
+use cpm_script::{Cue, ScriptError, read_cues};
 use cpm_store::{Store, StoreError};
 use std::alloc::Global;
 
@@ -40,9 +41,8 @@ pub enum Start {
 pub struct Input<'a> {
     pub session: &'a SessionConfig,
     pub start: Start,
-    /// Its keys: those of its script; of a forked session those of its parent that come before the
-    /// fork, and then those of its script.
-    pub keys: Vec<Key>,
+    /// What its own script says.
+    pub cues: Vec<Cue>,
 }
 
 /// What was read for all sessions of a configuration.
@@ -110,17 +110,17 @@ fn read_images<S: Store>(
     Ok(images)
 }
 
-/// The keys of the script in a file.
-fn read_script<S: Store>(alloc: Global, store: &mut S, name: &str) -> Result<Vec<Key>, ReadError>
-    ensures keys { IfOk result (λ v. IsScriptIn (S.files store.old) name.now v.items) }
-    ensures log { IfOk result (λ v. LogLeadsBy S.does (IsScriptRead name.now v.items) store.old store.new) }
+/// What the script in a file says.
+fn read_script<S: Store>(alloc: Global, store: &mut S, name: &str) -> Result<Vec<Cue>, ReadError>
+    ensures cues { IfOk result (λ v. IsScriptIn (S.files store.old) name.now (all_said v)) }
+    ensures log { IfOk result (λ v. LogLeadsBy S.does (IsScriptRead name.now (all_said v)) store.old store.new) }
     ensures refusal { IfErr result (IsNeedRefusal (S.files store.old) (ScriptIn name.now ∷ [])) }
     ensures refused_log { IfErr result (λ e. LogLeadsBy S.does (StopsAmongNeeds (ScriptIn name.now ∷ []) e) store.old store.new) }
     ensures store { OnlyRead S.does S.files S.failed result store.old store.new }
 {
     let text = read_bytes(alloc, store, name)?;
-    match read_keys(alloc, text.as_slice()) {
-        Ok(keys) => Ok(keys),
+    match read_cues(alloc, text.as_slice()) {
+        Ok(cues) => Ok(cues),
         Err(ScriptError::Line { number, fault }) => Err(ReadError::Script {
             name: shown(name),
             line: number,
@@ -130,14 +130,14 @@ fn read_script<S: Store>(alloc: Global, store: &mut S, name: &str) -> Result<Vec
     }
 }
 
-/// The keys of a session that may have a script.
-fn read_keys_of<S: Store>(
+/// What the script of a session says, if it has one.
+fn read_cues_of<S: Store>(
     alloc: Global,
     store: &mut S,
     name: &Option<String>,
-) -> Result<Vec<Key>, ReadError>
-    ensures keys { IfOk result (λ v. HasKeys (S.files store.old) name.now v.items) }
-    ensures log { IfOk result (λ v. LogLeadsBy S.does (AreKeysRead name.now v.items) store.old store.new) }
+) -> Result<Vec<Cue>, ReadError>
+    ensures cues { IfOk result (λ v. HasSaid (S.files store.old) name.now (all_said v)) }
+    ensures log { IfOk result (λ v. LogLeadsBy S.does (IsSaidRead name.now (all_said v)) store.old store.new) }
     ensures refusal { IfErr result (IsNeedRefusal (S.files store.old) (script_needs name.now)) }
     ensures refused_log { IfErr result (λ e. LogLeadsBy S.does (StopsAmongNeeds (script_needs name.now) e) store.old store.new) }
     ensures store { OnlyRead S.does S.files S.failed result store.old store.new }
@@ -166,12 +166,12 @@ fn read_opened<'a, S: Store>(
     ensures store { OnlyRead S.does S.files S.failed result store.old store.new }
 {
     let drives = read_images(alloc, store, names)?;
-    let keys = read_keys_of(alloc, store, &session.keys)?;
+    let cues = read_cues_of(alloc, store, &session.keys)?;
     let start = Start::Opened { cpu, quota, drives };
     Ok(Input {
         session,
         start,
-        keys,
+        cues,
     })
 }
 
@@ -225,7 +225,9 @@ fn read_sessions<'a, S: Store>(
 
 /// What a configuration needs: the system drive's image, then of each session the images of its drives and its key
 /// script, each checked before the next is read. A forked session has its parent's drives, and needs its key script
-/// alone. No file is changed. Its forks must break no rule, which `Config::fork_fault` tells.
+/// alone, which is judged as one after the keys that its parent is known to have before the fork: none are known
+/// where a line of the parent's script waits. No file is changed. Its forks must break no rule, which
+/// `Config::fork_fault` tells.
 ///
 /// The first fault is answered: `File` where a file can't be read, `Image` or `Script` where it holds neither. `OutOfMemory` comes only
 /// where memory is refused.

@@ -6,6 +6,7 @@ pub mod WholeCom
 pub mod WholeDisk
 pub mod HelpKinds
 pub mod LineLemmas
+pub mod NamedLemmas
 pub mod RefusalLemmas
 pub mod RestLemmas
 pub mod ShownLemmas

@@ -1,18 +1,160 @@
-//! The command of `clap` that reads the words.
-ghost use Rattle.std.specs.Prelude.{◌≡◌, IfOk};
-ghost use Rattle.clap.specs.Words.{App, Rule, new_app, with_rule, with_subcommand};
-ghost use Rattle.cpm_command_line.specs.CommandLine.{IsArgumentOf, IsCommandOf, asm_app, check_app, com_app, debug_app};
-ghost use Rattle.cpm_command_line.specs.CommandLine.{flag, host_app, list_app, operand, program_app, repeated_option};
-ghost use Rattle.cpm_command_line.specs.CommandLine.{run_app, steps_option, top_app, value_option, words_left_out};
+//! The commands of `clap` that read the words: tables of arguments, and the functions that make a command of one.
+ghost use Rattle.std.specs.Prelude.{IfOk};
+ghost use Rattle.clap.specs.Words.{App, new_app, with_subcommand};
+ghost use Rattle.cpm_command_line.specs.Arguments.{app_for, rule_for, with_arguments, with_commands};
+ghost use Rattle.cpm_command_line.specs.CommandLine.{IsArgumentOf, IsCommandOf, flag, host_app, operand, repeated_option};
+ghost use Rattle.cpm_command_line.specs.CommandLine.{steps_option, top_app, value_option, words_left_out};
+ghost use Rattle.cpm_command_line.specs.DiskLine.{disk_app, operands, user_if_any_option, user_option};
 
 use clap::{Arg, ArgAction, Command};
 use std::alloc::{AllocError, Global};
 
+/// An argument of a command: the name by which its entry is found, and what a usage text shows for a value.
+#[derive(Clone, Copy)]
+pub(crate) enum Argument {
+    /// A word that has to be there.
+    Word(&'static str, &'static str),
+    /// A word that has to be there, and further ones.
+    Words(&'static str, &'static str),
+    /// Any number of words, which may be left out.
+    WordsIfAny(&'static str, &'static str),
+    /// A flag of this name.
+    Flag(&'static str),
+    /// An option of this name with a value, which may be left out.
+    Value(&'static str, &'static str),
+    /// An option of this name with a value, which may be left out, and given several times.
+    Values(&'static str, &'static str),
+    /// `--steps N`
+    Steps,
+    /// `--user N`, which may be left out.
+    UserIfAny,
+    /// `--user N`, which is 0 where it is left out.
+    User,
+}
+
+/// A command by its name, with its arguments in their order.
+type NamedCommand = (&'static str, &'static [Argument]);
+
+/// The program's commands, but for `disk`.
+const HOST_COMMANDS: [NamedCommand; 6] = [
+    (
+        "com",
+        &[
+            Argument::Word("file", "FILE"),
+            Argument::WordsIfAny("tail", "TAIL"),
+            Argument::Flag("z80"),
+            Argument::Steps,
+            Argument::Value("keys", "SCRIPT"),
+            Argument::Values("disk", "IMAGE"),
+            Argument::Values("out-disk", "IMAGE"),
+            Argument::Flag("keyboard"),
+            Argument::Value("record", "SCRIPT"),
+            Argument::Flag("progress"),
+            Argument::Flag("stop-idle"),
+            Argument::Flag("raw"),
+            Argument::Flag("quiet"),
+        ],
+    ),
+    (
+        "asm",
+        &[
+            Argument::Word("source", "SOURCE"),
+            Argument::Word("out", "OUT"),
+            Argument::Value("list", "FILE"),
+        ],
+    ),
+    (
+        "list",
+        &[Argument::Word("file", "FILE"), Argument::Flag("z80")],
+    ),
+    ("check", &[Argument::Word("image", "IMAGE")]),
+    (
+        "run",
+        &[
+            Argument::Word("config", "CONFIG"),
+            Argument::Value("keyboard", "NAME"),
+            Argument::Value("record", "SCRIPT"),
+            Argument::Flag("progress"),
+            Argument::Flag("stop-idle"),
+            Argument::Value("record-all", "FOLDER"),
+            Argument::Flag("raw"),
+            Argument::Values("within", "FOLDER"),
+            Argument::Flag("outputs-here"),
+        ],
+    ),
+    (
+        "debug",
+        &[
+            Argument::Word("file", "FILE"),
+            Argument::Flag("z80"),
+            Argument::Value("list", "FILE"),
+        ],
+    ),
+];
+
+/// The commands of `disk`.
+const DISK_COMMANDS: [NamedCommand; 6] = [
+    (
+        "new",
+        &[Argument::Word("image", "IMAGE"), Argument::Flag("large")],
+    ),
+    (
+        "list",
+        &[Argument::Word("image", "IMAGE"), Argument::UserIfAny],
+    ),
+    (
+        "put",
+        &[
+            Argument::Word("image", "IMAGE"),
+            Argument::Words("file", "FILE"),
+            Argument::User,
+            Argument::Flag("text"),
+            Argument::Flag("read-only"),
+            Argument::Flag("system"),
+        ],
+    ),
+    (
+        "get",
+        &[
+            Argument::Word("image", "IMAGE"),
+            Argument::Words("name", "NAME.TYP"),
+            Argument::User,
+            Argument::Flag("text"),
+            Argument::Value("to", "PATH"),
+            Argument::Flag("force"),
+            Argument::Flag("dry-run"),
+        ],
+    ),
+    (
+        "remove",
+        &[
+            Argument::Word("image", "IMAGE"),
+            Argument::Words("name", "NAME.TYP"),
+            Argument::User,
+        ],
+    ),
+    (
+        "rename",
+        &[
+            Argument::Word("image", "IMAGE"),
+            Argument::Word("change", "NEW=OLD"),
+            Argument::User,
+        ],
+    ),
+];
+
 /// A word that has to be there.
-pub(crate) fn required_word<'a>(alloc: Global, id: &'a str, shown: &'a str) -> Arg<'a>
+fn required_word<'a>(alloc: Global, id: &'a str, shown: &'a str) -> Arg<'a>
     ensures { IsArgumentOf (operand id.now) result }
 {
     Arg::new(alloc, id).value_name(shown).required(true)
+}
+
+/// A word that has to be there, and further ones.
+fn required_words<'a>(alloc: Global, id: &'a str, shown: &'a str) -> Arg<'a>
+    ensures { IsArgumentOf (operands id.now) result }
+{
+    required_word(alloc, id, shown).num_args(1..)
 }
 
 /// Any number of words, which may be left out.
@@ -23,24 +165,14 @@ fn optional_words<'a>(alloc: Global, id: &'a str, shown: &'a str) -> Arg<'a>
 }
 
 /// A flag of this name.
-pub(crate) fn flag_argument<'a>(alloc: Global, name: &'a str) -> Arg<'a>
+fn flag_argument<'a>(alloc: Global, name: &'a str) -> Arg<'a>
     ensures { IsArgumentOf (flag name.now) result }
 {
     Arg::new(alloc, name).long(name).action(ArgAction::SetTrue)
 }
 
-/// `--steps N`
-fn steps_argument<'a>(alloc: Global) -> Arg<'a>
-    ensures { IsArgumentOf steps_option result }
-{
-    Arg::new(alloc, "steps")
-        .long("steps")
-        .value_name("N")
-        .value_parser(clap::value_parser!(u64))
-}
-
 /// An option of this name with a value, which may be left out.
-pub(crate) fn value_argument<'a>(alloc: Global, name: &'a str, shown: &'a str) -> Arg<'a>
+fn value_argument<'a>(alloc: Global, name: &'a str, shown: &'a str) -> Arg<'a>
     ensures { IsArgumentOf (value_option name.now) result }
 {
     Arg::new(alloc, name).long(name).value_name(shown)
@@ -50,21 +182,64 @@ pub(crate) fn value_argument<'a>(alloc: Global, name: &'a str, shown: &'a str) -
 fn repeated_argument<'a>(alloc: Global, name: &'a str, shown: &'a str) -> Arg<'a>
     ensures { IsArgumentOf (repeated_option name.now) result }
 {
-    Arg::new(alloc, name)
-        .long(name)
-        .value_name(shown)
-        .action(ArgAction::Append)
+    value_argument(alloc, name, shown).action(ArgAction::Append)
 }
 
-/// A subcommand with no argument yet.
-pub(crate) fn named<'a>(alloc: Global, name: &'a str) -> Command<'a>
-    ensures { IsCommandOf (new_app name.now) result }
+/// `--steps N`
+fn steps_argument<'a>(alloc: Global) -> Arg<'a>
+    ensures { IsArgumentOf steps_option result }
 {
-    Command::new(alloc, name)
+    value_argument(alloc, "steps", "N").value_parser(clap::value_parser!(u64))
+}
+
+/// `--user N`, which may be left out.
+fn user_if_any_argument<'a>(alloc: Global) -> Arg<'a>
+    ensures { IsArgumentOf user_if_any_option result }
+{
+    value_argument(alloc, "user", "N").value_parser(clap::value_parser!(u64).range(0..=15))
+}
+
+/// `--user N`, which is 0 where it is left out.
+fn user_argument<'a>(alloc: Global) -> Arg<'a>
+    ensures { IsArgumentOf user_option result }
+{
+    user_if_any_argument(alloc).default_value("0")
+}
+
+/// The argument of `clap`.
+fn argument_of<'a>(alloc: Global, argument: Argument) -> Arg<'a>
+    ensures { IsArgumentOf (rule_for argument) result }
+{
+    match argument {
+        Argument::Word(id, shown) => required_word(alloc, id, shown),
+        Argument::Words(id, shown) => required_words(alloc, id, shown),
+        Argument::WordsIfAny(id, shown) => optional_words(alloc, id, shown),
+        Argument::Flag(name) => flag_argument(alloc, name),
+        Argument::Value(name, shown) => value_argument(alloc, name, shown),
+        Argument::Values(name, shown) => repeated_argument(alloc, name, shown),
+        Argument::Steps => steps_argument(alloc),
+        Argument::UserIfAny => user_if_any_argument(alloc),
+        Argument::User => user_argument(alloc),
+    }
+}
+
+/// The command of this name with these arguments.
+fn command_of<'a>(
+    alloc: Global,
+    name: &'a str,
+    arguments: &[Argument],
+) -> Result<Command<'a>, AllocError>
+    ensures { IfOk result (IsCommandOf (with_arguments (new_app name.entry.now) arguments.now)) }
+{
+    let mut command = Command::new(alloc, name);
+    for argument in arguments {
+        command = command.arg(argument_of(alloc, *argument))?;
+    }
+    Ok(command)
 }
 
 /// A command that wants a subcommand, with none yet. What follows `help` is no line of it.
-pub(crate) fn top_command<'a>(alloc: Global, name: &'a str) -> Command<'a>
+fn top_command<'a>(alloc: Global, name: &'a str) -> Command<'a>
     ensures { IsCommandOf (top_app name.now) result }
 {
     Command::new(alloc, name)
@@ -72,121 +247,44 @@ pub(crate) fn top_command<'a>(alloc: Global, name: &'a str) -> Command<'a>
         .disable_help_subcommand(true)
 }
 
-/// The command with one more argument, where it could be made. It takes it as it was made: so its caller
-/// has no branch, and no command to drop there.
-pub(crate) fn with_argument<'a>(
-    command: Result<Command<'a>, AllocError>,
-    argument: Arg<'a>,
+/// The command with one more subcommand.
+fn with_command<'a>(
+    alloc: Global,
+    command: Command<'a>,
+    inner: NamedCommand,
 ) -> Result<Command<'a>, AllocError>
-    ensures { (a : App) (r : Rule) → IfOk command.entry (IsCommandOf a) → IsArgumentOf r argument.entry
-        → IfOk result (IsCommandOf (with_rule a r)) }
+    ensures { (a : App) → IsCommandOf a command.entry
+        → IfOk result (IsCommandOf (with_subcommand a (app_for inner.entry).top)) }
 {
-    command?.arg(argument)
+    let (name, arguments) = inner;
+    command.subcommand(command_of(alloc, name, arguments)?)
 }
 
-/// The command with one more subcommand, where both could be made. It takes them as they were made:
-/// so its caller has no branch, and no command to drop there.
-pub(crate) fn with_command<'a>(
-    command: Result<Command<'a>, AllocError>,
-    inner: Result<Command<'a>, AllocError>,
+/// The command of this name that wants one of these subcommands.
+fn command_with<'a>(
+    alloc: Global,
+    name: &'a str,
+    commands: &[NamedCommand],
 ) -> Result<Command<'a>, AllocError>
-    ensures { (a b : App) → IfOk command.entry (IsCommandOf a) → IfOk inner.entry (IsCommandOf b)
-        → IfOk result (IsCommandOf (with_subcommand a b.top)) }
+    ensures { IfOk result (IsCommandOf (with_commands (top_app name.entry.now) commands.now)) }
 {
-    let inner = inner?;
-    command?.subcommand(inner)
-}
-
-/// `com FILE [TAIL..] [--z80] [--steps N] [--keys SCRIPT]`: the program and what it runs with.
-fn program_command<'a>(alloc: Global) -> Result<Command<'a>, AllocError>
-    ensures { IfOk result (IsCommandOf program_app) }
-{
-    let with_name = Ok(named(alloc, "com"));
-    let with_file = with_argument(with_name, required_word(alloc, "file", "FILE"));
-    let with_tail = with_argument(with_file, optional_words(alloc, "tail", "TAIL"));
-    let with_flag = with_argument(with_tail, flag_argument(alloc, "z80"));
-    let with_steps = with_argument(with_flag, steps_argument(alloc));
-    with_argument(with_steps, value_argument(alloc, "keys", "SCRIPT"))
-}
-
-/// `com FILE [TAIL..] [--z80] [--steps N] [--keys SCRIPT] [--disk IMAGE].. [--out-disk IMAGE]..
-/// [--keyboard] [--record SCRIPT] [--progress] [--stop-idle] [--raw] [--quiet]`
-fn com_command<'a>(alloc: Global) -> Result<Command<'a>, AllocError>
-    ensures { IfOk result (IsCommandOf com_app) }
-{
-    let with_program = program_command(alloc);
-    let with_disks = with_argument(with_program, repeated_argument(alloc, "disk", "IMAGE"));
-    let with_outs = with_argument(with_disks, repeated_argument(alloc, "out-disk", "IMAGE"));
-    let with_keyboard = with_argument(with_outs, flag_argument(alloc, "keyboard"));
-    let with_record = with_argument(with_keyboard, value_argument(alloc, "record", "SCRIPT"));
-    let with_progress = with_argument(with_record, flag_argument(alloc, "progress"));
-    let with_idle = with_argument(with_progress, flag_argument(alloc, "stop-idle"));
-    let with_raw = with_argument(with_idle, flag_argument(alloc, "raw"));
-    with_argument(with_raw, flag_argument(alloc, "quiet"))
-}
-
-/// `asm SOURCE OUT [--list FILE]`
-fn asm_command<'a>(alloc: Global) -> Result<Command<'a>, AllocError>
-    ensures { IfOk result (IsCommandOf asm_app) }
-{
-    let with_name = Ok(named(alloc, "asm"));
-    let with_source = with_argument(with_name, required_word(alloc, "source", "SOURCE"));
-    let with_out = with_argument(with_source, required_word(alloc, "out", "OUT"));
-    with_argument(with_out, value_argument(alloc, "list", "FILE"))
-}
-
-/// `list FILE [--z80]`
-fn list_command<'a>(alloc: Global) -> Result<Command<'a>, AllocError>
-    ensures { IfOk result (IsCommandOf list_app) }
-{
-    let with_name = Ok(named(alloc, "list"));
-    let with_file = with_argument(with_name, required_word(alloc, "file", "FILE"));
-    with_argument(with_file, flag_argument(alloc, "z80"))
-}
-
-/// `check IMAGE`
-fn check_command<'a>(alloc: Global) -> Result<Command<'a>, AllocError>
-    ensures { IfOk result (IsCommandOf check_app) }
-{
-    let with_name = Ok(named(alloc, "check"));
-    with_argument(with_name, required_word(alloc, "image", "IMAGE"))
-}
-
-/// `run CONFIG [--keyboard NAME] [--record SCRIPT] [--progress] [--stop-idle] [--record-all FOLDER]
-/// [--raw] [--within FOLDER].. [--outputs-here]`
-fn run_command<'a>(alloc: Global) -> Result<Command<'a>, AllocError>
-    ensures { IfOk result (IsCommandOf run_app) }
-{
-    let with_name = Ok(named(alloc, "run"));
-    let with_config = with_argument(with_name, required_word(alloc, "config", "CONFIG"));
-    let with_keyboard = with_argument(with_config, value_argument(alloc, "keyboard", "NAME"));
-    let with_record = with_argument(with_keyboard, value_argument(alloc, "record", "SCRIPT"));
-    let with_progress = with_argument(with_record, flag_argument(alloc, "progress"));
-    let with_idle = with_argument(with_progress, flag_argument(alloc, "stop-idle"));
-    let with_scripts = with_argument(with_idle, value_argument(alloc, "record-all", "FOLDER"));
-    let with_raw = with_argument(with_scripts, flag_argument(alloc, "raw"));
-    let with_folders = with_argument(with_raw, repeated_argument(alloc, "within", "FOLDER"));
-    with_argument(with_folders, flag_argument(alloc, "outputs-here"))
-}
-
-/// `debug FILE [--z80] [--list FILE]`
-fn debug_command<'a>(alloc: Global) -> Result<Command<'a>, AllocError>
-    ensures { IfOk result (IsCommandOf debug_app) }
-{
-    let with_name = Ok(named(alloc, "debug"));
-    let with_file = with_argument(with_name, required_word(alloc, "file", "FILE"));
-    let with_flag = with_argument(with_file, flag_argument(alloc, "z80"));
-    with_argument(with_flag, value_argument(alloc, "list", "FILE"))
+    let mut command = top_command(alloc, name);
+    for inner in commands {
+        command = with_command(alloc, command, *inner)?;
+    }
+    Ok(command)
 }
 
 /// The program's command, with its subcommands but for `disk`.
 pub(crate) fn host_command<'a>(alloc: Global) -> Result<Command<'a>, AllocError>
     ensures { IfOk result (IsCommandOf host_app) }
 {
-    let with_com = with_command(Ok(top_command(alloc, "cpmhost")), com_command(alloc));
-    let with_asm = with_command(with_com, asm_command(alloc));
-    let with_list = with_command(with_asm, list_command(alloc));
-    let with_check = with_command(with_list, check_command(alloc));
-    let with_run = with_command(with_check, run_command(alloc));
-    with_command(with_run, debug_command(alloc))
+    command_with(alloc, "cpmhost", &HOST_COMMANDS)
+}
+
+/// `disk` with its commands.
+pub(crate) fn disk_command<'a>(alloc: Global) -> Result<Command<'a>, AllocError>
+    ensures { IfOk result (IsCommandOf disk_app) }
+{
+    command_with(alloc, "disk", &DISK_COMMANDS)
 }

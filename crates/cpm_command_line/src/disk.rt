@@ -7,7 +7,7 @@ ghost use Rattle.cpm_command_line.specs.DiskLine.{IsWholeNew, IsWholePut, IsWhol
 ghost use Rattle.cpm_command_line.specs.Line.{IsDiskTask, IsPageOrMemory, asks_by_flag};
 ghost use Rattle.cpm_command_line.specs.Refusals.{IsRefusalBy};
 
-use crate::build_disk::disk_command;
+use crate::build::disk_command;
 use crate::entries::{flag_of, text_if_any, text_of, texts_of, user_if_any, user_of};
 use crate::fault::{UsageError, answer};
 use crate::task::{DiskTask, Task};

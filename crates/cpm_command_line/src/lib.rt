@@ -2,7 +2,6 @@
 #![tactic(auto)]
 
 mod build;
-mod build_disk;
 mod disk;
 mod entries;
 mod fault;

@@ -1,8 +1,8 @@
 //! Reading the entries that a command line gave.
 ghost use Rattle.std.specs.Prelude.{◌≡◌, IfOk, IfErr, IsSomeAnd, None, Some, codes, map, true, false};
-ghost use Rattle.clap.specs.Words.{fault_of, found_of, rows_of, subcommand_rows_of, takes};
+ghost use Rattle.clap.specs.Words.{all_of, fault_of, found_of, rows_of, subcommand_rows_of, takes};
 ghost use Rattle.cpm_command_line.specs.CommandLine.{HasEntriesOf, IsWhole, IsWholeAsm, IsWholeCheck, IsWholeCom};
-ghost use Rattle.cpm_command_line.specs.CommandLine.{IsWholeDebug, IsWholeList, IsWholeOf, IsWholeRun, host_app};
+ghost use Rattle.cpm_command_line.specs.CommandLine.{IsWholeDebug, IsWholeList, IsWholeOf, IsWholeRun, ReadsWordsIfAny, host_app};
 ghost use Rattle.cpm_command_line.specs.HelpWords.{is_help_line, named_by, page_of_line};
 ghost use Rattle.cpm_command_line.specs.Line.{HasUsers, IsFaultless, IsHostTask, IsPageOrMemory, IsTaskOf};
 ghost use Rattle.cpm_command_line.specs.Line.{app_of_line, asked_page, asks_by_flag, names_disk, words_of_line};
@@ -19,15 +19,20 @@ use crate::usage::{Page, is_help_line, page_of_help_line, page_of_line};
 use clap::ArgMatches;
 use std::alloc::{AllocError, Global};
 
-/// The task of `com`.
-fn com_task<'a>(alloc: Global, matches: &ArgMatches<'a>) -> Result<Task<'a>, AllocError>
-    requires { IsWholeCom (rows_of (found_of matches.now)) }
-    ensures { IfOk result (HasEntriesOf (codes "com", rows_of (found_of matches.now))) }
+/// The task of `com` with its tail, the images of its drives, and the files that these go to.
+fn com_task_with<'a>(
+    matches: &ArgMatches<'a>,
+    tail: Vec<&'a str>,
+    drives: Vec<&'a str>,
+    outs: Vec<&'a str>,
+) -> Task<'a>
+    requires whole { IsWholeCom (rows_of (found_of matches.now)) }
+    requires tail { ReadsWordsIfAny (all_of (codes "tail") (rows_of (found_of matches.now))) tail.items }
+    requires drives { ReadsWordsIfAny (all_of (codes "disk") (rows_of (found_of matches.now))) drives.items }
+    requires outs { ReadsWordsIfAny (all_of (codes "out-disk") (rows_of (found_of matches.now))) outs.items }
+    ensures { HasEntriesOf (codes "com", rows_of (found_of matches.now)) result }
 {
-    let tail = texts_if_any(alloc, matches, "tail")?;
-    let drives = texts_if_any(alloc, matches, "disk")?;
-    let outs = texts_if_any(alloc, matches, "out-disk")?;
-    Ok(Task::Com(ComTask {
+    Task::Com(ComTask {
         file: text_of(matches, "file"),
         tail,
         cpu: cpu_of(matches),
@@ -41,7 +46,18 @@ fn com_task<'a>(alloc: Global, matches: &ArgMatches<'a>) -> Result<Task<'a>, All
         stops_idle: flag_of(matches, "stop-idle"),
         is_raw: flag_of(matches, "raw"),
         is_quiet: flag_of(matches, "quiet"),
-    }))
+    })
+}
+
+/// The task of `com`. What it owns is made here, where memory may be refused.
+fn com_task<'a>(alloc: Global, matches: &ArgMatches<'a>) -> Result<Task<'a>, AllocError>
+    requires { IsWholeCom (rows_of (found_of matches.now)) }
+    ensures { IfOk result (HasEntriesOf (codes "com", rows_of (found_of matches.now))) }
+{
+    let tail = texts_if_any(alloc, matches, "tail")?;
+    let drives = texts_if_any(alloc, matches, "disk")?;
+    let outs = texts_if_any(alloc, matches, "out-disk")?;
+    Ok(com_task_with(matches, tail, drives, outs))
 }
 
 /// The task of `asm`.

@@ -1,6 +1,5 @@
 pub mod AsmLemmas
 pub mod AsmListingLemmas
-pub mod CuedLemmas
 pub mod InputLemmas
 pub mod ListLemmas
 pub mod ScriptLemmas

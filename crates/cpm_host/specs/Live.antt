@@ -1,45 +1,21 @@
--- A program, or a session, whose keys are typed. All of it is own.
-use Rattle.std.specs.Prelude.{⊤, ◌≡◌, ◌⊎◌, ◌≤◌, ℕ, List, chars, Option, Some, Ok}
+-- A program whose keys are typed. All of it is own.
+use Rattle.std.specs.Prelude.{◌≡◌, ◌⊎◌, ◌≤◌, ℕ, Ok}
 use Rattle.std.specs.Io.KnownBytes.{Appends}
-use Rattle.cpm_command_line.specs.Shown.{shown_of}
 use Rattle.cpm_drives.specs.Disks.{images_of}
 use Rattle.cpm_geom.specs.Disk.{Disk, blank_disk}
 use Rattle.cpm_geom.specs.declared.format.Format.TheVariants.{Ibm3740}
 use Rattle.cpm_script.specs.Recording.{recorded}
 use Rattle.cpm_script.specs.Script.{script, most_keys}
-use Rattle.cpm_machine.specs.MachineState.{MachineState, opened_machine}
-use Rattle.cpm_machine.specs.Opening.{opening_fault}
-use Rattle.cpm_machine.specs.declared.opening.OpenError.{OpenError}
+use Rattle.cpm_machine.specs.MachineState.{MachineState}
 use Rattle.cpm_play.specs.Cued.{waits_at}
 use Rattle.cpm_play.specs.Live.{AreGiven, AreTypedKeysRead, IsCutShort}
 use Rattle.cpm_play.specs.Playing.{alone_by}
 use Rattle.cpm_play.specs.declared.live.LiveError.{LiveError}
 use Rattle.cpm_host.specs.Com.{ProgramInput, IsProgramRefusal, ending_of, machine_of, console_text}
 use Rattle.cpm_host.specs.Refusals.{host_error_of_live}
-use Rattle.cpm_host.specs.declared.live.SessionStart.{SessionStart}
 use Rattle.cpm_host.specs.declared.live.LiveResult.{LiveResult}
 use Rattle.cpm_host.specs.declared.error.HostError.{HostError}
-use Rattle.cpm_host.specs.declared.error.HostError.TheVariants.{OutOfMemory, RunRefused}
-use Rattle.cpm_run.specs.declared.error.RunError.TheVariants.{SessionRefused}
-
--- what a reader had and has still to give, what a writer had got and has got, and what a record had and has
-pub record Streams : Type 0 where
-  pub unread : Option (List ℕ)
-  pub left : Option (List ℕ)
-  pub before : Option (List ℕ)
-  pub written : Option (List ℕ)
-  pub unrecorded : Option (List ℕ)
-  pub record_now : Option (List ℕ)
-
-abbrev pub streams : (unread left before written unrecorded record_now : Option (List ℕ)) → Streams
-streams unread left before written unrecorded record_now = record {
-  unread = unread;
-  left = left;
-  before = before;
-  written = written;
-  unrecorded = unrecorded;
-  record_now = record_now;
-}
+use Rattle.cpm_run.specs.Settled.{Streams}
 
 -- A machine was played by keys as they were typed: what it showed and left is that of the machine run alone by these keys, each at the count at
 -- which it was accepted, for so many steps; the keys are those that were read, up to ^]; and the record got just these keys as lines of a script, which gives
@@ -65,17 +41,3 @@ pub record IsLiveCut (system : Disk) (start : MachineState) (steps most : ℕ) (
 -- how a live program is refused: its machine is, as of a program that isn't, or memory was refused for the system drive; or it was cut short
 abbrev pub IsLiveRefusal : ProgramInput → (steps most : ℕ) → Streams → HostError → Type 0
 IsLiveRefusal g steps most io e = IsProgramRefusal g e ⊎ IsLiveCut (blank_disk Ibm3740) (machine_of g) steps most io e
-
--- the machine of a session at its opening
-abbrev pub opened_live : SessionStart → MachineState
-opened_live s = opened_machine s.opening.cpu s.opening.quota s.opening.drives.items
-
--- the opening of a session of this name has such a fault, or memory was refused
-abbrev pub IsOpeningRefused : (name : List ℕ) → Option OpenError → HostError → Type 0
-IsOpeningRefused name fault (RunRefused (SessionRefused shown told)) = (shown.bytes ≡ shown_of (chars name)) × (fault ≡ Some told)
-IsOpeningRefused name fault OutOfMemory = ⊤
-IsOpeningRefused name fault _ = ⊥
-
--- how a live session is refused
-abbrev pub IsTypedRefusal : Disk → SessionStart → ℕ → Streams → HostError → Type 0
-IsTypedRefusal system s most io e = IsOpeningRefused s.name.now (opening_fault s.opening) e ⊎ IsLiveCut system (opened_live s) s.steps most io e

@@ -4,7 +4,7 @@ use Rattle.cpm_command_line.specs.declared.fault.UsageError.{UsageError}
 use Rattle.cpm_command_line.specs.declared.fault.UsageError.TheVariants as usage
 use Rattle.cpm_host.specs.declared.error.HostError.{HostError}
 use Rattle.cpm_host.specs.declared.error.HostError.TheVariants.{Usage, NotText, CheckRefused, DiskRefused, FileUnreadable}
-use Rattle.cpm_host.specs.declared.error.HostError.TheVariants.{FileUnwritable, InputUnreadable, NoSession, NotAFolder, NotOpened}
+use Rattle.cpm_host.specs.declared.error.HostError.TheVariants.{FileUnwritable, InputUnreadable, NotAFolder}
 use Rattle.cpm_host.specs.declared.error.HostError.TheVariants.{OutputUnwritable, SourceRefused, OutOfMemory, OpeningRefused}
 use Rattle.cpm_host.specs.declared.error.HostError.TheVariants.{ProgramTooLong, RecordUnwritable, RunRefused, TailRefused}
 use Rattle.cpm_check.specs.Check.{check_status_of as status_of_check}
@@ -29,8 +29,6 @@ use Rattle.cpm_play.specs.declared.live.LiveError.TheVariants as live
 abbrev pub status_of : HostError → ℕ
 status_of (Usage refusal) = 1
 status_of NotText = 1
-status_of (NoSession name) = 1
-status_of (NotOpened name) = 1
 status_of (TailRefused word) = 1
 status_of (RunRefused e) = status_of_run e
 status_of (DiskRefused e) = status_of_disk_command e
@@ -93,7 +91,13 @@ host_error_of_disk_command disk_error.OutOfMemory = OutOfMemory
 -- what a refused run comes to
 abbrev pub host_error_of_run : RunError → HostError
 host_error_of_run (run.ConfigRefused fault) = RunRefused (run.ConfigRefused fault)
+host_error_of_run (run.NoSession name) = RunRefused (run.NoSession name)
+host_error_of_run (run.NotOpened name) = RunRefused (run.NotOpened name)
 host_error_of_run (run.FileRefused e) = RunRefused (run.FileRefused e)
+host_error_of_run (run.TooManyKeys name) = RunRefused (run.TooManyKeys name)
+host_error_of_run (run.InputUnreadable reason) = RunRefused (run.InputUnreadable reason)
+host_error_of_run (run.OutputUnwritable reason) = RunRefused (run.OutputUnwritable reason)
+host_error_of_run (run.RecordUnwritable reason) = RunRefused (run.RecordUnwritable reason)
 host_error_of_run (run.WriteFault name) = RunRefused (run.WriteFault name)
 host_error_of_run run.OutOfMemory = OutOfMemory
 host_error_of_run (run.SessionRefused name fault) = RunRefused (run.SessionRefused name fault)

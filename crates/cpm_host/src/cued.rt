@@ -1,37 +1,24 @@
-//! A program, or a session, that is played by a script that may wait for it.
+//! A program that is played by a script that may wait for it.
 
-ghost use Rattle.std.specs.Prelude.{◌≡◌, ◌≤◌, ◌++◌, IfErr, IfOk, OnOk, Ok, length, map};
+ghost use Rattle.std.specs.Prelude.{◌≡◌, ◌≤◌, IfErr, IfOk, OnOk, Ok, length};
 ghost use Rattle.cpm_geom.specs.Disk.{blank_disk};
 ghost use Rattle.cpm_geom.specs.declared.format.Format.TheVariants.{Ibm3740};
 ghost use Rattle.cpm_script.specs.Cues.{all_said, cues};
-ghost use Rattle.cpm_script.specs.declared.cue.Cue.TheVariants.{Key as Timed};
 ghost use Rattle.cpm_play.specs.Playing.{IsFresh};
 ghost use Rattle.cpm_host.specs.Com.{program_given, machine_of};
-ghost use Rattle.cpm_host.specs.Cued.{AreFit, AreForked, IsCueRefusal, IsCutCued, IsForkedRefusal};
-ghost use Rattle.cpm_host.specs.Cued.{IsPlayedCued, IsRehearsalRefusal, IsRehearsed, IsWaitingRefusal};
-ghost use Rattle.cpm_host.specs.Live.{opened_live};
+ghost use Rattle.cpm_host.specs.Cued.{AreFit, IsCueRefusal, IsCutCued, IsPlayedCued, IsWaitingRefusal};
 ghost use Rattle.cpm_machine.specs.Opening.{most_program};
 
-use crate::com::{ProgramStart, Script, keys_of, left_of, machine_of, script_refused};
+use crate::com::{ProgramStart, Script, left_of, machine_of, script_refused};
 use crate::error::HostError;
-use crate::live::{LiveResult, SessionStart, opening_refused};
+use crate::live::LiveResult;
 use cpm_geom::{Format, Image};
 use cpm_machine::Machine;
 use cpm_play::{CuedKeys, LivePlay, Watcher, play_cues};
-use cpm_script::laws::{cues_in_order, forked_cues_in_order, plain_scripts, recorded_keys};
-use cpm_script::{Cue, Key, keys_before, read_cues, read_forked_cues};
-use std::alloc::{AllocError, Global};
-use std::io;
+use cpm_script::laws::{cues_in_order, recorded_keys};
+use cpm_script::{Cue, read_cues};
+use std::alloc::Global;
 use std::io::Write;
-
-/// What a session plays that is forked.
-#[derive(Drop)]
-pub struct ForkedCues {
-    /// The keys that its parent had before, and after them what its own script says.
-    pub cues: Vec<Cue>,
-    /// How many the keys of its parent are.
-    pub before: usize,
-}
 
 /// What a script says whose lines may wait.
 ///
@@ -44,51 +31,6 @@ pub fn cues_of(alloc: Global, script: Script<'_>) -> Result<Vec<Cue>, HostError>
     cues_in_order();
     match read_cues(alloc, script.text) {
         Ok(cues) => Ok(cues),
-        Err(error) => Err(script_refused(script.name, error)),
-    }
-}
-
-/// Keys as cues.
-fn as_cues(alloc: Global, keys: &[Key]) -> Result<Vec<Cue>, AllocError>
-    ensures { IfOk result (λ v. v.items ≡ map Timed keys.now) }
-{
-    keys.iter().map(|key| Cue::Key(*key)).collect(alloc)
-}
-
-/// Keys as cues, with others after them.
-fn behind_keys(alloc: Global, keys: &[Key], mut others: Vec<Cue>) -> Result<Vec<Cue>, AllocError>
-    ensures { IfOk result (λ v. v.items ≡ map Timed keys.now ++ others.items) }
-{
-    let mut cues = as_cues(alloc, keys)?;
-    cues.append(&mut others)?;
-    Ok(cues)
-}
-
-/// What a session plays that is forked after so many steps: the keys that its parent's script gives before, and then what its own script says.
-///
-/// `FileRefused` names the first line with a fault of its parent's script, which may not wait, or else of its own. `OutOfMemory` comes only where
-/// memory is refused.
-pub fn forked_cues_of(
-    alloc: Global,
-    parent: Script<'_>,
-    at: u64,
-    script: Script<'_>,
-) -> Result<ForkedCues, HostError>
-    ensures cues { IfOk result (AreForked parent.entry.text.now script.entry.text.now at) }
-    ensures fit { IfOk result (λ f. AreFit f.cues.items) }
-    ensures refusal { IfErr result (IsForkedRefusal parent.entry script.entry at) }
-{
-    plain_scripts();
-    cues_in_order();
-    forked_cues_in_order();
-    let keys = keys_of(alloc, Some(parent))?;
-    let first = keys_before(alloc, keys.as_slice(), at)?;
-    let before = first.len();
-    match read_forked_cues(alloc, script.text, at, before) {
-        Ok(own) => Ok(ForkedCues {
-            cues: behind_keys(alloc, first.as_slice(), own)?,
-            before,
-        }),
         Err(error) => Err(script_refused(script.name, error)),
     }
 }
@@ -157,40 +99,4 @@ pub fn run_waiting<W: Write, S: Write, T: Watcher>(
     let machine = machine_of(alloc, start)?;
     let system = Image::blank(alloc, Format::Ibm3740)?;
     play_cued(alloc, &system, machine, steps, cued, out, record, watcher)
-}
-
-/// Plays a session by itself, with this system drive and a script that may wait. What it shows is dropped, and its keys are in the result. The watcher is told
-/// on the way how far it has come.
-///
-/// `SessionRefused` has the fault of the opening. `OutOfMemory` comes only where memory is refused.
-pub fn rehearse_session<T: Watcher>(
-    alloc: Global,
-    system: &Image,
-    start: SessionStart<'_>,
-    cued: CuedKeys<'_>,
-    watcher: &mut T,
-) -> Result<LiveResult, HostError>
-    requires fit { AreFit cued.cues.now }
-    ensures played { IfOk result (λ t. IsRehearsed system.now (opened_live start.entry) start.entry.steps cued.entry t) }
-    ensures refusal { IfErr result (IsRehearsalRefusal system.now start.entry cued.entry) }
-{
-    let SessionStart {
-        name,
-        opening,
-        steps,
-    } = start;
-    let machine = match Machine::new(alloc, opening) {
-        Ok(machine) => machine,
-        Err((_, fault)) => return Err(opening_refused(name, fault)),
-    };
-    play_cued(
-        alloc,
-        system,
-        machine,
-        steps,
-        cued,
-        &mut io::sink(),
-        &mut io::sink(),
-        watcher,
-    )
 }

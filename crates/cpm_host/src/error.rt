@@ -26,16 +26,10 @@ pub enum HostError {
     /// A word of the command line is no text.
     #[error("HO1 an argument is not UTF-8 text; try 'cpmhost --help'")]
     NotText,
-    /// The configuration has no session of this name.
-    #[error("HO1 the configuration has no session '{0}'")]
-    NoSession(ShownWord),
-    /// The session of this name is forked, so that its first keys are those of another.
-    #[error("HO1 session '{0}' is forked: its keys can't be typed, but those of the session that it is forked from")]
-    NotOpened(ShownWord),
     /// A word is no part of a command's tail.
     #[error("HO1 '{0}' is no part of a command's tail: characters from ' ' to '~' are wanted, and at most 126 in all")]
     TailRefused(ShownWord),
-    /// A run is refused, or what one has too: HO2 a configuration, HO3 a key script, HO4, HO5, HO6 a file, HO9 a session.
+    /// A run is refused, or what one has too: HO1 a name to type at, HO2 a configuration, HO3 a key script, HO4, HO5, HO6 a file, HO9 a session.
     #[error("{0}")]
     RunRefused(RunError),
     /// A command on disk images is refused: HO1 a name, HO6 an image or what was asked of it.
@@ -134,11 +128,7 @@ impl HostError {
         ensures { result ≡ status_of self.now }
     {
         match self {
-            HostError::Usage(_)
-            | HostError::NotText
-            | HostError::NoSession(_)
-            | HostError::NotOpened(_)
-            | HostError::TailRefused(_) => 1,
+            HostError::Usage(_) | HostError::NotText | HostError::TailRefused(_) => 1,
             HostError::RunRefused(error) => error.status(),
             HostError::DiskRefused(error) => error.status(),
             HostError::CheckRefused(error) => error.status(),

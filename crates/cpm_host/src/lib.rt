@@ -24,15 +24,18 @@ pub use cpm_command_line::{
 };
 pub use cpm_config::{Config, ConfigError, Origin, SessionConfig};
 pub use cpm_debug::{DebugError, run_debug};
-pub use cpm_machine::{End, Opening, Tail};
+pub use cpm_machine::{End, Tail};
 pub use cpm_play::{CuedKeys, NoWatcher, Progress, Watcher};
-pub use cpm_run::{IllegalBytes, Report, RunError, SessionReport, judge_host, run_host};
+pub use cpm_run::{
+    IllegalBytes, RecordFile, Report, RunError, RunOptions, RunStage, RunWatcher, SessionReport,
+    run_host,
+};
 pub use cpm_script::{Cue, Key, LineFault, MOST_KEYS, ScriptError, key_line, read_keys};
 pub use cpm_store::{MemoryStore, Store, StoreError};
-pub use cued::{ForkedCues, cues_of, forked_cues_of, rehearse_session, run_waiting};
+pub use cued::{cues_of, run_waiting};
 pub use ending::Ending;
 pub use error::HostError;
 pub use input::{MOST_FILE, read_whole};
 pub use list::run_list;
-pub use live::{LiveResult, SessionStart, run_live, type_session};
+pub use live::{LiveResult, run_live};
 pub use tail::tail_of;

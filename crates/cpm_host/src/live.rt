@@ -1,22 +1,20 @@
-//! A program, or a session, whose keys are typed.
+//! A program whose keys are typed.
 
-ghost use Rattle.std.specs.Prelude.{◌≤◌, IfErr, IfOk, OnOk, Option, length};
+ghost use Rattle.std.specs.Prelude.{◌≤◌, IfErr, IfOk, OnOk, length};
 ghost use Rattle.cpm_geom.specs.Disk.{blank_disk};
-ghost use Rattle.cpm_machine.specs.Opening.{IsRefusal, most_program};
-ghost use Rattle.cpm_machine.specs.declared.opening.OpenError.{OpenError as OpenErrorValue};
+ghost use Rattle.cpm_machine.specs.Opening.{most_program};
 ghost use Rattle.cpm_play.specs.Playing.{IsFresh};
 ghost use Rattle.cpm_host.specs.Com.{program_given, machine_of};
-ghost use Rattle.cpm_host.specs.Live.{IsLiveCut, IsLiveRefusal, IsOpeningRefused, IsPlayedLive, IsTypedRefusal, opened_live, streams};
+ghost use Rattle.cpm_host.specs.Live.{IsLiveCut, IsLiveRefusal, IsPlayedLive};
+ghost use Rattle.cpm_run.specs.Settled.{streams};
 
 use crate::com::{ProgramResult, ProgramStart, left_of, machine_of};
 use crate::error::HostError;
-use cpm_command_line::shown;
 use cpm_geom::{Format, Image};
-use cpm_machine::{Machine, OpenError, Opening};
+use cpm_machine::Machine;
 use cpm_play::{LivePlay, play_live};
-use cpm_run::RunError;
+use cpm_script::Key;
 use cpm_script::laws::recorded_keys;
-use cpm_script::{Key, MOST_KEYS};
 use std::alloc::Global;
 use std::io::{Read, Write};
 
@@ -95,55 +93,4 @@ pub fn run_live<I: Read, W: Write, S: Write>(
     play_typed(
         alloc, &system, machine, steps, most_keys, input, out, record,
     )
-}
-
-/// A session of a configuration that is played by itself.
-#[derive(Drop)]
-pub struct SessionStart<'a> {
-    pub name: &'a str,
-    pub opening: Opening,
-    pub steps: u64,
-}
-
-/// Why a session has no machine, if its opening is refused so.
-pub(crate) fn opening_refused(name: &str, fault: OpenError) -> HostError
-    ensures { (o : Option OpenErrorValue) → IsRefusal o fault → IsOpeningRefused name.now o result }
-{
-    match fault {
-        OpenError::OutOfMemory => HostError::OutOfMemory,
-        fault => HostError::RunRefused(RunError::SessionRefused {
-            name: shown(name),
-            fault,
-        }),
-    }
-}
-
-/// Plays a session by itself, with this system drive and the keys that are typed on `input`, at most as many as a script has. It writes what
-/// the session shows as it comes, and each key to `record` as a line of a key script.
-///
-/// `SessionRefused` has the fault of the opening. The others are as of `run_live`.
-pub fn type_session<I: Read, W: Write, S: Write>(
-    alloc: Global,
-    system: &Image,
-    start: SessionStart<'_>,
-    input: &mut I,
-    out: &mut W,
-    record: &mut S,
-) -> Result<LiveResult, HostError>
-    ensures played { IfOk result (λ t. IsPlayedLive system.now (opened_live start.entry) start.entry.steps MOST_KEYS t
-        (streams (I.remaining input.old) (I.remaining input.new) (W.contents out.old) (W.contents out.new)
-        (S.contents «record».old) (S.contents «record».new))) }
-    ensures refusal { IfErr result (IsTypedRefusal system.now start.entry MOST_KEYS (streams (I.remaining input.old) (I.remaining input.new)
-        (W.contents out.old) (W.contents out.new) (S.contents «record».old) (S.contents «record».new))) }
-{
-    let SessionStart {
-        name,
-        opening,
-        steps,
-    } = start;
-    let machine = match Machine::new(alloc, opening) {
-        Ok(machine) => machine,
-        Err((_, fault)) => return Err(opening_refused(name, fault)),
-    };
-    play_typed(alloc, system, machine, steps, MOST_KEYS, input, out, record)
 }

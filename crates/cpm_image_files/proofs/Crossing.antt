@@ -1,7 +1,7 @@
 -- A record that is put behind an extent at the end of its file: the extent is closed, and the next one opened or made.
 use Rattle.std.proofs.Common.{◌≡◌, ◌≢◌, ◌⊎◌, ℕ, ◌+◌, ◌<◌, ◌≤◌, true, false, List, Some, None, length, set, sym, refl, ap, ◌∙◌, inl, inr, arith}
 use Rattle.std.proofs.lemmas.List.{length-replicate}
-use Rattle.std.proofs.lemmas.Bool.{false≢true, ne_eqb, cases_lt, lt-ltb, le-ltb, false_from_ne_true}
+use Rattle.std.proofs.lemmas.Bool.{false≢true, ne_eqb, cases_eq, cases_lt, lt-ltb, le-ltb, false_from_ne_true}
 use Rattle.cpm_geom.specs.declared.dpb.Dpb.{Dpb}
 use Rattle.cpm_volume.specs.declared.extent.Extent.{Extent}
 use Rattle.cpm_volume.specs.declared.extent.Entry.{Entry}
@@ -10,16 +10,17 @@ use Rattle.cpm_volume.specs.Reserved.{is_reserved}
 use Rattle.cpm_volume.specs.Files.{deleted, extent_number, group_of, has_wildcard, entry_at, is_of, first_of, first_free, block_number, IsFormat, IsWellFormed, IsSound, Volume}
 use Rattle.cpm_volume.specs.Names.{is_named}
 use Rattle.cpm_volume.specs.Operations.{VolumeOutcome, ends, with_entry, closed, closed_entry, close_extent, opened_extent, open_extent, made_extent, make_extent, made_in, opened_or_made, have_extent, closed_in, cross, next_target, next_place, put_record, write_in, write_next_on_volume}
-use Rattle.cpm_volume.proofs.Entries.{entry_at-set_same, in_use_within, is_of_parts, is_of_from, first_of_passes}
+use Rattle.cpm_volume.proofs.Entries.{entry_at-set_same, entry_at-set_other, in_use_within, is_of_parts, is_of_from, first_of_passes}
 use Rattle.cpm_volume.proofs.NameLemmas.{first_match_plain, same_name-refl}
 use Rattle.cpm_volume.proofs.Closing as closing
 use Rattle.cpm_volume.proofs.Closing.{closed_user, closed_name, closed_blocks, closed_map, closed_newer, after as entries_closed}
 use Rattle.cpm_volume.proofs.Opening as opening
 use Rattle.cpm_volume.proofs.Making.{made_number, made_name, made_blocks}
-use Rattle.cpm_image_files.specs.Appending.{unused, records_in_entry, IsAtEnd, KeepsEntries}
+use Rattle.cpm_image_files.specs.ImageFiles.{IsBlockOf}
+use Rattle.cpm_image_files.specs.Appending.{unused, records_in_entry, IsAtEnd, IsOpenBlockOf, KeepsEntries, KeepsToBlocks}
 use Rattle.cpm_image_files.proofs.Counting.{unused-same, unused-taken, unused-none, free_user}
 use Rattle.cpm_image_files.proofs.Numbers.{next_follows, next_is_first, group_grows}
-use Rattle.cpm_image_files.proofs.EndLemmas.{named_of, named_from, count_past, keeps_entries, names_after, last_after, keeps-trans}
+use Rattle.cpm_image_files.proofs.EndLemmas.{named_of, named_parts, named_from, count_past, keeps_entries, names_after, last_after, keeps-trans}
 use Rattle.cpm_image_files.proofs.PutLemmas.{IsReady}
 
 -- the extent that was moved to: the record is put there, at the end of the file
@@ -29,6 +30,7 @@ pub record MovesToEnd (d : Dpb) (user : ℕ) (name : List ℕ) (v : Volume) (x :
   pub at_end : IsAtEnd d user name v' x' 0
   pub reserved : v'.reserved ≡ v.reserved
   pub others : KeepsEntries user name v.entries v'.entries
+  pub own : KeepsToBlocks d user name v x v' x'
 
 number_newer : (e : Entry) (x : Extent) → extent_number e.extent ≤ extent_number x → extent_number (closed_entry e x).extent ≡ extent_number x
 unfolding extent_number
@@ -96,6 +98,29 @@ module _ (d : Dpb) (user : ℕ) (name : List ℕ) (v : Volume) (x : Extent) (cur
   pub keeps_now : KeepsEntries user name v.entries entries_now
   unfolding entries_now
   keeps_now = keeps_entries user name v.entries sound.kept.index now own_within now_named (λ _. own_named)
+
+  -- a block of the open file is then one of an entry
+  other_now : (j : ℕ) → j ≢ sound.kept.index → entry_at entries_now j ≡ entry_at v.entries j
+  unfolding entries_now
+  other_now j h = entry_at-set_other v.entries sound.kept.index j now h
+
+  own_block : (b s : ℕ) → b ≢ 0 → block_number x s ≡ b → IsBlockOf entries_now user name b
+  own_block b s some is =
+      (sound.kept.index, s, some, ap (is_named user name) at_now ∙ now_named, ap (λ (e : Entry). block_number e.extent s) at_now ∙ (now_blocks s ∙ is))
+
+  pub block_now : (b : ℕ) → IsOpenBlockOf v.entries user name x b → IsBlockOf entries_now user name b
+  block_now b own =
+      elim own [
+        | inl map ↦ own_block b map.0 map.1 map.2
+        | inr listed ↦ elim (cases_eq listed.0 sound.kept.index) [
+          | inl same ↦
+              let stored : block_number (entry_at v.entries sound.kept.index).extent listed.1 ≡ b = ap (λ i. block_number (entry_at v.entries i).extent listed.1) (sym same) ∙ listed.4 in
+              own_block b listed.1 listed.2 (sound.kept.agrees listed.1 (λ z. listed.2 (sym stored ∙ z)) ∙ stored)
+          | inr other ↦
+              let stays = other_now listed.0 other in
+              (listed.0, listed.1, listed.2, ap (is_named user name) stays ∙ listed.3, ap (λ (e : Entry). block_number e.extent listed.1) stays ∙ listed.4)
+        ]
+      ]
 
   pub unused_now : unused entries_now ≡ unused v.entries
   unfolding entries_now now
@@ -178,12 +203,16 @@ module _ (d : Dpb) (user : ℕ) (name : List ℕ) (v : Volume) (x : Extent) (cur
       unfolding write_next_on_volume write_in next_place next_target cross closed_in have_extent opened_or_made next_volume with_entry
       next_answer = rw (ne_eqb (extent_number x) 511 not_last, closes, opens) refl
 
+      next_keeps : KeepsToBlocks d user name v x next_volume next_extent
+      unfolding next_volume with_entry
+      next_keeps = record { records = λ n. inl refl; blocks = λ b own. inr (block_now b own) }
+
       pub moves_on : (v' : Volume) × (x' : Extent) × MovesToEnd d user name v x bytes v' x' × (unused v'.entries ≡ unused v.entries)
       unfolding next_volume with_entry
       moves_on = (
         next_volume,
         next_extent,
-        record { answer = next_answer; ready = next_ready; at_end = next_at_end; reserved = refl; others = keeps_now },
+        record { answer = next_answer; ready = next_ready; at_end = next_at_end; reserved = refl; others = keeps_now; own = next_keeps },
         unused_now,
       )
 
@@ -252,6 +281,19 @@ module _ (d : Dpb) (user : ℕ) (name : List ℕ) (v : Volume) (x : Extent) (cur
         unfolding new_entries
         new_keeps = keeps-trans user name v.entries entries_now (set entries_now (first_free entries_now) new_entry) keeps_now (keeps_entries user name entries_now (first_free entries_now) new_entry free new_named (λ used. absurd (used.used (free_user entries_now free))))
 
+        -- the entry that is written was not in use
+        new_block : (b : ℕ) → IsBlockOf entries_now user name b → IsBlockOf new_entries user name b
+        unfolding new_entries
+        new_block b listed =
+            let used = (named_parts user name (entry_at entries_now listed.0) plain_name listed.3).0 in
+            let apart : listed.0 ≢ first_free entries_now = λ same. user_ok (sym used ∙ (ap (λ i. (entry_at entries_now i).user) same ∙ free_user entries_now free)) in
+            let stays = entry_at-set_other entries_now (first_free entries_now) listed.0 new_entry apart in
+            (listed.0, listed.1, listed.2, ap (is_named user name) stays ∙ listed.3, ap (λ (e : Entry). block_number e.extent listed.1) stays ∙ listed.4)
+
+        new_own : KeepsToBlocks d user name v x new_volume (made_extent x (extent_number x + 1))
+        unfolding new_volume with_entry
+        new_own = record { records = λ n. inl refl; blocks = λ b own. inr (new_block b (block_now b own)) }
+
         new_records : records_in_entry d (made_extent x (extent_number x + 1)) 0 ≡ 0
         new_records = let first = next_is_first d x other in rw new_number (omega arith)
 
@@ -289,7 +331,7 @@ module _ (d : Dpb) (user : ℕ) (name : List ℕ) (v : Volume) (x : Extent) (cur
         moves_new = (
           new_volume,
           made_extent x (extent_number x + 1),
-          record { answer = new_answer; ready = new_ready; at_end = new_at_end; reserved = refl; others = new_keeps },
+          record { answer = new_answer; ready = new_ready; at_end = new_at_end; reserved = refl; others = new_keeps; own = new_own },
           new_unused,
         )
 

@@ -1,10 +1,10 @@
 -- What a call on a drive leaves of its disk.
-use Rattle.std.proofs.Common.{◌≡◌, ◌≢◌, ℕ, Bool, true, false, List, sym, subst, refl, ap, ◌∙◌}
+use Rattle.std.proofs.Common.{◌≡◌, ◌≢◌, ℕ, ◌≤◌, Bool, true, false, List, [], get_or, sym, subst, refl, ap, ◌∙◌}
 use Rattle.cpm_geom.specs.declared.format.Format.{Format}
 use Rattle.cpm_geom.specs.Geometry.{dpb_of}
 use Rattle.cpm_geom.specs.Disk.{Disk, records_of}
 use Rattle.cpm_volume.specs.declared.extent.Extent.{Extent}
-use Rattle.cpm_volume.specs.Files.{deleted, same_name, file_record, open_file_record, IsSound, IsSoundDrive, Volume}
+use Rattle.cpm_volume.specs.Files.{deleted, directory_records, same_name, file_record, open_file_record, IsSound, IsSoundDrive, Volume}
 use Rattle.cpm_directory.specs.Directory.{entries_of}
 use Rattle.cpm_drive.specs.declared.drive.Drive.{Drive}
 use Rattle.cpm_drive.specs.Drive.{volume_of, drive_after}
@@ -22,6 +22,7 @@ pub record HasVolume (f : Format) (drive : Drive) (v : Volume) : Type 0 where
   pub writable : IsWritable drive
   pub entries : entries_of drive.image ≡ v.entries
   pub reserved : drive.marks.reserved ≡ v.reserved
+  pub records : (n : ℕ) → directory_records (dpb_of f) ≤ n → get_or (records_of drive.image) n [] ≡ get_or v.records n []
   pub sound : (user : ℕ) (x : Extent) → IsSound (dpb_of f) v user x → IsSound (dpb_of f) (volume_of drive.image drive.marks.reserved) user x
   pub sound_drive : IsSoundDrive (dpb_of f) v → IsSoundDrive (dpb_of f) (volume_of drive.image drive.marks.reserved)
   pub opened : (user : ℕ) (x : Extent) (m : ℕ) → user ≢ deleted → IsSound (dpb_of f) v user x → open_file_record (dpb_of f) (entries_of drive.image) (records_of drive.image) user x m ≡ open_file_record (dpb_of f) v.entries v.records user x m
@@ -50,6 +51,7 @@ has_volume f drive v format free reaches =
       writable = record { disk = reaches.disk_is; bytes = reaches.bytes; free = protected_after_call drive v ∙ free };
       entries = reaches.holds.entries;
       reserved = reserved;
+      records = λ n h. reaches.holds.records n (rw same h);
       sound = λ user x h. subst (λ (r : List Bool). IsSound (dpb_of f) (volume_of disk r) user x) (sym reserved) (reads.sound user x h);
       sound_drive = λ h. subst (λ (r : List Bool). IsSoundDrive (dpb_of f) (volume_of disk r)) (sym reserved) (reads.sound_drive h);
       opened = λ user x m ok h. reads.by_control_block user x m ok h;

@@ -1,5 +1,5 @@
 -- The file is closed, and is on the disk.
-use Rattle.std.proofs.Common.{◌≡◌, ◌≢◌, ℕ, ◌<◌, ◌≤◌, Bool, true, false, List, Option, Some, None, Result, Ok, length, sym, subst, ap, ◌∙◌, inl, inr, arith}
+use Rattle.std.proofs.Common.{◌≡◌, ◌≢◌, ◌⊎◌, ℕ, ◌<◌, ◌≤◌, Bool, true, false, List, [], get_or, Option, Some, None, Result, Ok, length, sym, subst, ap, ◌∙◌, inl, inr, arith}
 use Rattle.std.specs.Result.{is_ok}
 use Rattle.std.proofs.lemmas.Bool.{cases_lt}
 use Rattle.cpm_geom.specs.declared.dpb.Dpb.{Dpb}
@@ -9,7 +9,7 @@ use Rattle.cpm_geom.specs.Disk.{Disk, records_of}
 use Rattle.cpm_volume.specs.declared.extent.Entry.{Entry}
 use Rattle.cpm_volume.specs.declared.fcb.Fcb.{Fcb}
 use Rattle.cpm_volume.specs.declared.answer.Fault.{Fault}
-use Rattle.cpm_volume.specs.Files.{deleted, same_name, entry_at, file_block, file_record, open_file_block, open_file_record, record_in, IsFormat, IsWellFormed, IsSoundDrive, Volume}
+use Rattle.cpm_volume.specs.Files.{deleted, directory_records, same_name, entry_at, file_block, file_record, open_file_block, open_file_record, record_in, IsFormat, IsWellFormed, IsSoundDrive, Volume}
 use Rattle.cpm_volume.specs.Names.{is_named}
 use Rattle.cpm_volume.specs.Operations.{with_entry, closed, close_file_on_volume}
 use Rattle.cpm_volume.proofs.Formats.{each_format}
@@ -24,8 +24,8 @@ use Rattle.cpm_drive.specs.Drive.{volume_of, drive_after, directory_code}
 use Rattle.cpm_drive.specs.Calls.{ClosedFile, closed_file, close_answer, drive_closed, after_close}
 use Rattle.cpm_drive.specs.Laws.{IsOfBytes, CallsReach, Reaches}
 use Rattle.cpm_drive.proofs.DiskReach.{calls_reach}
-use Rattle.cpm_image_files.specs.ImageFiles.{record_of_bytes, records_for, record_on, file_refusal_of, IsSoundDisk, IsPut}
-use Rattle.cpm_image_files.specs.Appending.{KeepsEntries}
+use Rattle.cpm_image_files.specs.ImageFiles.{record_of_bytes, block_of_record, records_for, record_on, file_refusal_of, IsBlockOf, IsSoundDisk, IsPut}
+use Rattle.cpm_image_files.specs.Appending.{IsOpenBlockOf, KeepsEntries}
 use Rattle.cpm_image_files.specs.Writing.{KeepsDisk, IsWriting}
 use Rattle.cpm_image_files.proofs.RecordLemmas.{no_record_of}
 use Rattle.cpm_image_files.proofs.EndLemmas.{no_more_records}
@@ -146,6 +146,17 @@ module _ (old : Disk) (user : ℕ) (name bytes : List ℕ) (drive : Drive) (fcb 
       let wf : IsWellFormed (dpb_of old.format) (entries_of (drive_after drive volume_now).image) (reserved_at_login (dpb_of old.format) (entries_of (drive_after drive volume_now).image)) = logged_in_sound (dpb_of old.format) (entries_of (drive_after drive volume_now).image) (drive_after drive volume_now).marks.reserved (each_format old.format) (has.sound_drive sound_now).well_formed in
       (checked (drive_after drive volume_now).image).1 (subst (λ (g : Format). IsWellFormed (dpb_of g) (entries_of (drive_after drive volume_now).image) (reserved_at_login (dpb_of g) (entries_of (drive_after drive volume_now).image))) (sym has.format) wf)
 
+  -- ---- no record has changed but in the file's blocks
+  on_entries : (b : ℕ) → IsOpenBlockOf (entries_of drive.image) user name fcb.extent b → IsBlockOf (entries_of (drive_after drive volume_now).image) user name b
+  unfolding after volume_of
+  on_entries b own =
+      subst (λ es. IsBlockOf es user name b) (sym entries_are) (crossing.block_now (dpb_of old.format) user name (volume_of drive.image drive.marks.reserved) fcb.extent fcb.current_record live writing.sound writing.appending.at_end b own)
+
+  own : (n : ℕ) → directory_records (dpb_of old.format) ≤ n → (get_or (records_of (drive_after drive volume_now).image) n [] ≡ get_or (records_of old) n []) ⊎ IsBlockOf (entries_of (drive_after drive volume_now).image) user name (block_of_record (dpb_of old.format) n)
+  unfolding volume_now with_entry volume_of
+  own n h =
+      elim (writing.own n h) [ inl was ↦ inl (has.records n h ∙ was) | inr block ↦ inr (on_entries _ block) ]
+
   put : IsPut old user name bytes (drive_after drive volume_now).image
   put = record {
     sound_before = sound_before;
@@ -162,6 +173,7 @@ module _ (old : Disk) (user : ℕ) (name bytes : List ℕ) (drive : Drive) (fcb 
       records = keeps.records;
       system = keeps.system;
     };
+    blocks = record { records = own };
     sound = sound_after;
   }
 

@@ -203,6 +203,7 @@ module _ (drive : Drive) (user : ℕ) (name : List ℕ) (user_ok : user < 16) (p
   none_cleared none = record {
     keeps = record { format = refl; writable = writable; entries = keeps-refl user name (entries_of drive.image); records = λ other other_name m ok apart. refl; system = λ place h. refl };
     sound = sound_drive;
+    records = λ n h. refl;
     gone = none;
     entries_left = unused_none user name (entries_of drive.image) live none;
     blocks_left = ap unreserved (sym (reserved_same user name (entries_of drive.image) live none (dpb_of drive.image.format) drive.marks.reserved)) ∙ blocks_free;
@@ -234,6 +235,10 @@ module _ (drive : Drive) (user : ℕ) (name : List ℕ) (user_ok : user < 16) (p
     unfolding volume_now v volume_of
     reserved_is = ap (λ (w : Volume). w.reserved) (erase_is first v' answer)
 
+    records_are : (n : ℕ) → get_or v'.records n [] ≡ get_or (records_of drive.image) n []
+    unfolding volume_now v volume_of
+    records_are n = ap (λ (w : Volume). get_or w.records n []) (erase_is first v' answer)
+
     others : (other : ℕ) (other_name : List ℕ) (m : ℕ) → other ≢ deleted → (other ≡ user → same_name other_name name ≡ true → ⊥) → file_record (dpb_of drive.image.format) v'.entries v'.records other other_name m ≡ file_record (dpb_of drive.image.format) (entries_of drive.image) (records_of drive.image) other other_name m
     unfolding v volume_of
     others other other_name m ok apart =
@@ -243,6 +248,7 @@ module _ (drive : Drive) (user : ℕ) (name : List ℕ) (user_ok : user < 16) (p
     erased_cleared = record {
       keeps = keeps_on drive.image user name drive v' (record { format = refl; writable = writable; entries = keeps-refl user name (entries_of drive.image); records = λ other other_name m ok apart. refl; system = λ place h. refl }) has (subst (λ es. KeepsEntries user name (entries_of drive.image) es) (sym entries_is) (erase_keeps user name (entries_of drive.image) live)) erasing.sound others;
       sound = has.sound_drive erasing.sound;
+      records = λ n h. has.records n h ∙ records_are n;
       gone = λ i. ap (λ es. is_named user name (entry_at es i)) (has.entries ∙ entries_is) ∙ none_named_after user name (entries_of drive.image) live i;
       entries_left = ap unused (has.entries ∙ entries_is) ∙ unused_after user name (entries_of drive.image) live;
       blocks_left = ap unreserved (has.reserved ∙ reserved_is) ∙ blocks_free;

@@ -23,5 +23,4 @@ pub mod ErasedLemmas
 pub mod MadeLemmas
 pub mod StartLemmas
 pub mod BeginLemmas
-pub mod BytesLemmas
 pub mod DoneLemmas

@@ -1,5 +1,5 @@
 -- An empty file is made.
-use Rattle.std.proofs.Common.{◌≡◌, ◌≢◌, ℕ, ◌+◌, ◌<◌, ◌≤◌, true, false, List, Option, Some, length, set, sym, subst, refl, ap, ◌∙◌, inl, inr, arith}
+use Rattle.std.proofs.Common.{◌≡◌, ◌≢◌, ℕ, ◌+◌, ◌<◌, ◌≤◌, true, false, List, [], Option, Some, length, get_or, set, sym, subst, refl, ap, ◌∙◌, inl, inr, arith}
 use Rattle.std.proofs.lemmas.List.{get_or-replicate, length-replicate}
 use Rattle.std.proofs.lemmas.Bool.{false≢true, cases_lt, lt-ltb, le-ltb, false_from_ne_true}
 use Rattle.cpm_geom.specs.declared.dpb.Dpb.{Dpb}
@@ -9,7 +9,7 @@ use Rattle.cpm_geom.specs.Disk.{Disk, records_of}
 use Rattle.cpm_volume.specs.declared.extent.Extent.{Extent}
 use Rattle.cpm_volume.specs.declared.extent.Entry.{Entry}
 use Rattle.cpm_volume.specs.declared.fcb.Fcb.{Fcb}
-use Rattle.cpm_volume.specs.Files.{deleted, extent_number, group_of, has_wildcard, same_name, entry_at, is_of, first_free, file_block, file_record, IsWellFormed, record_in, Volume, IsSound}
+use Rattle.cpm_volume.specs.Files.{deleted, directory_records, extent_number, group_of, has_wildcard, same_name, entry_at, is_of, first_free, file_block, file_record, IsWellFormed, record_in, Volume, IsSound}
 use Rattle.cpm_volume.specs.Names.{is_named}
 use Rattle.cpm_volume.specs.Encoding.{AreBytes, place_limit}
 use Rattle.cpm_volume.specs.Operations.{with_entry, made_extent, make_extent, make_file_on_volume}
@@ -198,6 +198,10 @@ module _ (old : Disk) (user : ℕ) (name : List ℕ) (drive : Drive) (user_ok : 
       let left = cleared.blocks_left in
       omega arith
 
+  has_records : (n : ℕ) → directory_records (dpb_of old.format) ≤ n → get_or (records_of (drive_after drive new_volume).image) n [] ≡ get_or (records_of old) n []
+  unfolding new_volume with_entry volume_of
+  has_records n h = has.records n h ∙ cleared.records n h
+
   begins : (bytes : List ℕ) → IsWriting old user name bytes 0 (drive_after drive new_volume) made_fcb
   unfolding made_fcb
   begins bytes = record {
@@ -207,6 +211,7 @@ module _ (old : Disk) (user : ℕ) (name : List ℕ) (drive : Drive) (user_ok : 
     appending = appending_on (dpb_of old.format) user name new_volume (volume_of (drive_after drive new_volume).image (drive_after drive new_volume).marks.reserved) (made_extent (new_fcb name).extent 0) 0 (volume_entries (drive_after drive new_volume).image (drive_after drive new_volume).marks.reserved ∙ has.entries) appending;
     count_is = starts_at;
     records = λ m h. absurd (omega arith);
+    own = λ n h. inl (has_records n h);
     entries_left = entries_left;
     blocks_left = blocks_left;
   }

@@ -13,14 +13,14 @@ use Rattle.cpm_image_files.specs.ImageFiles.{records_for, file_refusal_of}
 use Rattle.cpm_image_files.specs.Writing.{HasRoomForFile, IsWriting}
 use Rattle.cpm_image_files.proofs.Amounts.{room_of, room_less}
 
-module _ (old image : Disk) (same : image ≡ old) (bytes_of : HasBytes image) (whole : IsDisk old) (new drive : Drive) (is_new : new ≡ lent_drive image (new_marks image.format false)) (is : drive ≡ logged_in new) where
+module _ (old : Disk) (bytes_of : HasBytes old) (whole : IsDisk old) (new drive : Drive) (is_new : new ≡ lent_drive old (new_marks old.format false)) (is : drive ≡ logged_in new) where
   pub image_is : drive.image ≡ old
-  image_is = ap (λ (d : Drive). d.image) is ∙ (ap (λ (d : Drive). d.image) is_new ∙ same)
+  image_is = ap (λ (d : Drive). d.image) is ∙ ap (λ (d : Drive). d.image) is_new
 
   pub is_writable : IsWritable drive
   is_writable = record {
     disk = subst IsDisk (sym image_is) whole;
-    bytes = subst HasBytes (same ∙ sym image_is) bytes_of;
+    bytes = subst HasBytes (sym image_is) bytes_of;
     free = ap (λ (d : Drive). d.marks.is_protected) is ∙ ap (λ (d : Drive). d.marks.is_protected) is_new;
   }
 

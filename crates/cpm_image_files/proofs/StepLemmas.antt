@@ -1,5 +1,5 @@
 -- A record is written at the end of the file that is put on a disk.
-use Rattle.std.proofs.Common.{◌≡◌, ◌≢◌, ℕ, ◌+◌, ◌<◌, ◌≤◌, true, List, Some, length, sym, subst, ap, ◌∙◌, inl, inr, arith}
+use Rattle.std.proofs.Common.{◌≡◌, ◌≢◌, ℕ, ◌⊎◌, ◌+◌, ◌<◌, ◌≤◌, true, List, [], Some, get_or, length, sym, subst, ap, ◌∙◌, inl, inr, arith}
 use Rattle.std.proofs.lemmas.Bool.{cases_eq}
 use Rattle.cpm_geom.specs.declared.dpb.Dpb.{Dpb}
 use Rattle.cpm_geom.specs.declared.format.Format.{Format}
@@ -9,7 +9,7 @@ use Rattle.cpm_volume.specs.declared.extent.Extent.{Extent}
 use Rattle.cpm_volume.specs.declared.fcb.Fcb.{Fcb}
 use Rattle.cpm_volume.specs.declared.answer.Answer.{Answer}
 use Rattle.cpm_volume.specs.declared.answer.Answer.TheVariants.{Done as done, NoRecord as no_record, NoBlock as no_block}
-use Rattle.cpm_volume.specs.Files.{deleted, same_name, file_record, open_file_record, Volume}
+use Rattle.cpm_volume.specs.Files.{deleted, directory_records, same_name, file_record, open_file_record, Volume}
 use Rattle.cpm_volume.specs.Encoding.{AreBytes}
 use Rattle.cpm_volume.specs.Operations.{VolumeOutcome, write_next_on_volume}
 use Rattle.cpm_volume.specs.Laws.{position, HasDone, StaysSound}
@@ -20,8 +20,8 @@ use Rattle.cpm_drive.specs.declared.drive.Drive.{Drive}
 use Rattle.cpm_drive.specs.Drive.{volume_of, drive_after, CallResult, call_result, after_call}
 use Rattle.cpm_drive.specs.Laws.{IsOfBytes, CallsReach, OutcomeReaches}
 use Rattle.cpm_drive.proofs.DiskReach.{calls_reach}
-use Rattle.cpm_image_files.specs.ImageFiles.{record_of_bytes, records_for, entries_for, blocks_for, free_entries, free_blocks}
-use Rattle.cpm_image_files.specs.Appending.{unused, unreserved, entries_begun, blocks_begun, IsAppending, IsAppended}
+use Rattle.cpm_image_files.specs.ImageFiles.{record_of_bytes, block_of_record, records_for, entries_for, blocks_for, free_entries, free_blocks}
+use Rattle.cpm_image_files.specs.Appending.{unused, unreserved, entries_begun, blocks_begun, IsAppending, IsAppended, IsOpenBlockOf}
 use Rattle.cpm_image_files.specs.Writing.{HasRoomForFile, IsWriting}
 use Rattle.cpm_image_files.proofs.Amounts.{entries_grow, blocks_grow, entries_less, blocks_less, room_small}
 use Rattle.cpm_image_files.proofs.RecordLemmas.{is_record}
@@ -74,7 +74,7 @@ module _ (old : Disk) (user : ℕ) (name bytes : List ℕ) (count : ℕ) (drive 
       let need = room.blocks in
       omega arith
 
-  appended : IsAppended (dpb_of old.format) user name v (position fcb.extent fcb.current_record) o
+  appended : IsAppended (dpb_of old.format) user name v fcb.extent (position fcb.extent fcb.current_record) o
   unfolding v o volume_of
   appended =
       let at = writing.count_is in
@@ -134,6 +134,21 @@ module _ (old : Disk) (user : ℕ) (name bytes : List ℕ) (count : ℕ) (drive 
             written.1.written.others m (λ at. other (at ∙ writing.count_is)) (λ none. is_record bytes m (omega arith) (sym was ∙ none)) ∙ was
       ]
 
+  -- ---- no record has changed but in the file's blocks
+  on_disk : (b : ℕ) → IsOpenBlockOf o.volume.entries user name o.extent b → IsOpenBlockOf (entries_of (drive_after drive o.volume).image) user name o.extent b
+  on_disk b own = subst (λ es. IsOpenBlockOf es user name o.extent b) (sym has.entries) own
+
+  own : (n : ℕ) → directory_records (dpb_of old.format) ≤ n → (get_or (records_of (drive_after drive o.volume).image) n [] ≡ get_or (records_of old) n []) ⊎ IsOpenBlockOf (entries_of (drive_after drive o.volume).image) user name o.extent (block_of_record (dpb_of old.format) n)
+  unfolding v volume_of
+  own n h =
+      elim (appended.own.records n) [
+        | inr block ↦ inr (on_disk _ block)
+        | inl same ↦ elim (writing.own n h) [
+          | inl was ↦ inl (has.records n h ∙ (same ∙ was))
+          | inr block ↦ inr (on_disk _ (appended.own.blocks _ block))
+        ]
+      ]
+
   after_fcb : Fcb
   after_fcb = record fcb { extent = o.extent; current_record = o.current }
 
@@ -146,6 +161,7 @@ module _ (old : Disk) (user : ℕ) (name bytes : List ℕ) (count : ℕ) (drive 
     appending = appending_on (dpb_of old.format) user name o.volume (volume_of (drive_after drive o.volume).image (drive_after drive o.volume).marks.reserved) o.extent o.current has.entries appended.appending;
     count_is = written.1.position_is ∙ ap (λ n. n + 1) writing.count_is;
     records = λ m h. has.opened user o.extent m live written.0.sound ∙ new_record m h;
+    own = own;
     entries_left = (
         let now = ap unused has.entries in
         let due = appended.entries in

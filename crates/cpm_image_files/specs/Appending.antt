@@ -1,5 +1,6 @@
 -- Records that are written one after the other, at the end of a file.
-use Rattle.std.specs.Prelude.{◌≡◌, ◌≢◌, ℕ, ◌+◌, ◌*◌, ◌%◌, ◌<◌, ◌≤◌, Bool, true, false, not, ◌&&◌, ◌==◌, nat_lt, if◌then◌else◌, List, count_by}
+use Rattle.std.specs.Prelude.{◌≡◌, ◌≢◌, ◌⊎◌, ℕ, ◌+◌, ◌*◌, ◌%◌, ◌<◌, ◌≤◌, Bool, true, false, not, ◌&&◌, ◌==◌, nat_lt, if◌then◌else◌}
+use Rattle.std.specs.Prelude.{List, [], count_by, slice_index_or}
 use Rattle.cpm_geom.specs.declared.dpb.Dpb.{Dpb}
 use Rattle.cpm_volume.specs.declared.extent.Extent.{Extent}
 use Rattle.cpm_volume.specs.declared.extent.Entry.{Entry}
@@ -7,6 +8,7 @@ use Rattle.cpm_volume.specs.Files.{deleted, extent_number, entry_at, InUse, bloc
 use Rattle.cpm_volume.specs.Names.{is_named}
 use Rattle.cpm_volume.specs.declared.answer.Answer.TheVariants.{Done as done, NoRecord as no_record, NoBlock as no_block}
 use Rattle.cpm_volume.specs.Operations.{VolumeOutcome}
+use Rattle.cpm_image_files.specs.ImageFiles.{block_of_record, IsBlockOf}
 
 -- how many entries are not in use (own)
 unfoldable pub unused : List Entry → ℕ
@@ -40,6 +42,16 @@ pub record KeepsEntries (user : ℕ) (name : List ℕ) (es es' : List Entry) : T
   pub stay : (i : ℕ) → InUse es i → is_named user name (entry_at es i) ≡ false → entry_at es' i ≡ entry_at es i
   pub no_more : (i : ℕ) → InUse es' i → is_named user name (entry_at es' i) ≡ false → entry_at es i ≡ entry_at es' i
 
+-- a block of a file that is open: the file control block has its number, or an entry of the file (own)
+abbrev pub IsOpenBlockOf : List Entry → ℕ → List ℕ → Extent → ℕ → Type 0
+IsOpenBlockOf es user name x b = ((s : ℕ) × (b ≢ 0) × (block_number x s ≡ b)) ⊎ IsBlockOf es user name b
+
+-- Each record is as it was, or is in a block of the open file; and the file loses no block. (own)
+pub record KeepsToBlocks (d : Dpb) (user : ℕ) (name : List ℕ) (v : Volume) (x : Extent) (v' : Volume) (x' : Extent) : Type 0 where
+  pub records : (n : ℕ) → (slice_index_or v'.records n [] ≡ slice_index_or v.records n [])
+      ⊎ IsOpenBlockOf v'.entries user name x' (block_of_record d n)
+  pub blocks : (b : ℕ) → IsOpenBlockOf v.entries user name x b → IsOpenBlockOf v'.entries user name x' b
+
 -- the entries that record n of a file is the first of: record 0 is in the entry that was made with the file (own)
 unfoldable pub entries_begun : Dpb → ℕ → ℕ
 entries_begun d n = if nat_lt 0 n && (n % (128 * (d.extent_mask + 1)) == 0) then 1 else 0
@@ -48,11 +60,13 @@ entries_begun d n = if nat_lt 0 n && (n % (128 * (d.extent_mask + 1)) == 0) then
 unfoldable pub blocks_begun : Dpb → ℕ → ℕ
 blocks_begun d n = if n % (d.block_mask + 1) == 0 then 1 else 0
 
--- The record was written at the end: the file control block stands at the new end, and the call took what the record begins. (own)
-pub record IsAppended (d : Dpb) (user : ℕ) (name : List ℕ) (v : Volume) (n : ℕ) (o : VolumeOutcome) : Type 0 where
+-- The record was written at the end: the file control block stands at the new end, the call took what the record begins,
+-- and no record has changed but in the file's blocks. (own)
+pub record IsAppended (d : Dpb) (user : ℕ) (name : List ℕ) (v : Volume) (x : Extent) (n : ℕ) (o : VolumeOutcome) : Type 0 where
   pub answer : o.answer ≡ done
   pub appending : IsAppending d user name o.volume o.extent o.current
   pub others : KeepsEntries user name v.entries o.volume.entries
+  pub own : KeepsToBlocks d user name v x o.volume o.extent
   pub entries : unused o.volume.entries + entries_begun d n ≡ unused v.entries
   pub blocks : unreserved o.volume.reserved + blocks_begun d n ≡ unreserved v.reserved
 

@@ -1,13 +1,13 @@
 -- The files on a disk, and what it is to put one there.
-use Rattle.std.specs.Prelude.{◌≡◌, ◌≢◌, ℕ, ◌+◌, ◌-◌, ◌*◌, ◌/◌, ◌<◌, Bool, true, false, not, ◌||◌, ◌==◌, nat_lt, if◌then◌else◌}
-use Rattle.std.specs.Prelude.{List, ◌++◌, Option, Some, None, Err, length, take, drop, replicate, max, count_by}
+use Rattle.std.specs.Prelude.{◌≡◌, ◌≢◌, ◌⊎◌, ℕ, ◌+◌, ◌-◌, ◌*◌, ◌/◌, ◌<◌, ◌≤◌, Bool, true, false, not, ◌||◌, ◌==◌, nat_lt, if◌then◌else◌}
+use Rattle.std.specs.Prelude.{List, [], ◌++◌, Option, Some, None, Err, length, take, drop, replicate, max, count_by, slice_index_or}
 use Rattle.std.specs.List.{list_any}
 use Rattle.cpm_geom.specs.declared.dpb.Dpb.{Dpb}
 use Rattle.cpm_geom.specs.declared.format.Format.{Format}
 use Rattle.cpm_geom.specs.Geometry.{dpb_of, sectors_per_track}
 use Rattle.cpm_geom.specs.Disk.{Disk, records_of, sector_at}
 use Rattle.cpm_volume.specs.declared.extent.Entry.{Entry}
-use Rattle.cpm_volume.specs.Files.{deleted, entry_at, file_record, same_name, InUse}
+use Rattle.cpm_volume.specs.Files.{deleted, entry_at, block_number, directory_records, file_record, same_name, InUse}
 use Rattle.cpm_volume.specs.Names.{is_named, protects, reserved_after}
 use Rattle.cpm_directory.specs.Directory.{entries_of}
 use Rattle.cpm_directory.specs.Login.{reserved_at_login}
@@ -61,6 +61,22 @@ pub record KeepsOtherFiles (user : ℕ) (name : List ℕ) (old new : Disk) : Typ
       → record_on new other other_name m ≡ record_on old other other_name m
   pub system : (place : ℕ) → place < system_sectors old.format → sector_at new place ≡ sector_at old place
 
+-- the block that a disk's record is in
+-- CP/M 2.2 Operating System Manual, section 6.10, Disk Parameter Tables: BLM is the block mask; a block has BLM + 1 records, in their order
+abbrev pub block_of_record : Dpb → ℕ → ℕ
+block_of_record d n = n / (d.block_mask + 1)
+
+-- a block of the file of a user and a name: an entry of the file has its number (own)
+abbrev pub IsBlockOf : List Entry → ℕ → List ℕ → ℕ → Type 0
+IsBlockOf es user name b =
+    (i : ℕ) × (s : ℕ) × (b ≢ 0) × (is_named user name (entry_at es i) ≡ true) × (block_number (entry_at es i).extent s ≡ b)
+
+-- Each record outside the directory is as it was, or is in a block of the file of this user and name. (own)
+pub record KeepsOtherBlocks (user : ℕ) (name : List ℕ) (old new : Disk) : Type 0 where
+  pub records : (n : ℕ) → directory_records (dpb_of old.format) ≤ n
+      → (slice_index_or (records_of new) n [] ≡ slice_index_or (records_of old) n [])
+      ⊎ IsBlockOf (entries_of new) user name (block_of_record (dpb_of old.format) n)
+
 -- ---- what a file needs
 
 -- how many records a file of so many bytes has (own)
@@ -95,12 +111,14 @@ file_refusal_of d es user name records =
     else if nat_lt (free_blocks d user name es) (blocks_for d records) then Some DiskFull
     else None
 
--- A disk once a file was put on it: there was no reason against it, the file is there, each other is as it was, and no entry has a fault. (own)
+-- A disk once a file was put on it: there was no reason against it, the file is there, each other is as it was, and no entry has a fault;
+-- outside the directory and the file's blocks nothing has changed. (own)
 pub record IsPut (old : Disk) (user : ℕ) (name bytes : List ℕ) (new : Disk) : Type 0 where
   pub sound_before : IsSoundDisk old
   pub allowed : file_refusal_of (dpb_of old.format) (entries_of old) user name (records_for (length bytes)) ≡ None
   pub file : DiskHasFile new user name bytes
   pub others : KeepsOtherFiles user name old new
+  pub blocks : KeepsOtherBlocks user name old new
   pub sound : IsSoundDisk new
 
 -- Why a file of so many records is not put on a disk: the fault of the first entry that has one;

@@ -2,7 +2,7 @@
 
 ghost use Rattle.std.specs.Prelude.{◌≡◌, ◌<◌, ◌*◌, Some, None, length, MatchResult, ℕ, List};
 ghost use Rattle.cpm_geom.specs.Geometry.{dpb_of};
-ghost use Rattle.cpm_geom.specs.Disk.{IsDisk};
+ghost use Rattle.cpm_geom.specs.Disk.{HasBytes, IsDisk};
 ghost use Rattle.cpm_volume.specs.Encoding.{AreBytes};
 ghost use Rattle.cpm_directory.specs.Directory.{entries_of};
 ghost use Rattle.cpm_directory.specs.Login.{reserved_at_login};
@@ -10,7 +10,7 @@ ghost use Rattle.cpm_drive.specs.Laws.{IsWritable};
 ghost use Rattle.cpm_image_files.specs.ImageFiles.{record_of_bytes, records_for, file_refusal_of, IsSoundDisk, IsPut, IsPutRefusal};
 ghost use Rattle.cpm_image_files.specs.Writing.{HasRoomForFile, IsWriting, new_fcb};
 
-use crate::copies::of_bytes;
+use crate::copies::copy_of;
 use crate::name::FileName;
 use crate::needs::{RECORD_SIZE, file_refusal_of, records_for};
 use crate::refusal::ImageFilesError;
@@ -41,7 +41,7 @@ pub fn put(
     if let Some(refusal) = file_refusal_of(&LentImage::new(image), file, records_for(bytes)) {
         return Err(ImageFilesError::Refused(refusal));
     }
-    match image.copy(alloc) {
+    match copy_of(alloc, image) {
         Ok(copy) => Ok(written(copy, file, bytes)),
         Err(_) => Err(ImageFilesError::OutOfMemory),
     }
@@ -50,12 +50,13 @@ pub fn put(
 /// The image with a file on it, for which there is room.
 fn written(image: Image, file: &FileName, bytes: &[u8]) -> Image
     requires whole { IsDisk image }
+    requires bytes { HasBytes image }
     requires sound { IsSoundDisk image }
     requires room { file_refusal_of (dpb_of image.format) (entries_of image) file.now.user file.now.name (records_for (length bytes.now)) ≡ None }
     ensures { IsPut image file.now.user file.now.name bytes.now result }
 {
     let user = file.user();
-    let mut drive = Drive::new(of_bytes(image));
+    let mut drive = Drive::new(image);
     drive.log_in();
     let mut fcb = begin(&mut drive, file);
     for number in 0..records_for(bytes) {

@@ -2,7 +2,6 @@
 use Rattle.std.proofs.Common.{◌≡◌, ◌≢◌, ◌∙◌, ◌≤◌, ◌<◌, ◌+◌, ℕ, zero, suc, List, [], ◌∷◌, ◌++◌, Option, Some, None, length, map, take, drop, get_or, ap, subst, sym, refl, arith, append-nil}
 use Rattle.std.specs.Prelude.{string_bytes}
 use Rattle.std.proofs.lemmas.List.{drop_all, length-map, map-append, take_all}
-use Rattle.cpm_batch.specs.Inputs.{SessionInput}
 use Rattle.cpm_batch.specs.Outputs.{SessionOutput, left_by}
 use Rattle.cpm_batch.specs.declared.output.SessionFiles.{SessionFiles}
 use Rattle.cpm_config.specs.declared.config.SessionConfig.{SessionConfig}
@@ -27,6 +26,7 @@ use Rattle.cpm_run.specs.Illegal.{bytes_at_pc}
 use Rattle.cpm_run.specs.Playing.{AllEnded, AreFinished, HavePlayers, IsClosed, files_by, report_by}
 use Rattle.cpm_run.specs.Run.{ReportEntry, files_left, session_output, report_view, reported_of, reports_of, run_of, start_of}
 use Rattle.cpm_run.specs.declared.report.SessionReport.{SessionReport}
+use Rattle.cpm_run.specs.Settled.{SettledSession}
 
 -- ---- one session
 
@@ -37,8 +37,8 @@ reported s ended count bytes pc at_pc = record { name = string_bytes s.name; end
 bytes_are : (s t : MachineState) → s.session.regs ≡ t.session.regs → s.memory ≡ t.memory → bytes_at_pc s ≡ bytes_at_pc t
 bytes_are s t regs memory = ap (λ (m : Contents). run_at m s.session.regs.pc 4) memory ∙ ap (λ (r : Regs). run_at t.memory r.pc 4) regs
 
-report_is : (system : Disk) (is : List SessionInput) (i : SessionInput) (s : SessionConfig) (p : ScriptedSlot) (closed : Closed) (last : MachineState) → i.session ≡ s → closed.look ≡ look_of last
-    → IsPlayed system i.keys i.session.steps (start_of is i) last p.console.items p.list.items → report_by s p closed (bytes_at_pc last) ≡ reported_of i.session (run_of system is i)
+report_is : (system : Disk) (is : List SettledSession) (i : SettledSession) (s : SessionConfig) (p : ScriptedSlot) (closed : Closed) (last : MachineState) → i.session ≡ s → closed.look ≡ look_of last
+    → IsPlayed system i.keys i.steps (start_of is i) last p.console.items p.list.items → report_by s p closed (bytes_at_pc last) ≡ reported_of i.session (run_of system is i)
 unfolding look_of run_of
 report_is system is i s p closed last same look played =
     let ended = ap (λ (l : Look). l.ended) look ∙ played.ended in
@@ -56,8 +56,8 @@ report_is system is i s p closed last same look played =
 abbrev output : SessionConfig → List ℕ → List ℕ → List (Option Disk) → SessionOutput
 output s console list drives = record { session = s; console = console; list = list; drives = drives }
 
-files_is : (system : Disk) (is : List SessionInput) (i : SessionInput) (s : SessionConfig) (p : ScriptedSlot) (closed : Closed) (last : MachineState) → i.session ≡ s → closed.drives ≡ images_of last.session.disks
-    → IsPlayed system i.keys i.session.steps (start_of is i) last p.console.items p.list.items → files_by s p closed ≡ session_output i.session (run_of system is i)
+files_is : (system : Disk) (is : List SettledSession) (i : SettledSession) (s : SessionConfig) (p : ScriptedSlot) (closed : Closed) (last : MachineState) → i.session ≡ s → closed.drives ≡ images_of last.session.disks
+    → IsPlayed system i.keys i.steps (start_of is i) last p.console.items p.list.items → files_by s p closed ≡ session_output i.session (run_of system is i)
 unfolding run_of
 files_is system is i s p closed last same drives played =
     ap (λ (t : SessionConfig). output t p.console.items p.list.items closed.drives) (sym same)
@@ -68,22 +68,22 @@ files_is system is i s p closed last same drives played =
 -- ---- one after another
 
 -- the input in turn, and the place behind it
-record IsAt (is : List SessionInput) (k next : ℕ) (s : SessionConfig) : Type 0 where
-  input : SessionInput
+record IsAt (is : List SettledSession) (k next : ℕ) (s : SessionConfig) : Type 0 where
+  input : SettledSession
   first : drop k is ≡ input ∷ drop next is
   more : take next is ≡ take k is ++ input ∷ []
   session : input.session ≡ s
 
-later : (i : SessionInput) (is : List SessionInput) (k : ℕ) (s : SessionConfig) → IsAt is k (suc k) s → IsAt (i ∷ is) (suc k) (suc (suc k)) s
-later i is k s at = record { input = at.input; first = at.first; more = ap (λ (xs : List SessionInput). i ∷ xs) at.more; session = at.session }
+later : (i : SettledSession) (is : List SettledSession) (k : ℕ) (s : SessionConfig) → IsAt is k (suc k) s → IsAt (i ∷ is) (suc k) (suc (suc k)) s
+later i is k s at = record { input = at.input; first = at.first; more = ap (λ (xs : List SettledSession). i ∷ xs) at.more; session = at.session }
 
-there : (is : List SessionInput) (sessions : List SessionConfig) (k : ℕ) (s : SessionConfig) → map (λ i. i.session) is ≡ sessions → k < length sessions → s ≡ get_or sessions k s → IsAt is k (suc k) s
+there : (is : List SettledSession) (sessions : List SessionConfig) (k : ℕ) (s : SessionConfig) → map (λ i. i.session) is ≡ sessions → k < length sessions → s ≡ get_or sessions k s → IsAt is k (suc k) s
 there [] sessions k s same below found = absurd (let none : length sessions ≡ 0 = ap length (sym same) in omega (arith, below, none))
 there (i ∷ is) [] k s same below found = absurd (omega (arith, below))
 there (i ∷ is) (t ∷ ts) zero s same below found = record { input = i; first = refl; more = refl; session = let h : i.session ≡ t = cc in h ∙ sym found }
 there (i ∷ is) (t ∷ ts) (suc k) s same below found = later i is k s (there is ts k s (let rest : map (λ j. j.session) is ≡ ts = cc in rest) (omega (arith, below)) found)
 
-is_at : (is : List SessionInput) (sessions : List SessionConfig) (k : ℕ) (s : SessionConfig) → map (λ i. i.session) is ≡ sessions → k < length sessions → s ≡ get_or sessions k s → IsAt is k (k + 1) s
+is_at : (is : List SettledSession) (sessions : List SessionConfig) (k : ℕ) (s : SessionConfig) → map (λ i. i.session) is ≡ sessions → k < length sessions → s ≡ get_or sessions k s → IsAt is k (k + 1) s
 is_at is sessions k s same below found =
     let next : suc k ≡ k + 1 = omega arith in
     subst (λ (n : ℕ). IsAt is k n s) next (there is sessions k s same below found)
@@ -109,7 +109,7 @@ none_there None none = refl
 none_there (Some x) none = absurd (none x refl)
 
 -- the other slots stay as they were
-ended_kept : (system : Disk) (all : List SessionInput) (p : ScriptedSlot) (old new : List SlotState) (is : List SessionInput) (ps : List Player) → ((id : ℕ) → id ≢ p.id.0 → slot_at id new ≡ slot_at id old)
+ended_kept : (system : Disk) (all : List SettledSession) (p : ScriptedSlot) (old new : List SlotState) (is : List SettledSession) (ps : List Player) → ((id : ℕ) → id ≢ p.id.0 → slot_at id new ≡ slot_at id old)
     → IsNone p.id.0 (ids_of ps) → AllEnded system all old is ps → AllEnded system all new is ps
 ended_kept system all p old new [] [] others apart ended = tt
 ended_kept system all p old new [] (q ∷ ps) others apart ended = absurd ended
@@ -120,14 +120,14 @@ ended_kept system all p old new (i ∷ is) (q ∷ ps) others apart ended =
     (record { slot = e.slot; plays = e.plays; last = e.last; stands = others e.slot.id.0 none.0 ∙ e.stands; played = e.played }, ended_kept system all p old new is ps others none.1 ended.1)
 
 -- the first of the sessions are reported, and the rest have ended
-pub record IsFinishedTo (system : Disk) (is : List SessionInput) (k : ℕ) (now : List SlotState) (rest : List Player) (reports : List SessionReport) (files : List SessionFiles) : Type 0 where
+pub record IsFinishedTo (system : Disk) (is : List SettledSession) (k : ℕ) (now : List SlotState) (rest : List Player) (reports : List SessionReport) (files : List SessionFiles) : Type 0 where
   pub differ : AllDiffer rest
   pub ended : AllEnded system is now (drop k is) rest
   pub rows : map report_view reports ≡ map (λ i. reported_of i.session (run_of system is i)) (take k is)
   pub outputs : map left_by files ≡ map (λ i. session_output i.session (run_of system is i)) (take k is)
 
 abbrev pub IsFinishing : List SessionConfig → ℕ → List SlotState → List SlotState → List Player → List Player → List SessionReport → List SessionFiles → Type 0
-IsFinishing sessions k start now players rest reports files = (system : Disk) (is : List SessionInput) → map (λ i. i.session) is ≡ sessions → AllEnded system is start is players
+IsFinishing sessions k start now players rest reports files = (system : Disk) (is : List SettledSession) → map (λ i. i.session) is ≡ sessions → AllEnded system is start is players
     → IsFinishedTo system is k now rest reports files
 
 -- what closing the next slot says
@@ -135,13 +135,13 @@ abbrev pub ClosesNextSlot : Host → Host → List Player → Option (ScriptedSl
 ClosesNextSlot old new rest r left = (p : ScriptedSlot) (ps : List Player) (s : MachineState) → rest ≡ Playing p ∷ ps → slot_at p.id.0 old.slots ≡ Some s → IsClosed p ps s old new r left
 
 module _ (sessions : List SessionConfig) (k : ℕ) (s : SessionConfig) (start : List SlotState) (old new : Host) (players : List Player) (r : Option (ScriptedSlot × Closed × List ℕ)) (left : List Player) (below : k < length sessions) (at : s ≡ get_or sessions k s) where
-  finish_one : (q : ScriptedSlot) (closed : Closed) (bytes : List ℕ) (rest : List Player) (reports : List SessionReport) (files : List SessionFiles) (report : SessionReport) (file : SessionFiles) (system : Disk) (is : List SessionInput)
+  finish_one : (q : ScriptedSlot) (closed : Closed) (bytes : List ℕ) (rest : List Player) (reports : List SessionReport) (files : List SessionFiles) (report : SessionReport) (file : SessionFiles) (system : Disk) (is : List SettledSession)
       → map (λ i. i.session) is ≡ sessions → IsFinishedTo system is k old.slots rest reports files → ClosesNextSlot old new rest r left → r ≡ Some (q, closed, bytes) → report_view report ≡ report_by s q closed bytes
       → left_by file ≡ files_by s q closed → IsFinishedTo system is (k + 1) new.slots left (reports ++ report ∷ []) (files ++ file ∷ [])
   unfolding who_of what_of bytes_of
   finish_one q closed bytes rest reports files report file system is same h closing got one other =
       let a = is_at is sessions k s same below at in
-      go a rest h.differ (subst (λ (xs : List SessionInput). AllEnded system is old.slots xs rest) a.first h.ended) closing
+      go a rest h.differ (subst (λ (xs : List SettledSession). AllEnded system is old.slots xs rest) a.first h.ended) closing
     where
       go : (a : IsAt is k (k + 1) s) (now : List Player) → AllDiffer now → AllEnded system is old.slots (a.input ∷ drop (k + 1) is) now → ClosesNextSlot old new now r left
           → IsFinishedTo system is (k + 1) new.slots left (reports ++ report ∷ []) (files ++ file ∷ [])
@@ -183,9 +183,9 @@ module _ (sessions : List SessionConfig) (k : ℕ) (s : SessionConfig) (start : 
   finished_early rest reports files h closing none = λ system is same all.
       let f = h system is same all in
       let a = is_at is sessions k s same below at in
-      absurd (go system is a rest (subst (λ (xs : List SessionInput). AllEnded system is old.slots xs rest) a.first f.ended) closing)
+      absurd (go system is a rest (subst (λ (xs : List SettledSession). AllEnded system is old.slots xs rest) a.first f.ended) closing)
     where
-      go : (system : Disk) (is : List SessionInput) (a : IsAt is k (k + 1) s) (now : List Player) → AllEnded system is old.slots (a.input ∷ drop (k + 1) is) now → ClosesNextSlot old new now r left → ⊥
+      go : (system : Disk) (is : List SettledSession) (a : IsAt is k (k + 1) s) (now : List Player) → AllEnded system is old.slots (a.input ∷ drop (k + 1) is) now → ClosesNextSlot old new now r left → ⊥
       go system is a [] all close = all
       go system is a (x ∷ ps) all close =
           let e = all.0 in
@@ -210,7 +210,7 @@ written_back n ps begun played whole first long =
     ap (λ (xs : List Player). take n (played ++ xs)) none ∙ ap (λ (xs : List Player). take n xs) (append-nil played) ∙ take_all n played (omega (arith, whole, same))
 
 -- sessions that had players and were played are reported, and leave their files, as their machines alone
-pub all_finished : (system : Disk) (old new : Host) (sessions slice : List SessionConfig) (is : List SessionInput) (ps begun played qs : List Player) (reports : List SessionReport)
+pub all_finished : (system : Disk) (old new : Host) (sessions slice : List SessionConfig) (is : List SettledSession) (ps begun played qs : List Player) (reports : List SessionReport)
     (files : List SessionFiles) → old.system ≡ system → slice ≡ sessions → begun ≡ ps → qs ≡ played → map (λ i. i.session) is ≡ sessions → HavePlayers old.slots is ps
     → AllPlayed old new begun played → AreFinished slice new.slots qs reports files → (map report_view reports ≡ reports_of system is) × (map left_by files ≡ files_left system is)
 all_finished system old new sessions slice is ps begun played qs reports files drive whole first last inputs slots h all =

@@ -1,7 +1,14 @@
 pub mod AtPcLemmas
 pub mod FinishLemmas
+pub mod OrderLemmas
+pub mod PartLemmas
 pub mod PlayLemmas
 pub mod PrepareLemmas
+pub mod RecordLemmas
 pub mod RunLemmas
 pub mod ScriptLemmas
+pub mod SettleLemmas
 pub mod SlotLemmas
+pub mod StageLemmas
+pub mod TrialLemmas
+pub mod TypedLemmas

@@ -1,7 +1,7 @@
 -- The players of sessions, before and after they are played.
 use Rattle.std.proofs.Common.{◌≡◌, ◌∙◌, ◌≤◌, ℕ, zero, suc, List, [], ◌∷◌, ◌++◌, Option, Some, None, length, ap, subst, sym, refl, arith, slice_get, sum_by, IfSome}
 use Rattle.std.proofs.lemmas.List.Sums.{sum_by-cons}
-use Rattle.cpm_batch.specs.Inputs.{Forks, IsOpened, Opens, SessionInput, StartInput}
+use Rattle.cpm_batch.specs.Inputs.{Forks, IsOpened, Opens, StartInput}
 use Rattle.cpm_flags.specs.declared.regs.Cpu.{Cpu}
 use Rattle.cpm_geom.specs.Disk.{Disk}
 use Rattle.cpm_script.specs.Fork.{keys_before}
@@ -19,19 +19,20 @@ use Rattle.cpm_play.specs.declared.player.Player.TheVariants.{Playing, Waiting}
 use Rattle.cpm_play.specs.declared.scripted_slot.ScriptedSlot.{ScriptedSlot}
 use Rattle.cpm_config.specs.declared.config.Config.{Config}
 use Rattle.cpm_run.specs.Playing.{AllEnded, ArePressable, HasEnded, HasPlayer, HasPlayerBy, HasSlot, HavePlayers, IsForkFor, IsForkPressable, IsForksRefusal, IsSessionsRefusal, IsPressableBy}
-use Rattle.cpm_run.specs.Run.{HasForkRoom, IsFirstRefused, IsShortFor, fork_of, fork_pages_in, forks_in, opening_at, opening_of, pages_by, start_by}
+use Rattle.cpm_run.specs.Run.{HasForkRoom, IsFirstRefused, IsShortFor, fork_of, fork_pages_in, forks_in, pages_by}
 use Rattle.cpm_run.specs.declared.error.RunError.{RunError}
 use Rattle.cpm_run.specs.declared.error.RunError.TheVariants as refusal
+use Rattle.cpm_run.specs.Settled.{SettledSession, opening_at, opening_of, start_by, starts_of}
 
 -- ---- the session of a player, and the slot of a session
 
 -- the session at a place, whose player this is
-record IsSessionOf (slots : List SlotState) (is : List SessionInput) (place : ℕ) (p : Player) : Type 0 where
-  input : SessionInput
+record IsSessionOf (slots : List SlotState) (is : List SettledSession) (place : ℕ) (p : Player) : Type 0 where
+  input : SettledSession
   there : slice_get is place ≡ Some input
   has : HasPlayer slots input p
 
-session_at : (slots : List SlotState) (is : List SessionInput) (ps : List Player) (place : ℕ) (p : Player) → HavePlayers slots is ps → slice_get ps place ≡ Some p → IsSessionOf slots is place p
+session_at : (slots : List SlotState) (is : List SettledSession) (ps : List Player) (place : ℕ) (p : Player) → HavePlayers slots is ps → slice_get ps place ≡ Some p → IsSessionOf slots is place p
 session_at slots [] [] place p all there = absurd (cc)
 session_at slots [] (q ∷ ps) place p all there = absurd all
 session_at slots (i ∷ is) [] place p all there = absurd all
@@ -41,31 +42,31 @@ session_at slots (i ∷ is) (q ∷ ps) (suc place) p all there =
     record { input = more.input; there = more.there; has = more.has }
 
 -- the scripted slot of an opened session at a place
-record HasSlotAt (slots : List SlotState) (ps : List Player) (place : ℕ) (i : SessionInput) : Type 0 where
+record HasSlotAt (slots : List SlotState) (ps : List Player) (place : ℕ) (i : SettledSession) : Type 0 where
   slot : ScriptedSlot
   plays : slice_get ps place ≡ Some (Playing slot)
   keys : script_keys slot ≡ i.keys
 
-slot_by : (slots : List SlotState) (ps : List Player) (place : ℕ) (b : StartInput) (i : SessionInput) (p : Player) → IsOpened b → HasPlayerBy slots b i p → slice_get ps place ≡ Some p
+slot_by : (slots : List SlotState) (ps : List Player) (place : ℕ) (b : StartInput) (i : SettledSession) (p : Player) → IsOpened b → HasPlayerBy slots b i p → slice_get ps place ≡ Some p
     → HasSlotAt slots ps place i
 slot_by slots ps place (Opens cpu quota drives) i (Playing slot) opened h there = record { slot = slot; plays = there; keys = h.keys }
 slot_by slots ps place (Opens cpu quota drives) i (Waiting fork) opened h there = absurd h
 slot_by slots ps place (Forks parent at) i p opened h there = absurd opened
 
-slot_there : (slots : List SlotState) (is : List SessionInput) (ps : List Player) (place : ℕ) (i : SessionInput) → HavePlayers slots is ps → slice_get is place ≡ Some i → IsOpened i.start
+slot_there : (slots : List SlotState) (is : List SettledSession) (ps : List Player) (place : ℕ) (i : SettledSession) → HavePlayers slots is ps → slice_get is place ≡ Some i → IsOpened i.start
     → HasSlotAt slots ps place i
 slot_there slots [] ps place i all there opened = absurd (cc)
 slot_there slots (j ∷ is) [] place i all there opened = absurd all
 slot_there slots (j ∷ is) (p ∷ ps) zero i all there opened =
     let same : j ≡ i = cc in
-    slot_by slots (p ∷ ps) zero i.start i p opened (subst (λ (x : SessionInput). HasPlayer slots x p) same all.0) refl
+    slot_by slots (p ∷ ps) zero i.start i p opened (subst (λ (x : SettledSession). HasPlayer slots x p) same all.0) refl
 slot_there slots (j ∷ is) (p ∷ ps) (suc place) i all there opened =
     let more = slot_there slots is ps place i all.1 there opened in
     record { slot = more.slot; plays = more.plays; keys = more.keys }
 
 -- ---- players can be played
 
-slot_ready : (slots : List SlotState) (cpu : Cpu) (quota : ℕ) (drives : List Disk) (i : SessionInput) (p : ScriptedSlot) → HasSlot slots (opened_machine cpu quota drives) i p → IsInOrder 0 i.keys
+slot_ready : (slots : List SlotState) (cpu : Cpu) (quota : ℕ) (drives : List Disk) (i : SettledSession) (p : ScriptedSlot) → HasSlot slots (opened_machine cpu quota drives) i p → IsInOrder 0 i.keys
     → length i.keys ≤ 4096 → IsReady slots p
 slot_ready slots cpu quota drives i p h order few = record {
   unplayed = h.unplayed;
@@ -76,7 +77,7 @@ slot_ready slots cpu quota drives i p h order few = record {
   fresh = record { keys = refl; screen = refl; printer = refl };
 }
 
-fork_ready : (slots : List SlotState) (is : List SessionInput) (ps : List Player) (i : SessionInput) (parent at : ℕ) (fork : Fork) → HavePlayers slots is ps → IsForkFor i parent at fork
+fork_ready : (slots : List SlotState) (is : List SettledSession) (ps : List Player) (i : SettledSession) (parent at : ℕ) (fork : Fork) → HavePlayers slots is ps → IsForkFor i parent at fork
     → IsForkPressable is i parent at → IsForkReady ps fork
 fork_ready slots is ps i parent at fork all h can =
     let other = slot_there slots is ps parent can.other all can.there can.opened in
@@ -90,32 +91,32 @@ fork_ready slots is ps i parent at fork all h can =
       within = let a = h.at in let s = h.steps in let w = can.within in omega (arith, a, s, w);
     }
 
-ready_by : (slots : List SlotState) (is : List SessionInput) (ps : List Player) (b : StartInput) (i : SessionInput) (p : Player) → HavePlayers slots is ps → HasPlayerBy slots b i p
+ready_by : (slots : List SlotState) (is : List SettledSession) (ps : List Player) (b : StartInput) (i : SettledSession) (p : Player) → HavePlayers slots is ps → HasPlayerBy slots b i p
     → IsPressableBy is b i → IsPlayerReady slots ps p
 ready_by slots is ps (Opens cpu quota drives) i (Playing slot) all h can = slot_ready slots cpu quota drives i slot h can.0 can.1
 ready_by slots is ps (Opens cpu quota drives) i (Waiting fork) all h can = absurd h
 ready_by slots is ps (Forks parent at) i (Playing slot) all h can = absurd h
 ready_by slots is ps (Forks parent at) i (Waiting fork) all h can = fork_ready slots is ps i parent at fork all h can
 
-pub all_ready : (slots : List SlotState) (is : List SessionInput) (ps : List Player) → HavePlayers slots is ps → ArePressable is → AllReady slots ps
+pub all_ready : (slots : List SlotState) (is : List SettledSession) (ps : List Player) → HavePlayers slots is ps → ArePressable is → AllReady slots ps
 all_ready slots is ps all can = λ place. by_player place (slice_get ps place) refl
   where
     by_player : (place : ℕ) (o : Option Player) → slice_get ps place ≡ o → IfSome o (IsPlayerReady slots ps)
     by_player place None there = tt
     by_player place (Some p) there =
         let s = session_at slots is ps place p all there in
-        let pressable = subst (λ (o : Option SessionInput). IfSome o (λ i. IsPressableBy is i.start i)) s.there (can place) in
+        let pressable = subst (λ (o : Option SettledSession). IfSome o (λ i. IsPressableBy is i.start i)) s.there (can place) in
         ready_by slots is ps s.input.start s.input p all s.has pressable
 
 -- ---- room for forks
 
-fork_by : (slots : List SlotState) (b : StartInput) (i : SessionInput) (p : Player) → HasPlayerBy slots b i p → is_fork p ≡ fork_of b
+fork_by : (slots : List SlotState) (b : StartInput) (i : SettledSession) (p : Player) → HasPlayerBy slots b i p → is_fork p ≡ fork_of b
 fork_by slots (Opens cpu quota drives) i (Playing slot) h = refl
 fork_by slots (Opens cpu quota drives) i (Waiting fork) h = absurd h
 fork_by slots (Forks parent at) i (Playing slot) h = absurd h
 fork_by slots (Forks parent at) i (Waiting fork) h = refl
 
-pub forks_are : (slots : List SlotState) (is : List SessionInput) (ps : List Player) → HavePlayers slots is ps → forks_of ps ≡ forks_in is
+pub forks_are : (slots : List SlotState) (is : List SettledSession) (ps : List Player) → HavePlayers slots is ps → forks_of ps ≡ forks_in (starts_of is)
 forks_are slots [] [] all = refl
 forks_are slots [] (p ∷ ps) all = absurd all
 forks_are slots (i ∷ is) [] all = absurd all
@@ -123,32 +124,32 @@ forks_are slots (i ∷ is) (p ∷ ps) all =
     let first = fork_by slots i.start i p all.0 in
     let rest = forks_are slots is ps all.1 in
     let a = sum_by-cons is_fork p ps in
-    let b = sum_by-cons (λ (x : SessionInput). fork_of x.start) i is in
+    let b = sum_by-cons fork_of i.start (starts_of is) in
     omega arith
 
 -- what the slot of a session at a place may write
-quota_by : (slots : List SlotState) (b : StartInput) (i : SessionInput) (p : Player) → HasPlayerBy slots b i p → quota_of (player_slot slots (Some p)) ≡ (opening_of b).quota
+quota_by : (slots : List SlotState) (b : StartInput) (i : SettledSession) (p : Player) → HasPlayerBy slots b i p → quota_of (player_slot slots (Some p)) ≡ (opening_of b).quota
 quota_by slots (Opens cpu quota drives) i (Playing slot) h = ap quota_of h.slot
 quota_by slots (Opens cpu quota drives) i (Waiting fork) h = absurd h
 quota_by slots (Forks parent at) i (Playing slot) h = absurd h
 quota_by slots (Forks parent at) i (Waiting fork) h = refl
 
-quota_there : (slots : List SlotState) (is : List SessionInput) (ps : List Player) (place : ℕ) → HavePlayers slots is ps
-    → quota_of (player_slot slots (slice_get ps place)) ≡ (opening_at (slice_get is place)).quota
+quota_there : (slots : List SlotState) (is : List SettledSession) (ps : List Player) (place : ℕ) → HavePlayers slots is ps
+    → quota_of (player_slot slots (slice_get ps place)) ≡ (opening_at (slice_get (starts_of is) place)).quota
 quota_there slots [] [] place all = refl
 quota_there slots [] (p ∷ ps) place all = absurd all
 quota_there slots (i ∷ is) [] place all = absurd all
 quota_there slots (i ∷ is) (p ∷ ps) zero all = quota_by slots i.start i p all.0
 quota_there slots (i ∷ is) (p ∷ ps) (suc place) all = quota_there slots is ps place all.1
 
-module _ (slots : List SlotState) (is : List SessionInput) (ps : List Player) (all : HavePlayers slots is ps) where
-  page_by : (b : StartInput) (i : SessionInput) (p : Player) → HasPlayerBy slots b i p → pages_of slots ps p ≡ pages_by is b
+module _ (slots : List SlotState) (is : List SettledSession) (ps : List Player) (all : HavePlayers slots is ps) where
+  page_by : (b : StartInput) (i : SettledSession) (p : Player) → HasPlayerBy slots b i p → pages_of slots ps p ≡ pages_by (starts_of is) b
   page_by (Opens cpu quota drives) i (Playing slot) h = refl
   page_by (Opens cpu quota drives) i (Waiting fork) h = absurd h
   page_by (Forks parent at) i (Playing slot) h = absurd h
   page_by (Forks parent at) i (Waiting fork) h = ap (λ (n : ℕ). quota_of (player_slot slots (slice_get ps n))) h.parent ∙ quota_there slots is ps parent all
 
-  pages_from : (js : List SessionInput) (qs : List Player) → HavePlayers slots js qs → sum_by (pages_of slots ps) qs ≡ sum_by (λ (i : SessionInput). pages_by is i.start) js
+  pages_from : (js : List SettledSession) (qs : List Player) → HavePlayers slots js qs → sum_by (pages_of slots ps) qs ≡ sum_by (pages_by (starts_of is)) (starts_of js)
   pages_from [] [] some = refl
   pages_from [] (q ∷ qs) some = absurd some
   pages_from (j ∷ js) [] some = absurd some
@@ -156,53 +157,53 @@ module _ (slots : List SlotState) (is : List SessionInput) (ps : List Player) (a
       let first = page_by j.start j q some.0 in
       let rest = pages_from js qs some.1 in
       let a = sum_by-cons (pages_of slots ps) q qs in
-      let b = sum_by-cons (λ (i : SessionInput). pages_by is i.start) j js in
+      let b = sum_by-cons (pages_by (starts_of is)) j.start (starts_of js) in
       omega arith
 
-  pub pages_are : fork_pages slots ps ≡ fork_pages_in is
+  pub pages_are : fork_pages slots ps ≡ fork_pages_in (starts_of is)
   pages_are = pages_from is ps all
 
-pub has_room : (h : Host) (is : List SessionInput) (ps : List Player) → HavePlayers h.slots is ps → HasRoomForForks h (forks_of ps) (fork_pages h.slots ps) → HasForkRoom is h
+pub has_room : (h : Host) (is : List SettledSession) (ps : List Player) → HavePlayers h.slots is ps → HasRoomForForks h (forks_of ps) (fork_pages h.slots ps) → HasForkRoom (starts_of is) h
 has_room h is ps all room =
-    subst (λ (n : ℕ). HasRoomForForks h (forks_in is) n) (pages_are h.slots is ps all) (subst (λ (n : ℕ). HasRoomForForks h n (fork_pages h.slots ps)) (forks_are h.slots is ps all) room)
+    subst (λ (n : ℕ). HasRoomForForks h (forks_in (starts_of is)) n) (pages_are h.slots is ps all) (subst (λ (n : ℕ). HasRoomForForks h n (fork_pages h.slots ps)) (forks_are h.slots is ps all) room)
 
 -- ---- once they were played
 
 -- the start of the one that another is forked from
-started_by : (slots : List SlotState) (b : StartInput) (i : SessionInput) (p : Player) (start : MachineState) → HasPlayerBy slots b i p → player_slot slots (Some p) ≡ Some start → start ≡ opening_of b
+started_by : (slots : List SlotState) (b : StartInput) (i : SettledSession) (p : Player) (start : MachineState) → HasPlayerBy slots b i p → player_slot slots (Some p) ≡ Some start → start ≡ opening_of b
 started_by slots (Opens cpu quota drives) i (Playing slot) start h is = let at = h.slot in cc
 started_by slots (Opens cpu quota drives) i (Waiting fork) start h is = absurd h
 started_by slots (Forks parent at) i (Playing slot) start h is = absurd h
 started_by slots (Forks parent at) i (Waiting fork) start h is = absurd (cc)
 
-started_there : (slots : List SlotState) (is : List SessionInput) (ps : List Player) (place : ℕ) (start : MachineState) → HavePlayers slots is ps → player_slot slots (slice_get ps place) ≡ Some start
-    → start ≡ opening_at (slice_get is place)
+started_there : (slots : List SlotState) (is : List SettledSession) (ps : List Player) (place : ℕ) (start : MachineState) → HavePlayers slots is ps → player_slot slots (slice_get ps place) ≡ Some start
+    → start ≡ opening_at (slice_get (starts_of is) place)
 started_there slots [] [] place start all at = absurd (cc)
 started_there slots [] (p ∷ ps) place start all at = absurd all
 started_there slots (i ∷ is) [] place start all at = absurd all
 started_there slots (i ∷ is) (p ∷ ps) zero start all at = started_by slots i.start i p start all.0 at
 started_there slots (i ∷ is) (p ∷ ps) (suc place) start all at = started_there slots is ps place start all.1 at
 
-module _ (system : Disk) (before now : List SlotState) (is : List SessionInput) (ps : List Player) (all : HavePlayers before is ps) where
-  start_is : (b : StartInput) (i : SessionInput) (p : Player) (start : MachineState) → HasPlayerBy before b i p → start_at before ps p ≡ Some start → start ≡ start_by is b
+module _ (system : Disk) (before now : List SlotState) (is : List SettledSession) (ps : List Player) (all : HavePlayers before is ps) where
+  start_is : (b : StartInput) (i : SettledSession) (p : Player) (start : MachineState) → HasPlayerBy before b i p → start_at before ps p ≡ Some start → start ≡ start_by (starts_of is) b
   start_is (Opens cpu quota drives) i (Playing slot) start h at = let there = h.slot in cc
   start_is (Opens cpu quota drives) i (Waiting fork) start h at = absurd h
   start_is (Forks parent count) i (Playing slot) start h at = absurd h
   start_is (Forks parent count) i (Waiting fork) start h at = started_there before is ps parent start all (ap (λ (n : ℕ). player_slot before (slice_get ps n)) (sym h.parent) ∙ at)
 
-  keys_are : (b : StartInput) (i : SessionInput) (p : Player) → HasPlayerBy before b i p → player_keys p ≡ i.keys
+  keys_are : (b : StartInput) (i : SettledSession) (p : Player) → HasPlayerBy before b i p → player_keys p ≡ i.keys
   keys_are (Opens cpu quota drives) i (Playing slot) h = h.keys
   keys_are (Opens cpu quota drives) i (Waiting fork) h = absurd h
   keys_are (Forks parent at) i (Playing slot) h = absurd h
   keys_are (Forks parent at) i (Waiting fork) h = h.keys
 
-  steps_are : (b : StartInput) (i : SessionInput) (p : Player) → HasPlayerBy before b i p → player_steps p ≡ i.session.steps
+  steps_are : (b : StartInput) (i : SettledSession) (p : Player) → HasPlayerBy before b i p → player_steps p ≡ i.steps
   steps_are (Opens cpu quota drives) i (Playing slot) h = h.steps
   steps_are (Opens cpu quota drives) i (Waiting fork) h = absurd h
   steps_are (Forks parent at) i (Playing slot) h = absurd h
   steps_are (Forks parent at) i (Waiting fork) h = h.steps
 
-  ended : (i : SessionInput) (p q : Player) → HasPlayer before i p → HasPlayed system before now ps p q → HasEnded system is now i q
+  ended : (i : SettledSession) (p q : Player) → HasPlayer before i p → HasPlayed system before now ps p q → HasEnded system is now i q
   ended i p q has h =
       let keys = subst (λ (ks : List Key). IsPlayed system ks (player_steps p) h.start h.last h.slot.console.items h.slot.list.items) (keys_are i.start i p has) h.session in
       let steps = subst (λ (n : ℕ). IsPlayed system i.keys n h.start h.last h.slot.console.items h.slot.list.items) (steps_are i.start i p has) keys in
@@ -211,10 +212,10 @@ module _ (system : Disk) (before now : List SlotState) (is : List SessionInput) 
         plays = h.plays;
         last = h.last;
         stands = h.stands;
-        played = subst (λ (s : MachineState). IsPlayed system i.keys i.session.steps s h.last h.slot.console.items h.slot.list.items) (start_is i.start i p h.start has h.started) steps;
+        played = subst (λ (s : MachineState). IsPlayed system i.keys i.steps s h.last h.slot.console.items h.slot.list.items) (start_is i.start i p h.start has h.started) steps;
       }
 
-  ended_from : (js : List SessionInput) (qs played : List Player) → HavePlayers before js qs → length played ≡ length qs
+  ended_from : (js : List SettledSession) (qs played : List Player) → HavePlayers before js qs → length played ≡ length qs
       → ((place : ℕ) (p q : Player) → slice_get qs place ≡ Some p → slice_get played place ≡ Some q → HasPlayed system before now ps p q) → AllEnded system is now js played
   ended_from [] [] [] some long each = tt
   ended_from [] [] (r ∷ rs) some long each = absurd (omega (arith, long))
@@ -231,15 +232,15 @@ module _ (system : Disk) (before now : List SlotState) (is : List SessionInput) 
 -- ---- refusals
 
 -- where forks are refused, once all that are opened are open
-pub fork_refused : (config : Config) (start now : Host) (is : List SessionInput) (ps : List Player) (e : RunError) → HavePlayers now.slots is ps
-    → ((whole : List SessionInput) (fault : OpenError) → IsShortFor now (forks_in whole) (fork_pages_in whole) fault → IsFirstRefused whole start is fault)
-    → IsForksRefusal config now (forks_of ps) (fork_pages now.slots ps) e → IsSessionsRefusal config start is e
+pub fork_refused : (config : Config) (start now : Host) (is : List SettledSession) (ps : List Player) (e : RunError) → HavePlayers now.slots is ps
+    → ((whole : List StartInput) (fault : OpenError) → IsShortFor now (forks_in whole) (fork_pages_in whole) fault → IsFirstRefused whole start (starts_of is) fault)
+    → IsForksRefusal config now (forks_of ps) (fork_pages now.slots ps) e → IsSessionsRefusal config start (starts_of is) e
 fork_refused config start now is ps e all short r =
-    by_error e (subst (λ (n : ℕ). IsForksRefusal config now (forks_in is) n e) (pages_are now.slots is ps all)
+    by_error e (subst (λ (n : ℕ). IsForksRefusal config now (forks_in (starts_of is)) n e) (pages_are now.slots is ps all)
     (subst (λ (n : ℕ). IsForksRefusal config now n (fork_pages now.slots ps) e) (forks_are now.slots is ps all) r))
   where
-    by_error : (e : RunError) → IsForksRefusal config now (forks_in is) (fork_pages_in is) e → IsSessionsRefusal config start is e
-    by_error (refusal.SessionRefused name fault) r = (r.0, short is fault r.1)
-    by_error (refusal.FramesExceeded name quotas frames) r = (r.0, r.1, short is fault.NoFrames r.2)
+    by_error : (e : RunError) → IsForksRefusal config now (forks_in (starts_of is)) (fork_pages_in (starts_of is)) e → IsSessionsRefusal config start (starts_of is) e
+    by_error (refusal.SessionRefused name fault) r = (r.0, short (starts_of is) fault r.1)
+    by_error (refusal.FramesExceeded name quotas frames) r = (r.0, r.1, short (starts_of is) fault.NoFrames r.2)
     by_error refusal.OutOfMemory r = tt
     by_error _ r = absurd r

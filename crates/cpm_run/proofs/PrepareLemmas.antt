@@ -1,8 +1,8 @@
 -- Sessions that are prepared one after another: opened, or to be forked.
-use Rattle.std.proofs.Common.{◌≡◌, ◌∙◌, inl, inr, ◌<◌, ◌+◌, ℕ, List, [], ◌∷◌, ◌++◌, Some, map, ap, refl, subst, sym, arith, append_assoc}
+use Rattle.std.proofs.Common.{◌≡◌, ◌∙◌, Bool, inl, inr, ◌<◌, ◌+◌, ℕ, List, [], ◌∷◌, ◌++◌, Some, map, ap, refl, subst, sym, arith, append_assoc}
 use Rattle.std.specs.Prelude.{⊤}
-use Rattle.cpm_batch.specs.Inputs.{Forks, Opens, SessionInput, StartInput, given, start_view}
-use Rattle.cpm_batch.specs.declared.input.Input.{Input}
+use Rattle.cpm_batch.specs.Inputs.{Forks, Opens, StartInput, start_view}
+use Rattle.cpm_run.specs.declared.settled.SettledInput.{SettledInput}
 use Rattle.cpm_batch.specs.declared.input.Start.{Start}
 use Rattle.cpm_batch.specs.declared.input.Start.TheVariants as start
 use Rattle.cpm_config.specs.declared.config.SessionConfig.{SessionConfig}
@@ -23,7 +23,8 @@ use Rattle.cpm_play.specs.declared.scripted_slot.ScriptedSlot.{ScriptedSlot}
 use Rattle.cpm_run.specs.Playing.{HasPlayer, HasPlayerBy, HasSlot, HavePlayers, IsForkFor, IsOpeningRefusal, IsPrepared, IsPreparedBy, IsSlotRefusal, IsStartRefusal, OpensSlot}
 use Rattle.cpm_run.specs.declared.error.RunError.{RunError}
 use Rattle.cpm_run.specs.declared.error.RunError.TheVariants as refusal
-use Rattle.cpm_run.specs.Run.{AllAccepted, AreOpenable, IsFirstRefused, IsOpening}
+use Rattle.cpm_run.specs.Run.{AllAccepted, IsFirstRefused, IsOpening}
+use Rattle.cpm_run.specs.Settled.{SettledSession, settled_view, starts_of}
 
 -- ---- numbers of slots
 
@@ -56,11 +57,11 @@ ids_waiting (Waiting other ∷ ps) fork = ids_waiting ps fork
 
 -- ---- players
 
-slot_later : (slots : List SlotState) (new : SlotState) (start : MachineState) (i : SessionInput) (p : ScriptedSlot) → p.id.0 < new.id → HasSlot slots start i p → HasSlot (slots ++ new ∷ []) start i p
+slot_later : (slots : List SlotState) (new : SlotState) (start : MachineState) (i : SettledSession) (p : ScriptedSlot) → p.id.0 < new.id → HasSlot slots start i p → HasSlot (slots ++ new ∷ []) start i p
 slot_later slots new start i p below s = record { slot = slot_at-added p.id.0 new slots below ∙ s.slot; keys = s.keys; steps = s.steps; unplayed = s.unplayed }
 
 -- a player stays one when another slot is opened
-player_later : (slots : List SlotState) (new : SlotState) (b : StartInput) (i : SessionInput) (p : Player) → AllNumbered new.id (ids_of (p ∷ [])) → HasPlayerBy slots b i p
+player_later : (slots : List SlotState) (new : SlotState) (b : StartInput) (i : SettledSession) (p : Player) → AllNumbered new.id (ids_of (p ∷ [])) → HasPlayerBy slots b i p
     → HasPlayerBy (slots ++ new ∷ []) b i p
 player_later slots new (Opens cpu quota drives) i (Playing q) below h = slot_later slots new (opened_machine cpu quota drives) i q below.0 h
 player_later slots new (Opens cpu quota drives) i (Waiting fork) below h = absurd h
@@ -71,7 +72,7 @@ first_numbered : (n : ℕ) (p : Player) (ps : List Player) → AllNumbered n (id
 first_numbered n (Playing q) ps h = ((h.0, tt), h.1)
 first_numbered n (Waiting fork) ps h = (tt, h)
 
-players_later : (slots : List SlotState) (new : SlotState) (is : List SessionInput) (ps : List Player) → AllNumbered new.id (ids_of ps) → HavePlayers slots is ps → HavePlayers (slots ++ new ∷ []) is ps
+players_later : (slots : List SlotState) (new : SlotState) (is : List SettledSession) (ps : List Player) → AllNumbered new.id (ids_of ps) → HavePlayers slots is ps → HavePlayers (slots ++ new ∷ []) is ps
 players_later slots new [] [] numbered all = tt
 players_later slots new [] (p ∷ ps) numbered all = absurd all
 players_later slots new (i ∷ is) [] numbered all = absurd all
@@ -79,7 +80,7 @@ players_later slots new (i ∷ is) (p ∷ ps) numbered all =
     let first = first_numbered new.id p ps numbered in
     (player_later slots new i.start i p first.0 all.0, players_later slots new is ps first.1 all.1)
 
-players_more : (slots : List SlotState) (is : List SessionInput) (ps : List Player) (i : SessionInput) (p : Player) → HavePlayers slots is ps → HasPlayer slots i p
+players_more : (slots : List SlotState) (is : List SettledSession) (ps : List Player) (i : SettledSession) (p : Player) → HavePlayers slots is ps → HasPlayer slots i p
     → HavePlayers slots (is ++ i ∷ []) (ps ++ p ∷ [])
 players_more slots [] [] i p all one = (one, tt)
 players_more slots [] (q ∷ ps) i p all one = absurd all
@@ -89,49 +90,48 @@ players_more slots (j ∷ is) (q ∷ ps) i p all one = (all.0, players_more slot
 -- ---- one session
 
 -- where its slot was opened
-pub opens_slot : (x : Input) (o : Opening) (old new : Host) (slot : ScriptedSlot) → x.start ≡ start.Opened o.cpu o.quota o.drives → OpensSlot o x.keys.items x.session.now.steps old new slot
-    → IsPrepared (given x) old new (Playing slot)
+pub opens_slot : (x : SettledInput) (o : Opening) (old new : Host) (slot : ScriptedSlot) → x.start ≡ start.Opened o.cpu o.quota o.drives → OpensSlot o x.keys.items x.steps old new slot
+    → IsPrepared (settled_view x) old new (Playing slot)
 opens_slot x o old new slot is h =
-    subst (λ (b : Start). IsPreparedBy (start_view b) (given x) old new (Playing slot)) (sym is) (o, record { cpu = refl; quota = refl; drives = refl }, h)
+    subst (λ (b : Start). IsPreparedBy (start_view b) (settled_view x) old new (Playing slot)) (sym is) (o, record { cpu = refl; quota = refl; drives = refl }, h)
 
 -- where it was refused
-pub start_refused : (x : Input) (o : Opening) (h : Host) (e : RunError) → x.start ≡ start.Opened o.cpu o.quota o.drives → IsOpeningRefusal h o e → IsStartRefusal h (given x).start e
+pub start_refused : (x : SettledInput) (o : Opening) (h : Host) (e : RunError) → x.start ≡ start.Opened o.cpu o.quota o.drives → IsOpeningRefusal h o e → IsStartRefusal h (settled_view x).start e
 start_refused x o h e is r = subst (λ (b : Start). IsStartRefusal h (start_view b) e) (sym is) (o, record { cpu = refl; quota = refl; drives = refl }, r)
 
 -- where it is to be forked
-pub waits : (x : Input) (fork : Fork) (h : Host) → x.start ≡ start.Forked fork.parent fork.at → IsForkFor (given x) fork.parent fork.at fork → IsPrepared (given x) h h (Waiting fork)
-waits x fork h is for = subst (λ (b : Start). IsPreparedBy (start_view b) (given x) h h (Waiting fork)) (sym is) (for, refl)
+pub waits : (x : SettledInput) (fork : Fork) (h : Host) → x.start ≡ start.Forked fork.parent fork.at → IsForkFor (settled_view x) fork.parent fork.at fork → IsPrepared (settled_view x) h h (Waiting fork)
+waits x fork h is for = subst (λ (b : Start). IsPreparedBy (start_view b) (settled_view x) h h (Waiting fork)) (sym is) (for, refl)
 
 -- ---- one after another
 
 -- the first sessions have their players, and the rest are still to come; what holds of all that are given is kept
-pub record IsPreparedTo (start now : Host) (all rest : List SessionInput) (ps : List Player) : Type 0 where
-  pub done : List SessionInput
+pub record IsPreparedTo (start now : Host) (all rest : List SettledSession) (ps : List Player) : Type 0 where
+  pub done : List SettledSession
   pub parts : done ++ rest ≡ all
   pub players : HavePlayers now.slots done ps
   pub below : AllBelow now.openings now.slots
   pub numbered : AllNumbered now.openings (ids_of ps)
   pub differ : AllDiffer ps
   pub system : now.system ≡ start.system
-  pub refused : (whole : List SessionInput) (fault : OpenError) → IsFirstRefused whole now rest fault → IsFirstRefused whole start all fault
-  pub accepted : (whole : List SessionInput) → AllAccepted whole now rest → AllAccepted whole start all
-  pub openable : AreOpenable now rest → AreOpenable start all
+  pub refused : (whole : List StartInput) (fault : OpenError) → IsFirstRefused whole now (starts_of rest) fault → IsFirstRefused whole start (starts_of all) fault
+  pub accepted : (whole : List StartInput) → AllAccepted whole now (starts_of rest) → AllAccepted whole start (starts_of all)
 
-abbrev input_of : SessionConfig → StartInput → List Key → SessionInput
-input_of session b keys = record { session = session; start = b; keys = keys }
+abbrev input_of : SessionConfig → StartInput → List Key → (before steps : ℕ) → Bool → SettledSession
+input_of session b keys before steps idle = record { session = session; start = b; keys = keys; before = before; steps = steps; is_idle = idle }
 
 -- the next of those still to come
-pub prepared_next : (start now : Host) (all : List SessionInput) (rest more : List Input) (x : Input) (ps : List Player) → rest ≡ x ∷ more → IsPreparedTo start now all (map given rest) ps
-    → IsPreparedTo start now all (given x ∷ map given more) ps
-prepared_next start now all rest more x ps steps h = subst (λ (xs : List Input). IsPreparedTo start now all (map given xs) ps) steps h
+pub prepared_next : (start now : Host) (all : List SettledSession) (rest more : List SettledInput) (x : SettledInput) (ps : List Player) → rest ≡ x ∷ more → IsPreparedTo start now all (map settled_view rest) ps
+    → IsPreparedTo start now all (settled_view x ∷ map settled_view more) ps
+prepared_next start now all rest more x ps steps h = subst (λ (xs : List SettledInput). IsPreparedTo start now all (map settled_view xs) ps) steps h
 
 -- one that is opened
-opened_more : (start now new : Host) (all rest : List SessionInput) (session : SessionConfig) (cpu : Cpu) (quota : ℕ) (drives : List Disk) (keys : List Key) (ps : List Player) (p : ScriptedSlot) (o : Opening)
-    → IsPreparedTo start now all (input_of session (Opens cpu quota drives) keys ∷ rest) ps → IsOpening cpu quota drives o → OpensSlot o keys session.steps now new p
+opened_more : (start now new : Host) (all rest : List SettledSession) (session : SessionConfig) (cpu : Cpu) (quota : ℕ) (drives : List Disk) (keys : List Key) (before steps : ℕ) (idle : Bool) (ps : List Player) (p : ScriptedSlot) (o : Opening)
+    → IsPreparedTo start now all (input_of session (Opens cpu quota drives) keys before steps idle ∷ rest) ps → IsOpening cpu quota drives o → OpensSlot o keys steps now new p
     → IsPreparedTo start new all rest (ps ++ Playing p ∷ [])
-opened_more start now new all rest session cpu quota drives keys ps p o h is open_slot =
+opened_more start now new all rest session cpu quota drives keys before steps idle ps p o h is open_slot =
     let n = now.openings in
-    let i = input_of session (Opens cpu quota drives) keys in
+    let i = input_of session (Opens cpu quota drives) keys before steps idle in
     let next = with_opened now o in
     let opening : opened_slot o ≡ opened_machine cpu quota drives =
     ap (λ cpu. opened_machine cpu o.quota o.drives.items) is.cpu ∙ ap (λ quota. opened_machine cpu quota o.drives.items) is.quota ∙ ap (λ drives. opened_machine cpu quota drives) is.drives in
@@ -149,16 +149,15 @@ opened_more start now new all rest session cpu quota drives keys ps p o h is ope
       system = h.system;
       refused = λ whole fault f. h.refused whole fault (o, is, inr (open_slot.accepted, f));
       accepted = λ whole more. h.accepted whole (o, is, open_slot.accepted, more);
-      openable = λ more. h.openable (o, is, open_slot.accepted, more);
     } in
     subst (λ (host : Host). IsPreparedTo start host all rest (ps ++ Playing p ∷ [])) (sym open_slot.host) made
 
 -- one that is to be forked
-forked_more : (start now new : Host) (all rest : List SessionInput) (session : SessionConfig) (parent at : ℕ) (keys : List Key) (ps : List Player) (fork : Fork)
-    → IsPreparedTo start now all (input_of session (Forks parent at) keys ∷ rest) ps → IsForkFor (input_of session (Forks parent at) keys) parent at fork → new ≡ now
+forked_more : (start now new : Host) (all rest : List SettledSession) (session : SessionConfig) (parent at : ℕ) (keys : List Key) (before steps : ℕ) (idle : Bool) (ps : List Player) (fork : Fork)
+    → IsPreparedTo start now all (input_of session (Forks parent at) keys before steps idle ∷ rest) ps → IsForkFor (input_of session (Forks parent at) keys before steps idle) parent at fork → new ≡ now
     → IsPreparedTo start new all rest (ps ++ Waiting fork ∷ [])
-forked_more start now new all rest session parent at keys ps fork h is same =
-    let i = input_of session (Forks parent at) keys in
+forked_more start now new all rest session parent at keys before steps idle ps fork h is same =
+    let i = input_of session (Forks parent at) keys before steps idle in
     let ids = ids_waiting ps fork in
     let made : IsPreparedTo start now all rest (ps ++ Waiting fork ∷ []) = record {
       done = h.done ++ i ∷ [];
@@ -170,31 +169,30 @@ forked_more start now new all rest session parent at keys ps fork h is same =
       system = h.system;
       refused = h.refused;
       accepted = h.accepted;
-      openable = h.openable;
     } in
     subst (λ (host : Host). IsPreparedTo start host all rest (ps ++ Waiting fork ∷ [])) (sym same) made
 
-more_by : (start now new : Host) (all rest : List SessionInput) (session : SessionConfig) (b : StartInput) (keys : List Key) (ps : List Player) (p : Player)
-    → IsPreparedTo start now all (input_of session b keys ∷ rest) ps → IsPreparedBy b (input_of session b keys) now new p → IsPreparedTo start new all rest (ps ++ p ∷ [])
-more_by start now new all rest session (Opens cpu quota drives) keys ps (Playing slot) h r = opened_more start now new all rest session cpu quota drives keys ps slot r.0 h r.1 r.2
-more_by start now new all rest session (Opens cpu quota drives) keys ps (Waiting fork) h r = absurd r
-more_by start now new all rest session (Forks parent at) keys ps (Playing slot) h r = absurd r
-more_by start now new all rest session (Forks parent at) keys ps (Waiting fork) h r = forked_more start now new all rest session parent at keys ps fork h r.0 r.1
+more_by : (start now new : Host) (all rest : List SettledSession) (session : SessionConfig) (b : StartInput) (keys : List Key) (before steps : ℕ) (idle : Bool) (ps : List Player) (p : Player)
+    → IsPreparedTo start now all (input_of session b keys before steps idle ∷ rest) ps → IsPreparedBy b (input_of session b keys before steps idle) now new p → IsPreparedTo start new all rest (ps ++ p ∷ [])
+more_by start now new all rest session (Opens cpu quota drives) keys before steps idle ps (Playing slot) h r = opened_more start now new all rest session cpu quota drives keys before steps idle ps slot r.0 h r.1 r.2
+more_by start now new all rest session (Opens cpu quota drives) keys before steps idle ps (Waiting fork) h r = absurd r
+more_by start now new all rest session (Forks parent at) keys before steps idle ps (Playing slot) h r = absurd r
+more_by start now new all rest session (Forks parent at) keys before steps idle ps (Waiting fork) h r = forked_more start now new all rest session parent at keys before steps idle ps fork h r.0 r.1
 
 -- one player more
-pub prepared_more : (start now new : Host) (all rest : List SessionInput) (i : SessionInput) (ps more : List Player) (p : Player) → IsPreparedTo start now all (i ∷ rest) ps
+pub prepared_more : (start now new : Host) (all rest : List SettledSession) (i : SettledSession) (ps more : List Player) (p : Player) → IsPreparedTo start now all (i ∷ rest) ps
     → IsPreparedBy i.start i now new p → more ≡ ps ++ p ∷ [] → IsPreparedTo start new all rest more
 prepared_more start now new all rest i ps more p h r pushed =
-    subst (λ (qs : List Player). IsPreparedTo start new all rest qs) (sym pushed) (more_by start now new all rest i.session i.start i.keys ps p h r)
+    subst (λ (qs : List Player). IsPreparedTo start new all rest qs) (sym pushed) (more_by start now new all rest i.session i.start i.keys i.before i.steps i.is_idle ps p h r)
 
-refused_by : (start now : Host) (all rest : List SessionInput) (session : SessionConfig) (b : StartInput) (keys : List Key) (ps : List Player) (e : RunError) (whole : List SessionInput)
-    → IsPreparedTo start now all (input_of session b keys ∷ rest) ps → IsStartRefusal now b e → IsSlotRefusal whole start all e
-refused_by start now all rest session (Opens cpu quota drives) keys ps (refusal.SessionRefused name fault) whole h r = h.refused whole fault (r.0, r.1, inl r.2)
-refused_by start now all rest session (Opens cpu quota drives) keys ps refusal.OutOfMemory whole h r = tt
-refused_by start now all rest session (Opens cpu quota drives) keys ps _ whole h r = absurd r.2
-refused_by start now all rest session (Forks parent at) keys ps e whole h r = absurd r
+refused_by : (start now : Host) (all rest : List SettledSession) (session : SessionConfig) (b : StartInput) (keys : List Key) (before steps : ℕ) (idle : Bool) (ps : List Player) (e : RunError) (whole : List StartInput)
+    → IsPreparedTo start now all (input_of session b keys before steps idle ∷ rest) ps → IsStartRefusal now b e → IsSlotRefusal whole start (starts_of all) e
+refused_by start now all rest session (Opens cpu quota drives) keys before steps idle ps (refusal.SessionRefused name fault) whole h r = h.refused whole fault (r.0, r.1, inl r.2)
+refused_by start now all rest session (Opens cpu quota drives) keys before steps idle ps refusal.OutOfMemory whole h r = tt
+refused_by start now all rest session (Opens cpu quota drives) keys before steps idle ps _ whole h r = absurd r.2
+refused_by start now all rest session (Forks parent at) keys before steps idle ps e whole h r = absurd r
 
 -- an opening that is refused
-pub prepare_refused : (start now : Host) (all rest : List SessionInput) (i : SessionInput) (ps : List Player) (e : RunError) → IsPreparedTo start now all (i ∷ rest) ps
-    → IsStartRefusal now i.start e → (whole : List SessionInput) → IsSlotRefusal whole start all e
-prepare_refused start now all rest i ps e h r whole = refused_by start now all rest i.session i.start i.keys ps e whole h r
+pub prepare_refused : (start now : Host) (all rest : List SettledSession) (i : SettledSession) (ps : List Player) (e : RunError) → IsPreparedTo start now all (i ∷ rest) ps
+    → IsStartRefusal now i.start e → (whole : List StartInput) → IsSlotRefusal whole start (starts_of all) e
+prepare_refused start now all rest i ps e h r whole = refused_by start now all rest i.session i.start i.keys i.before i.steps i.is_idle ps e whole h r

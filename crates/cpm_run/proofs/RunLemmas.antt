@@ -1,31 +1,175 @@
--- The calls that a run has made of a store.
-use Rattle.std.proofs.Common.{◌≡◌, ⊎_elim, subst, inl, inr, None, ℕ, List, [], ◌∷◌, ◌++◌}
-use Rattle.std.specs.Prelude.{Option}
-use Rattle.cpm_batch.specs.Inputs.{AreInputs, ImageIn, IsReadRefusal, Need, ForkedScriptIn, ScriptIn, SessionInput, needs_of}
+-- The calls that a run has made of a store, and how it is refused.
+use Rattle.std.proofs.Common.{◌≡◌, ◌≢◌, ◌∙◌, ◌⊎◌, ◌≤◌, ◌<◌, ◌+◌, ⊎_elim, inl, inr, ap, refl, subst, sym, arith, None, Some, Option, ℕ, zero, suc, List, [], ◌∷◌, ◌++◌, length, map, get_or, slice_get, Bool, true, false}
+use Rattle.std.specs.Prelude.{IfSome, if◌then◌else◌, nat_lt, ◌||◌, chars, option_map}
+use Rattle.std.proofs.lemmas.Bool.Decides.{nat_tests}
+use Rattle.std.proofs.lemmas.Option.{slice_get-get_or, slice_get-map}
+use Rattle.cpm_batch.specs.Inputs.{AreInputs, Forks, ImageIn, IsReadRefusal, Need, ForkedScriptIn, Opens, ScriptIn, SessionInput, StartInput, needs_of}
 use Rattle.cpm_batch.specs.Reads.{AreRead, StopsAtFault, StopsAtInput, StopsAtSession, StopsReading}
 use Rattle.cpm_batch.specs.declared.error.ReadError.{ReadError}
 use Rattle.cpm_batch.specs.declared.error.ReadError.TheVariants as reading
+use Rattle.cpm_command_line.specs.Shown.{shown_of}
 use Rattle.cpm_config.specs.declared.config.Config.{Config}
 use Rattle.cpm_config.specs.declared.config.SessionConfig.{SessionConfig}
+use Rattle.cpm_flags.specs.declared.regs.Cpu.{Cpu}
 use Rattle.cpm_geom.specs.Disk.{Disk}
-use Rattle.cpm_store.specs.Files.{StoreFiles}
-use Rattle.cpm_slots.specs.Host.{new_host}
+use Rattle.cpm_machine.specs.MachineState.{opened_machine}
+use Rattle.cpm_machine.specs.Opening.{drives_fault, fault_else, opening_fault}
+use Rattle.cpm_machine.specs.declared.opening.OpenError.{OpenError}
+use Rattle.cpm_machine.specs.declared.opening.OpenError.TheVariants as opening
+use Rattle.cpm_machine.specs.declared.opening.Opening.{Opening}
+use Rattle.cpm_play.specs.Players.{HasRoomForForks}
+use Rattle.cpm_slots.specs.Host.{Host, lacks_slot, new_host, quotas_of, refusal_of, room_fault, with_added, with_opened}
+use Rattle.cpm_store.specs.Files.{StoreFiles, WhereTold}
 use Rattle.cpm_store.specs.Log.{StoreAccess, AreNoWrites, AreWrites, LogLeadsBy, StopsAfter, Then}
-use Rattle.cpm_store.specs.Writes.{NamedBytes}
+use Rattle.cpm_store.specs.Writes.{NamedBytes, StopsAt, named_output}
+use Rattle.cpm_store.specs.declared.writes.Output.{Output}
 use Rattle.cpm_store.proofs.LogLemmas.{ran_then}
-use Rattle.cpm_run.specs.Playing.{IsSessionsRefusal}
+use Rattle.cpm_run.specs.Playing.{ArePressable, IsPressableBy, IsSessionsRefusal}
 use Rattle.cpm_run.specs.Refusals.{run_error_of_reading}
-use Rattle.cpm_run.specs.Run.{FailsAtWrite, IsRunRefusal, IsStoppedRun, IsWriteRefusal, outputs_of, config_fault}
+use Rattle.cpm_run.specs.Refusing.{FailsAtWrite, IsOutputAt, IsPlaceRefusal, IsRefusedAfterReading, IsRunRefusal, IsSettleRefusal, IsStoppedRun, IsWriteRefusal, LeavesAll, StopsWriting}
+use Rattle.cpm_run.specs.Run.{AllAccepted, AreParts, IsFirstRefused, IsOpening, IsShortFor, RunParts, config_fault, outputs_by, outputs_of, starts_read}
+use Rattle.cpm_run.specs.Settled.{AreSettled, AreUntouched, SettledSession, Streams, TypedSession, starts_of}
+use Rattle.cpm_run.specs.Settling.{AreBelow80h, AreSettledBy, AreSound}
 use Rattle.cpm_run.specs.declared.error.RunError.{RunError}
 use Rattle.cpm_run.specs.declared.error.RunError.TheVariants as refusal
+use Rattle.cpm_run.specs.declared.options.RunOptions.{RunOptions}
+
+-- ---- what was settled is what was read
+
+pub settled_starts : (system : Disk) (idle : Bool) (typed : Option TypedSession) (sessions : List SessionConfig) (before : List SettledSession) (is : List SessionInput) (ss : List SettledSession)
+    → AreSettled system idle typed sessions before is ss → starts_of ss ≡ starts_read is
+settled_starts system idle typed sessions before [] [] h = refl
+settled_starts system idle typed sessions before [] (s ∷ ss) h = absurd h
+settled_starts system idle typed sessions before (i ∷ is) [] h = absurd h
+settled_starts system idle typed sessions before (i ∷ is) (s ∷ ss) h =
+    ap (λ (b : StartInput). b ∷ starts_of ss) h.0.start ∙ ap (λ (bs : List StartInput). i.start ∷ bs) (settled_starts system idle typed sessions (before ++ s ∷ []) is ss h.1)
+
+pub settled_sessions : (system : Disk) (idle : Bool) (typed : Option TypedSession) (sessions : List SessionConfig) (before : List SettledSession) (is : List SessionInput) (ss : List SettledSession)
+    → AreSettled system idle typed sessions before is ss → map (λ s. s.session) ss ≡ map (λ i. i.session) is
+settled_sessions system idle typed sessions before [] [] h = refl
+settled_sessions system idle typed sessions before [] (s ∷ ss) h = absurd h
+settled_sessions system idle typed sessions before (i ∷ is) [] h = absurd h
+settled_sessions system idle typed sessions before (i ∷ is) (s ∷ ss) h =
+    ap (λ (x : SessionConfig). x ∷ map (λ s. s.session) ss) h.0.session ∙ ap (λ (xs : List SessionConfig). i.session ∷ xs) (settled_sessions system idle typed sessions (before ++ s ∷ []) is ss h.1)
+
+pub sound_pressable : (ss : List SettledSession) → AreSound ss → ArePressable ss
+sound_pressable ss sound = λ place. by_session (slice_get ss place) (sound place)
+  where
+    by_session : (o : Option SettledSession) → IfSome o (λ s. IsPressableBy ss s.start s × AreBelow80h s.keys) → IfSome o (λ s. IsPressableBy ss s.start s)
+    by_session None h = tt
+    by_session (Some s) h = h.0
+
+-- ---- none is refused that was accepted
+
+refusal_by : Host → ℕ → List Disk → Option OpenError
+refusal_by h quota drives = fault_else (if nat_lt quota 16 || nat_lt 256 quota then Some opening.BadQuota else drives_fault (length drives)) (room_fault h quota)
+
+refusal_is : (h : Host) (cpu : Cpu) (quota : ℕ) (drives : List Disk) (o : Opening) → IsOpening cpu quota drives o → refusal_of h o ≡ refusal_by h quota drives
+unfolding refusal_by
+refusal_is h cpu quota drives o is = ap (λ (n : ℕ). refusal_by h n o.drives.items) is.quota ∙ ap (λ (ds : List Disk). refusal_by h quota ds) is.drives
+
+host_is : (h : Host) (cpu : Cpu) (quota : ℕ) (drives : List Disk) (o : Opening) → IsOpening cpu quota drives o → with_opened h o ≡ with_added h (opened_machine cpu quota drives)
+host_is h cpu quota drives o is =
+    ap (λ (c : Cpu). with_added h (opened_machine c o.quota o.drives.items)) is.cpu ∙ ap (λ (n : ℕ). with_added h (opened_machine cpu n o.drives.items)) is.quota
+    ∙ ap (λ (ds : List Disk). with_added h (opened_machine cpu quota ds)) is.drives
+
+second_none : (a b : Option OpenError) → fault_else a b ≡ None → b ≡ None
+second_none None b e = e
+second_none (Some f) b e = absurd (cc)
+
+has_number : (h : Host) (quota : ℕ) → room_fault h quota ≡ None → lacks_slot h ≡ false
+has_number h quota none = by_test (lacks_slot h) refl none
+  where
+    by_test : (t : Bool) → lacks_slot h ≡ t → (if t then Some opening.NoSlot else (if nat_lt h.frames (quotas_of h.slots + quota) then Some opening.NoFrames else None)) ≡ None → t ≡ false
+    by_test false e n = refl
+    by_test true e n = absurd (cc)
+
+numbered : (h : Host) (o : Opening) → refusal_of h o ≡ None → h.openings ≤ 18446744073709551615 → h.openings + 1 ≤ 18446744073709551615
+numbered h o none low =
+    by_test (18446744073709551615) (has_number h o.quota (second_none (opening_fault o) (room_fault h o.quota) none))
+  where
+    by_test : (n : ℕ) → lacks_slot h ≡ false → h.openings + 1 ≤ 18446744073709551615
+    by_test n has = grind (arith, nat_tests)
+
+never_both : (all starts : List StartInput) (h : Host) (fault : OpenError) → h.openings ≤ 18446744073709551615 → AllAccepted all h starts → IsFirstRefused all h starts fault → ⊥
+never_both all [] h opening.NoSlot low room short =
+    ⊎_elim (λ slots. let s = room.slots in omega (arith, s, slots)) (λ numbers. by_forks _ room.numbers numbers) short
+  where
+    by_forks : (n : ℕ) → (0 < n → h.openings + n ≤ 18446744073709551615) → 18446744073709551615 < h.openings + n → ⊥
+    by_forks zero has over = omega (arith, low, over)
+    by_forks (suc n) has over = let r = has (omega arith) in omega (arith, r, over)
+never_both all [] h opening.NoFrames low room short = let f = room.frames in omega (arith, f, short)
+never_both all [] h _ low room short = absurd short
+never_both all (Opens cpu quota drives ∷ starts) h fault low was isn =
+    let same : refusal_of h was.0 ≡ refusal_of h isn.0 = refusal_is h cpu quota drives was.0 was.1 ∙ sym (refusal_is h cpu quota drives isn.0 isn.1) in
+    let next : with_opened h isn.0 ≡ with_opened h was.0 = host_is h cpu quota drives isn.0 isn.1 ∙ sym (host_is h cpu quota drives was.0 was.1) in
+    ⊎_elim (λ refused. let bad : None ≡ Some fault = sym was.2 ∙ (same ∙ refused) in cc)
+    (λ later. never_both all starts (with_opened h was.0) fault (numbered h was.0 was.2 low) was.3 (subst (λ (x : Host). IsFirstRefused all x starts fault) next later.1)) isn.2
+never_both all (Forks parent at ∷ starts) h fault low was isn = never_both all starts h fault low was isn
+
+-- ---- refusals
 
 -- what is needed could not be read, or is not what it should be
-pub reading_refused : (config : Config) (old new : Option StoreFiles) (e : ReadError) → config_fault config ≡ None → IsReadRefusal old config e → new ≡ old
-    → IsRunRefusal config old new (run_error_of_reading e)
-reading_refused config old new (reading.File name) faultless h same = (faultless, ⊎_elim (λ m. absurd (cc)) (λ f. f) h, same)
-reading_refused config old new (reading.Image name count) faultless h same = (faultless, ⊎_elim (λ m. absurd (cc)) (λ f. f) h, same)
-reading_refused config old new (reading.Script name line fault) faultless h same = (faultless, ⊎_elim (λ m. absurd (cc)) (λ f. f) h, same)
-reading_refused config old new reading.OutOfMemory faultless h same = inl same
+pub reading_refused : (config : Config) (options : RunOptions) (io : Streams) (old new : Option StoreFiles) (e : ReadError) → config_fault config ≡ None → IsReadRefusal old config e → LeavesAll io old new
+    → IsRunRefusal config options io old new (run_error_of_reading e)
+reading_refused config options io old new (reading.File name) faultless h same = (faultless, ⊎_elim (λ m. absurd (cc)) (λ f. f) h, same)
+reading_refused config options io old new (reading.Image name count) faultless h same = (faultless, ⊎_elim (λ m. absurd (cc)) (λ f. f) h, same)
+reading_refused config options io old new (reading.Script name line fault) faultless h same = (faultless, ⊎_elim (λ m. absurd (cc)) (λ f. f) h, same)
+reading_refused config options io old new reading.OutOfMemory faultless h same = inl same.same
+
+-- no session of that name can be typed at
+pub place_refused : (config : Config) (options : RunOptions) (io : Streams) (old new : Option StoreFiles) (e : RunError) → config_fault config ≡ None → IsPlaceRefusal config options e → LeavesAll io old new
+    → IsRunRefusal config options io old new e
+place_refused config options io old new (refusal.NoSession shown) faultless h same = (faultless, h, same)
+place_refused config options io old new (refusal.NotOpened shown) faultless h same = (faultless, h, same)
+place_refused config options io old new _ faultless h same = absurd h
+
+pub place_stopped : {S : Type 0} → (does : S → StoreAccess → S → Type 0) (config : Config) (options : RunOptions) (io : Streams) (s : S) (e : RunError) → LogLeadsBy does AreNoWrites s s → IsPlaceRefusal config options e
+    → IsStoppedRun does config options io s s e
+place_stopped does config options io s (refusal.NoSession shown) calls h = calls
+place_stopped does config options io s (refusal.NotOpened shown) calls h = calls
+place_stopped does config options io s _ calls h = absurd h
+
+-- settling is refused
+pub settle_refused : (config : Config) (options : RunOptions) (io : Streams) (system : Disk) (inputs : List SessionInput) (old new : Option StoreFiles) (e : RunError) → config_fault config ≡ None
+    → AreInputs old config system inputs → new ≡ old → IsSettleRefusal config options io system inputs e → IsRunRefusal config options io old new e
+settle_refused config options io system inputs old new e faultless read same r = by_error e r
+  where
+    after : (e : RunError) → IsSettleRefusal config options io system inputs e → IsRefusedAfterReading config options io old e
+    after e r = record { faultless = faultless; system = system; inputs = inputs; read = read; refused = r }
+
+    by_error : (e : RunError) → IsSettleRefusal config options io system inputs e → IsRunRefusal config options io old new e
+    by_error (refusal.SessionRefused name fault) r = (after (refusal.SessionRefused name fault) r, same)
+    by_error (refusal.FramesExceeded name quotas frames) r = (after (refusal.FramesExceeded name quotas frames) r, same)
+    by_error (refusal.InputUnreadable reason) r = (after (refusal.InputUnreadable reason) r, same)
+    by_error (refusal.OutputUnwritable reason) r = (after (refusal.OutputUnwritable reason) r, same)
+    by_error (refusal.RecordUnwritable reason) r = (after (refusal.RecordUnwritable reason) r, same)
+    by_error (refusal.TooManyKeys shown) r = (after (refusal.TooManyKeys shown) r, same)
+    by_error refusal.OutOfMemory r = inl same
+    by_error _ r = absurd r
+
+pub settle_stopped : {S : Type 0} → (does : S → StoreAccess → S → Type 0) (config : Config) (options : RunOptions) (io : Streams) (system : Disk) (inputs : List SessionInput) (old new : S) (e : RunError)
+    → LogLeadsBy does AreNoWrites old new → IsSettleRefusal config options io system inputs e → IsStoppedRun does config options io old new e
+settle_stopped does config options io system inputs old new (refusal.WriteFault name) calls r = absurd r
+settle_stopped does config options io system inputs old new (refusal.FileRefused e) calls r = absurd r
+settle_stopped does config options io system inputs old new refusal.OutOfMemory calls r = inl calls
+settle_stopped does config options io system inputs old new _ calls r = calls
+
+-- playing is refused: that is the same, since what was accepted isn't refused
+pub play_settled : (config : Config) (options : RunOptions) (io : Streams) (system : Disk) (inputs : List SessionInput) (settled : List SettledSession) (e : RunError)
+    → AreSettledBy config options io system inputs settled → IsSessionsRefusal config (new_host system config.frames) (starts_of settled) e → IsSettleRefusal config options io system inputs e
+play_settled config options io system inputs settled e h r =
+    by_error e (subst (λ (bs : List StartInput). IsSessionsRefusal config (new_host system config.frames) bs e)
+    (settled_starts system options.stops_idle h.typed config.sessions.items [] inputs settled h.keys) r)
+  where
+    untouched : (fault : OpenError) → IsFirstRefused (starts_read inputs) (new_host system config.frames) (starts_read inputs) fault → AreUntouched io
+    untouched fault isn = ⊎_elim (λ was. absurd (never_both (starts_read inputs) (starts_read inputs) (new_host system config.frames) fault (omega arith) was isn)) (λ same. same) h.judged
+
+    by_error : (e : RunError) → IsSessionsRefusal config (new_host system config.frames) (starts_read inputs) e → IsSettleRefusal config options io system inputs e
+    by_error (refusal.SessionRefused name fault) r = (r.0, r.1, untouched fault r.1)
+    by_error (refusal.FramesExceeded name quotas frames) r = (r.0, r.1, r.2, untouched opening.NoFrames r.2)
+    by_error refusal.OutOfMemory r = tt
+    by_error _ r = absurd r
 
 -- want of memory is no fault of a file
 none_for_memory : (ns : List Need) (log : List StoreAccess) → StopsAtFault ns reading.OutOfMemory log → ⊥
@@ -42,50 +186,76 @@ none_in_sessions before (s ∷ ss) log h =
 none_in_input : (config : Config) (log : List StoreAccess) → StopsAtInput config reading.OutOfMemory log → ⊥
 none_in_input config log h = ⊎_elim (λ f. f) (λ t. none_in_sessions [] config.sessions.items t.rest t.goes_on) h
 
-module _ {S : Type 0} (does : S → StoreAccess → S → Type 0) (config : Config) (start end : S) where
+module _ {S : Type 0} (does : S → StoreAccess → S → Type 0) (config : Config) (options : RunOptions) (io : Streams) (start end : S) where
   -- where what is needed could not be read, or is not what it should be
-  pub reading_stopped : (e : ReadError) → LogLeadsBy does (StopsReading config e) start end → IsStoppedRun does config start end (run_error_of_reading e)
+  pub reading_stopped : (e : ReadError) → LogLeadsBy does (StopsReading config e) start end → IsStoppedRun does config options io start end (run_error_of_reading e)
   reading_stopped (reading.File name) h = (h.0, ⊎_elim (λ m. let is = m.0 in absurd (cc)) (λ f. f) h.1, h.2)
   reading_stopped (reading.Image name count) h = (h.0, ⊎_elim (λ m. let is = m.0 in absurd (cc)) (λ f. f) h.1, h.2)
   reading_stopped (reading.Script name line fault) h = (h.0, ⊎_elim (λ m. let is = m.0 in absurd (cc)) (λ f. f) h.1, h.2)
   reading_stopped reading.OutOfMemory h = inl (h.0, ⊎_elim (λ m. m.1) (λ f. absurd (none_in_input config h.0 f)) h.1, h.2)
 
-  -- where a write is refused
-  pub writing_stopped : (ps : List NamedBytes) (old new : Option StoreFiles) (e : RunError) → IsWriteRefusal ps old new e → FailsAtWrite does config start end → IsStoppedRun does config start end e
-  writing_stopped ps old new (refusal.WriteFault name) r h = h
-  writing_stopped ps old new refusal.OutOfMemory r h = inr h
-  writing_stopped ps old new _ r h = absurd r
+-- ---- what was played
 
-  -- behind the reads, a write that failed
-  pub fails_at_write : (between : S) (system : Disk) (inputs : List SessionInput) (ps : List NamedBytes) (place : ℕ) → ps ≡ outputs_of system inputs → LogLeadsBy does (AreRead config system inputs) start between
-      → LogLeadsBy does (StopsAfter ps place) between end → FailsAtWrite does config start end
-  fails_at_write between system inputs ps place is reads writes = record {
-    system = system;
-    inputs = inputs;
-    place = place;
-    calls = ran_then does (AreRead config system inputs) (StopsAfter (outputs_of system inputs) place) start between end reads
-        (subst (λ (qs : List NamedBytes). LogLeadsBy does (StopsAfter qs place) between end) is writes);
-  }
+-- what comes together in a run that was settled so
+abbrev pub parts_by : (config : Config) (options : RunOptions) (io : Streams) (system : Disk) (inputs : List SessionInput) (settled : List SettledSession) → AreSettledBy config options io system inputs settled → RunParts
+parts_by config options io system inputs settled h = record { system = system; inputs = inputs; typed = h.typed; settled = settled }
 
-  -- behind the reads, all writes
-  pub read_and_written : (between : S) (system : Disk) (inputs : List SessionInput) (ps : List NamedBytes) → ps ≡ outputs_of system inputs → LogLeadsBy does (AreRead config system inputs) start between
-      → LogLeadsBy does (AreWrites ps) between end → LogLeadsBy does (Then (AreRead config system inputs) (AreWrites (outputs_of system inputs))) start end
-  read_and_written between system inputs ps is reads writes =
-      ran_then does (AreRead config system inputs) (AreWrites (outputs_of system inputs)) start between end reads (subst (λ (qs : List NamedBytes). LogLeadsBy does (AreWrites qs) between end) is writes)
+pub are_parts : (config : Config) (options : RunOptions) (io : Streams) (system : Disk) (inputs : List SessionInput) (settled : List SettledSession) (h : AreSettledBy config options io system inputs settled)
+    → AllAccepted (starts_of settled) (new_host system config.frames) (starts_of settled) → AreParts config options io (parts_by config options io system inputs settled h)
+are_parts config options io system inputs settled h accepted = record {
+  accepted = subst (λ (bs : List StartInput). AllAccepted bs (new_host system config.frames) bs) (settled_starts system options.stops_idle h.typed config.sessions.items [] inputs settled h.keys) accepted;
+  heard = h.heard;
+  keys = h.keys;
+}
 
--- where playing is refused
-pub play_refused : (config : Config) (system : Disk) (inputs : List SessionInput) (old new : Option StoreFiles) (e : RunError) → config_fault config ≡ None → AreInputs old config system inputs → new ≡ old
-    → IsSessionsRefusal config (new_host system config.frames) inputs e → IsRunRefusal config old new e
-play_refused config system inputs old new (refusal.SessionRefused name fault) faultless read same r =
-    (faultless, r.0, record { system = system; inputs = inputs; read = read; refused = r.1 }, same)
-play_refused config system inputs old new (refusal.FramesExceeded name quotas frames) faultless read same r =
-    (faultless, r.0, r.1, record { system = system; inputs = inputs; read = read; refused = r.2 }, same)
-play_refused config system inputs old new refusal.OutOfMemory faultless read same r = inl same
-play_refused config system inputs old new _ faultless read same r = absurd r
+-- where a write is refused
+pub write_refused : (config : Config) (options : RunOptions) (io : Streams) (parts : RunParts) (old new : Option StoreFiles) (ps : List NamedBytes) (place : ℕ) (e : RunError) → AreInputs old config parts.system parts.inputs
+    → AreParts config options io parts → ps ≡ outputs_by options parts → IsWriteRefusal ps place e → WhereTold old new (StopsAt ps place) → IsRunRefusal config options io old new e
+write_refused config options io parts old new ps place e read played are why stopped = by_error e why
+  where
+    stops : (e : RunError) → IsWriteRefusal ps place e → StopsWriting config options io old new e
+    stops e why = record {
+      parts = parts;
+      read = read;
+      played = played;
+      place = place;
+      stopped = subst (λ (qs : List NamedBytes). WhereTold old new (StopsAt qs place)) are stopped;
+      why = subst (λ (qs : List NamedBytes). IsWriteRefusal qs place e) are why;
+    }
 
-pub play_stopped : {S : Type 0} → (does : S → StoreAccess → S → Type 0) (config : Config) (old new : S) (system : Disk) (inputs : List SessionInput) (e : RunError) → LogLeadsBy does AreNoWrites old new
-    → IsSessionsRefusal config (new_host system config.frames) inputs e → IsStoppedRun does config old new e
-play_stopped does config old new system inputs (refusal.WriteFault name) calls r = absurd r
-play_stopped does config old new system inputs (refusal.FileRefused e) calls r = absurd r
-play_stopped does config old new system inputs refusal.OutOfMemory calls r = inl calls
-play_stopped does config old new system inputs _ calls r = calls
+    by_error : (e : RunError) → IsWriteRefusal ps place e → IsRunRefusal config options io old new e
+    by_error (refusal.WriteFault name) why = stops (refusal.WriteFault name) why
+    by_error refusal.OutOfMemory why = inr (stops refusal.OutOfMemory why)
+    by_error _ why = absurd why
+
+pub write_stopped : {S : Type 0} → (does : S → StoreAccess → S → Type 0) (config : Config) (options : RunOptions) (io : Streams) (parts : RunParts) (start between end : S) (ps : List NamedBytes) (place : ℕ) (e : RunError)
+    → AreParts config options io parts → ps ≡ outputs_by options parts → IsWriteRefusal ps place e → LogLeadsBy does (AreRead config parts.system parts.inputs) start between
+    → LogLeadsBy does (StopsAfter ps place) between end → IsStoppedRun does config options io start end e
+write_stopped {S} does config options io parts start between end ps place e played are why reads writes = by_error e why
+  where
+    fails : (e : RunError) → IsWriteRefusal ps place e → FailsAtWrite does config options io start end e
+    fails e why = record {
+      parts = parts;
+      played = played;
+      place = place;
+      calls = ran_then does (AreRead config parts.system parts.inputs) (StopsAfter (outputs_by options parts) place) start between end reads
+          (subst (λ (qs : List NamedBytes). LogLeadsBy does (StopsAfter qs place) between end) are writes);
+      why = subst (λ (qs : List NamedBytes). IsWriteRefusal qs place e) are why;
+    }
+
+    by_error : (e : RunError) → IsWriteRefusal ps place e → IsStoppedRun does config options io start end e
+    by_error (refusal.WriteFault name) why = fails (refusal.WriteFault name) why
+    by_error refusal.OutOfMemory why = inr (fails refusal.OutOfMemory why)
+    by_error _ why = absurd why
+
+-- all that is written, over the system drive of the run
+pub outputs_are : (options : RunOptions) (parts : RunParts) (system : Disk) (ps : List NamedBytes) → system ≡ parts.system → ps ≡ outputs_of system options.records.now parts.settled → ps ≡ outputs_by options parts
+outputs_are options parts system ps same are = are ∙ ap (λ (d : Disk). outputs_of d options.records.now parts.settled) same
+
+-- the output at a place, as it is named
+pub output_at : (outputs : List Output) (place : ℕ) (o : Output) (shown : List ℕ) → place < length outputs → o ≡ get_or outputs place o → shown ≡ shown_of (chars o.name.now) → IsOutputAt (map named_output outputs) place shown
+output_at outputs place o shown within is told = record {
+  output = named_output o;
+  there = slice_get-map named_output outputs place ∙ ap (option_map named_output) (slice_get-get_or outputs place o within ∙ ap (λ (x : Output). Some x) (sym is));
+  told = told;
+}

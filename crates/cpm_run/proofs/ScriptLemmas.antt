@@ -1,64 +1,48 @@
--- The keys of sessions are in order, and not too many.
-use Rattle.std.proofs.Common.{◌≡◌, ◌∙◌, ◌≤◌, ◌+◌, ℕ, zero, suc, Bool, true, false, List, [], ◌∷◌, ◌++◌, Option, Some, None, Ok, length, map, ap, refl, subst, sym, arith, append-nil, append_assoc, slice_get, if◌then◌else◌}
-use Rattle.std.specs.Prelude.{String, Result, IfOk, IfSome, pos, int_le, string_bytes}
+-- What the scripts of sessions say can be pressed.
+use Rattle.std.proofs.Common.{◌≡◌, ◌∙◌, ◌≤◌, ◌+◌, ℕ, zero, suc, Bool, true, false, List, [], ◌∷◌, ◌++◌, Option, Some, None, Ok, length, map, ap, refl, subst, sym, arith, slice_get, if◌then◌else◌}
+use Rattle.std.specs.List.{All}
+use Rattle.std.specs.Prelude.{String, Result, IfOk, option_map, pos, int_le, string_bytes}
 use Rattle.std.specs.declared.alloc.Global.{Global}
 use Rattle.std.proofs.lemmas.Bool.{and_parts}
 use Rattle.std.proofs.lemmas.Bool.Decides.{nat_tests}
 use Rattle.std.proofs.lemmas.List.{map-append}
-use Rattle.cpm_batch.specs.Inputs.{AllInputs, HasForkedKeys, HasInputOf, HasKeys, IsForkedInput, IsOpenedInput, SessionInput, StartInput}
+use Rattle.std.proofs.lemmas.List.Elements.{All-cons, All-nil}
+use Rattle.std.proofs.lemmas.Option.{slice_get-map}
+use Rattle.cpm_batch.specs.Inputs.{AllInputs, HasForkedSaid, HasInputOf, HasSaid, IsForkedInput, IsOpened, IsOpenedInput, SessionInput, StartInput, known_before}
+use Rattle.cpm_batch.proofs.KnownLemmas.{few-known}
 use Rattle.cpm_config.specs.Entries.{SessionEntries}
-use Rattle.cpm_config.specs.Rules.{at_fault, fork_field_fault, forks_fault, is_at, origin_fault, origin_view, parent_in, session_view}
+use Rattle.cpm_config.specs.Rules.{at_fault, fork_field_fault, forks_fault, is_at, is_opened, origin_fault, origin_view, parent_in, session_view}
 use Rattle.cpm_config.specs.declared.config.Origin.{Origin}
 use Rattle.cpm_config.specs.declared.config.Origin.TheVariants as origin
 use Rattle.cpm_config.specs.declared.config.SessionConfig.{SessionConfig}
 use Rattle.cpm_config.specs.declared.field.Field.TheVariants as field
 use Rattle.cpm_config.proofs.FaultLemmas.{neither}
 use Rattle.cpm_flags.specs.declared.regs.Cpu.{Cpu}
-use Rattle.cpm_script.specs.Fork.{keys_before}
-use Rattle.cpm_script.specs.Laws.{AreFrom, IsForked}
-use Rattle.cpm_script.specs.Script.{script}
+use Rattle.cpm_script.specs.Cues.{CueText, cues}
+use Rattle.cpm_script.specs.Fork.{forked_cues}
+use Rattle.cpm_script.specs.Laws.{AreInOrder, AreOwn, CountsRise}
 use Rattle.cpm_script.specs.declared.fault.LineFault.{LineFault}
-use Rattle.cpm_script.specs.declared.script.Key.{Key}
-use Rattle.cpm_script.proofs.ForkLemmas.{forked_script-keys, length-keys_before}
+use Rattle.cpm_script.proofs.CueLaws.{cues-ordered}
+use Rattle.cpm_script.proofs.ForkedCueLemmas.{own-ordered}
 use Rattle.cpm_store.specs.Files.{StoreFiles, StoreName}
-use Rattle.cpm_play.specs.Playing.{IsInOrder}
-use Rattle.cpm_play.proofs.ScriptLemmas.{script-order}
-use Rattle.cpm_run.specs.Playing.{ArePressable, IsForkPressable, IsPressableBy}
+use Rattle.cpm_run.specs.Run.{starts_read}
+use Rattle.cpm_run.specs.Settled.{forked_at}
+use Rattle.cpm_run.specs.Settling.{AreFitInputs, BeginsAsConfigured, HasParent, IsFitInput}
 
--- the keys can be pressed
-abbrev pub IsGood : List Key → Type 0
-IsGood keys = IsInOrder 0 keys × (length keys ≤ 4096)
+-- ---- what a script says
 
--- where there is no script
-pub no_keys : (keys : List Key) → keys ≡ [] → IsGood keys
-no_keys keys none = subst IsGood (sym none) (tt, omega arith)
+nothing_said : (said : List CueText) → said ≡ [] → AreInOrder said
+nothing_said said none = subst AreInOrder (sym none) (record { few = omega arith; counts = tt; ascii = tt; presses = tt })
 
--- those of a script
-pub of_script : (text : List ℕ) (keys : List Key) → script text ≡ Ok keys → IsGood keys
-of_script text keys is = subst (λ (r : Result (List Key) (ℕ × LineFault)). IfOk r IsGood) is (script-order text)
+opened_order : (files : Option StoreFiles) (name : Option (String Global)) (said : List CueText) → HasSaid files name said → AreInOrder said
+opened_order files None said none = nothing_said said none
+opened_order files (Some name) said some = subst (λ (r : Result (List CueText) (ℕ × LineFault)). IfOk r AreInOrder) some.read (cues-ordered some.text)
 
-session_good : (files : Option StoreFiles) (name : Option (String Global)) (keys : List Key) → HasKeys files name keys → IsGood keys
-session_good files None keys none = no_keys keys none
-session_good files (Some name) keys some = of_script some.text keys some.read
-
--- ---- of a session that is forked
-
-in_order : (n : ℕ) (keys : List Key) → AreFrom n keys → IsInOrder n keys
-in_order n [] order = tt
-in_order n (k ∷ keys) order = (order.0, in_order k.count keys order.1)
-
--- the parent's keys before a fork, and own ones behind them
-record AreForkedKeys (at : ℕ) (before keys : List Key) : Type 0 where
-  own : List Key
-  joined : keys ≡ before ++ own
-  order : IsInOrder at own
-  few : length keys ≤ 4096
-
-forked_good : (files : Option StoreFiles) (name : Option (String Global)) (at : ℕ) (before keys : List Key) → length before ≤ 4096 → HasForkedKeys files name at before keys → AreForkedKeys at before keys
-forked_good files None at before keys few same = record { own = []; joined = same ∙ sym (append-nil before); order = tt; few = subst (λ (ks : List Key). length ks ≤ 4096) (sym same) few }
-forked_good files (Some name) at before keys few some =
-    let forked : IsForked at before keys = subst (λ (r : Result (List Key) (ℕ × LineFault)). IfOk r (IsForked at before)) some.read (forked_script-keys at before some.text few) in
-    record { own = forked.own; joined = forked.joined; order = in_order at forked.own forked.from_fork; few = forked.room }
+forked_order : (files : Option StoreFiles) (name : Option (String Global)) (at before : ℕ) (said : List CueText) → before ≤ 4096 → HasForkedSaid files name at before said → AreInOrder said × CountsRise at said
+forked_order files None at before said few none = (nothing_said said none, subst (CountsRise at) (sym none) tt)
+forked_order files (Some name) at before said few some =
+    let own : AreOwn at before said = subst (λ (r : Result (List CueText) (ℕ × LineFault)). IfOk r (AreOwn at before)) some.read (own-ordered at before some.text few) in
+    (own.in_order, own.from_fork)
 
 -- a fork that breaks no rule is at none of the steps that the session doesn't have
 at_within : (parent : Option SessionEntries) (steps at : ℕ) → at_fault parent (pos steps) (pos at) ≡ None → at ≤ steps
@@ -74,78 +58,75 @@ at_within (Some parent) steps at none = by_test (is_at parent.steps (pos steps) 
 
 -- ---- of each session
 
--- the keys of each are not too many
-abbrev AreFew : List SessionInput → Type 0
-AreFew is = (place : ℕ) (i : SessionInput) → slice_get is place ≡ Some i → length i.keys ≤ 4096
+-- what each of them says is in order
+abbrev AreOrdered : List SessionInput → Type 0
+AreOrdered is = (place : ℕ) (i : SessionInput) → slice_get is place ≡ Some i → AreInOrder i.said
 
-few_more : (is : List SessionInput) (i : SessionInput) → AreFew is → length i.keys ≤ 4096 → AreFew (is ++ i ∷ [])
-few_more [] i all one zero j there = let same : i ≡ j = cc in subst (λ (x : SessionInput). length x.keys ≤ 4096) same one
-few_more [] i all one (suc place) j there = absurd (cc)
-few_more (k ∷ is) i all one zero j there = all zero j there
-few_more (k ∷ is) i all one (suc place) j there = few_more is i (λ p x at. all (suc p) x at) one place j there
+ordered_more : (is : List SessionInput) (i : SessionInput) → AreOrdered is → AreInOrder i.said → AreOrdered (is ++ i ∷ [])
+ordered_more [] i all one zero j there = let same : i ≡ j = cc in subst (λ (x : SessionInput). AreInOrder x.said) same one
+ordered_more [] i all one (suc place) j there = absurd (cc)
+ordered_more (k ∷ is) i all one zero j there = all zero j there
+ordered_more (k ∷ is) i all one (suc place) j there = ordered_more is i (λ p x at. all (suc p) x at) one place j there
 
-there_before : (before is : List SessionInput) (place : ℕ) (i : SessionInput) → slice_get before place ≡ Some i → slice_get (before ++ is) place ≡ Some i
-there_before [] is place i there = absurd (cc)
-there_before (k ∷ before) is zero i there = there
-there_before (k ∷ before) is (suc place) i there = there_before before is place i there
+opened_fit : (files : Option StoreFiles) (starts : List StartInput) (cpu : Cpu) (quota : ℕ) (names : List (String Global)) (i : SessionInput) → IsOpenedInput files cpu quota names i → IsFitInput None starts i
+opened_fit files starts cpu quota names i h =
+    let order = opened_order files i.session.keys i.said h.said in
+    record {
+      order = order;
+      from_fork = subst (λ (b : StartInput). CountsRise (forked_at b) i.said) (sym h.start) order.counts;
+      within = subst (λ (b : StartInput). forked_at b ≤ i.session.steps) (sym h.start) (omega arith);
+      parent = subst (HasParent starts) (sym h.start) tt;
+    }
 
--- one of them, behind those before it
-record IsGoodInput (all : List SessionInput) (i : SessionInput) : Type 0 where
-  few : length i.keys ≤ 4096
-  pressable : IsPressableBy all i.start i
+fork_fit : (files : Option StoreFiles) (before : List SessionInput) (name : StoreName) (at : ℕ) (i : SessionInput) → AreOrdered before → IsForkedInput files before name at i → at ≤ i.session.steps
+    → IsFitInput None (starts_read before) i
+fork_fit files before name at i ordered h within =
+    let parent = ordered h.place h.parent h.found.there in
+    let few = few-known at h.parent.said parent.few in
+    let said = forked_order files i.session.keys at (known_before at h.parent.said) i.said few h.said in
+    let there : slice_get (starts_read before) h.place ≡ Some h.parent.start = slice_get-map (λ (x : SessionInput). x.start) before h.place ∙ ap (option_map (λ (x : SessionInput). x.start)) h.found.there in
+    record {
+      order = said.0;
+      from_fork = subst (λ (b : StartInput). CountsRise (forked_at b) i.said) (sym h.start) said.1;
+      within = subst (λ (b : StartInput). forked_at b ≤ i.session.steps) (sym h.start) within;
+      parent = subst (HasParent (starts_read before)) (sym h.start) (h.parent.start, there, h.found.opened);
+    }
 
-opened_good : (files : Option StoreFiles) (all : List SessionInput) (cpu : Cpu) (quota : ℕ) (names : List (String Global)) (i : SessionInput) → IsOpenedInput files cpu quota names i → IsGoodInput all i
-opened_good files all cpu quota names i h =
-    let good = session_good files i.session.keys i.keys h.keys in
-    record { few = good.1; pressable = subst (λ (b : StartInput). IsPressableBy all b i) (sym h.start) good }
-
-fork_good : (files : Option StoreFiles) (before is : List SessionInput) (name : StoreName) (at : ℕ) (i : SessionInput) → AreFew before → IsForkedInput files before name at i → at ≤ i.session.steps
-    → IsGoodInput (before ++ is) i
-fork_good files before is name at i few h within =
-    let parent = h.parent in
-    let fits : length (keys_before at parent.keys) ≤ 4096 = omega (arith, length-keys_before at parent.keys, few h.place parent h.found.there) in
-    let keys = forked_good files i.session.keys at (keys_before at parent.keys) i.keys fits h.keys in
-    let can : IsForkPressable (before ++ is) i h.place at = record {
-      other = parent;
-      there = there_before before is h.place parent h.found.there;
-      opened = h.found.opened;
-      own = keys.own;
-      keys = keys.joined;
-      order = keys.order;
-      few = keys.few;
-      within = within;
-    } in
-    record { few = keys.few; pressable = subst (λ (b : StartInput). IsPressableBy (before ++ is) b i) (sym h.start) can }
-
-input_good : (files : Option StoreFiles) (before is : List SessionInput) (o : Origin) (i : SessionInput) → AreFew before → HasInputOf files before o i
-    → origin_fault (map (λ x. session_view x.session) before) (pos i.session.steps) (origin_view o) ≡ None → IsGoodInput (before ++ is) i
-input_good files before is (origin.Opened cpu quota drives) i few h none = opened_good files (before ++ is) cpu quota drives.items i h
-input_good files before is (origin.Forked parent at) i few h none =
-    fork_good files before is (string_bytes parent) at i few h (at_within (parent_in (map (λ x. session_view x.session) before) (string_bytes parent)) i.session.steps at none)
-
-at_place : (all : List SessionInput) (i : SessionInput) (is : List SessionInput) → IsPressableBy all i.start i → ((place : ℕ) → IfSome (slice_get is place) (λ j. IsPressableBy all j.start j))
-    → (place : ℕ) → IfSome (slice_get (i ∷ is) place) (λ j. IsPressableBy all j.start j)
-at_place all i is first rest zero = first
-at_place all i is first rest (suc place) = rest place
+input_fit : (files : Option StoreFiles) (before : List SessionInput) (o : Origin) (i : SessionInput) → AreOrdered before → HasInputOf files before o i
+    → origin_fault (map (λ x. session_view x.session) before) (pos i.session.steps) (origin_view o) ≡ None → IsFitInput None (starts_read before) i
+input_fit files before (origin.Opened cpu quota drives) i ordered h none = opened_fit files (starts_read before) cpu quota drives.items i h
+input_fit files before (origin.Forked parent at) i ordered h none =
+    fork_fit files before (string_bytes parent) at i ordered h (at_within (parent_in (map (λ x. session_view x.session) before) (string_bytes parent)) i.session.steps at none)
 
 seen_sessions : (is : List SessionInput) → map (λ x. session_view x.session) is ≡ map session_view (map (λ i. i.session) is)
 seen_sessions [] = refl
 seen_sessions (i ∷ is) = ap (λ ss. session_view i.session ∷ ss) (seen_sessions is)
 
-pressable_from : (files : Option StoreFiles) (n : ℕ) (before is : List SessionInput) → AreFew before → AllInputs files before is
-    → forks_fault n (map (λ x. session_view x.session) before) (map (λ x. session_view x.session) is) ≡ None
-    → (place : ℕ) → IfSome (slice_get is place) (λ i. IsPressableBy (before ++ is) i.start i)
-pressable_from files n before [] few h none place = tt
-pressable_from files n before (i ∷ is) few h none place =
+fit_from : (files : Option StoreFiles) (n : ℕ) (before is : List SessionInput) → AreOrdered before → AllInputs files before is
+    → forks_fault n (map (λ x. session_view x.session) before) (map (λ x. session_view x.session) is) ≡ None → AreFitInputs None (starts_read before) is
+fit_from files n before [] ordered h none = tt
+fit_from files n before (i ∷ is) ordered h none =
     let apart = neither n (fork_field_fault (map (λ x. session_view x.session) before) (session_view i.session)) _ none in
-    let good = input_good files before (i ∷ is) i.session.origin i few h.0 apart.0 in
+    let fit = input_fit files before i.session.origin i ordered h.0 apart.0 in
     let later = ap (λ (seen : List SessionEntries). forks_fault (n + 1) seen (map (λ x. session_view x.session) is)) (map-append (λ (x : SessionInput). session_view x.session) before (i ∷ [])) ∙ apart.1 in
-    at_place (before ++ i ∷ is) i is good.pressable
-    (λ next. subst (λ (all : List SessionInput). IfSome (slice_get is next) (λ j. IsPressableBy all j.start j)) (append_assoc before (i ∷ []) is)
-    (pressable_from files (n + 1) (before ++ i ∷ []) is (few_more before i few good.few) h.1 later next)) place
+    let starts : starts_read (before ++ i ∷ []) ≡ starts_read before ++ i.start ∷ [] = map-append (λ (x : SessionInput). x.start) before (i ∷ []) in
+    (fit, subst (λ (bs : List StartInput). AreFitInputs None bs is) starts (fit_from files (n + 1) (before ++ i ∷ []) is (ordered_more before i ordered fit.order) h.1 later))
 
-pub inputs_pressable : (files : Option StoreFiles) (sessions : List SessionConfig) (is : List SessionInput) → map (λ i. i.session) is ≡ sessions → AllInputs files [] is
-    → forks_fault 1 [] (map session_view sessions) ≡ None → ArePressable is
-inputs_pressable files sessions is same h none =
+pub inputs_fit : (files : Option StoreFiles) (sessions : List SessionConfig) (is : List SessionInput) → map (λ i. i.session) is ≡ sessions → AllInputs files [] is
+    → forks_fault 1 [] (map session_view sessions) ≡ None → AreFitInputs None [] is
+inputs_fit files sessions is same h none =
     let seen : map (λ x. session_view x.session) is ≡ map session_view sessions = seen_sessions is ∙ ap (map session_view) same in
-    pressable_from files 1 [] is (λ place i there. absurd (cc)) h (ap (forks_fault 1 []) seen ∙ none)
+    fit_from files 1 [] is (λ place i there. absurd (cc)) h (ap (forks_fault 1 []) seen ∙ none)
+
+-- ---- a session begins as the configuration says
+
+begins : (files : Option StoreFiles) (before : List SessionInput) (o : Origin) (i : SessionInput) → HasInputOf files before o i → is_opened (origin_view o) ≡ true → IsOpened i.start
+begins files before (origin.Opened cpu quota drives) i h opened = subst IsOpened (sym h.start) tt
+begins files before (origin.Forked parent at) i h opened = absurd (cc)
+
+begin_from : (files : Option StoreFiles) (before is : List SessionInput) → AllInputs files before is → All BeginsAsConfigured is
+begin_from files before [] h = All-nil BeginsAsConfigured
+begin_from files before (i ∷ is) h = All-cons BeginsAsConfigured i is (begins files before i.session.origin i h.0) (begin_from files (before ++ i ∷ []) is h.1)
+
+pub inputs_begin : (files : Option StoreFiles) (is : List SessionInput) → AllInputs files [] is → All BeginsAsConfigured is
+inputs_begin files is h = begin_from files [] is h

@@ -1,4 +1,7 @@
 pub mod Illegal
 pub mod Playing
 pub mod Refusals
+pub mod Refusing
 pub mod Run
+pub mod Settled
+pub mod Settling

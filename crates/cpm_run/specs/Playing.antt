@@ -1,6 +1,6 @@
 -- Sessions of a configuration in the slots of a host. All of it is own.
 use Rattle.std.specs.Prelude.{⊤, ◌≡◌, ◌≢◌, ℕ, List, [], ◌∷◌, ◌++◌, ◌≤◌, length, map, slice_get, Option, Some, None, IfSome, string_bytes}
-use Rattle.cpm_batch.specs.Inputs.{Forks, IsOpened, Opens, SessionInput, StartInput}
+use Rattle.cpm_batch.specs.Inputs.{Forks, IsOpened, Opens, StartInput}
 use Rattle.cpm_batch.specs.Outputs.{SessionOutput, left_by}
 use Rattle.cpm_batch.specs.declared.output.SessionFiles.{SessionFiles}
 use Rattle.cpm_config.specs.declared.config.Config.{Config}
@@ -27,6 +27,7 @@ use Rattle.cpm_run.specs.declared.report.SessionReport.{SessionReport}
 use Rattle.cpm_run.specs.declared.error.RunError.{RunError}
 use Rattle.cpm_run.specs.declared.error.RunError.TheVariants as refusal
 use Rattle.cpm_script.specs.Script.{most_keys}
+use Rattle.cpm_run.specs.Settled.{SettledSession}
 
 -- ---- before they are played
 
@@ -40,39 +41,39 @@ pub record OpensSlot (opening : Opening) (all : List Key) (count : ℕ) (old new
   pub unplayed : IsNew p
 
 -- what is to be forked for a session
-pub record IsForkFor (i : SessionInput) (place count : ℕ) (fork : Fork) : Type 0 where
+pub record IsForkFor (i : SettledSession) (place count : ℕ) (fork : Fork) : Type 0 where
   pub parent : fork.parent ≡ place
   pub at : fork.at ≡ count
   pub keys : fork.keys.items ≡ i.keys
-  pub steps : fork.steps ≡ i.session.steps
+  pub steps : fork.steps ≡ i.steps
 
 -- a session that begins so is prepared: its slot was opened, or is to be forked
-abbrev pub IsPreparedBy : StartInput → SessionInput → Host → Host → Player → Type 0
-IsPreparedBy (Opens cpu quota drives) i old new (Playing slot) = (o : Opening) × IsOpening cpu quota drives o × OpensSlot o i.keys i.session.steps old new slot
+abbrev pub IsPreparedBy : StartInput → SettledSession → Host → Host → Player → Type 0
+IsPreparedBy (Opens cpu quota drives) i old new (Playing slot) = (o : Opening) × IsOpening cpu quota drives o × OpensSlot o i.keys i.steps old new slot
 IsPreparedBy (Forks parent at) i old new (Waiting fork) = IsForkFor i parent at fork × (new ≡ old)
 IsPreparedBy _ i old new _ = ⊥
 
-abbrev pub IsPrepared : SessionInput → Host → Host → Player → Type 0
+abbrev pub IsPrepared : SettledSession → Host → Host → Player → Type 0
 IsPrepared i old new p = IsPreparedBy i.start i old new p
 
 -- the scripted slot is to play a session, whose slot is at its opening
-pub record HasSlot (slots : List SlotState) (start : MachineState) (i : SessionInput) (p : ScriptedSlot) : Type 0 where
+pub record HasSlot (slots : List SlotState) (start : MachineState) (i : SettledSession) (p : ScriptedSlot) : Type 0 where
   pub slot : slot_at p.id.0 slots ≡ Some start
   pub keys : script_keys p ≡ i.keys
-  pub steps : steps_of p ≡ i.session.steps
+  pub steps : steps_of p ≡ i.steps
   pub unplayed : IsNew p
 
 -- the player is to play a session that begins so
-abbrev pub HasPlayerBy : List SlotState → StartInput → SessionInput → Player → Type 0
+abbrev pub HasPlayerBy : List SlotState → StartInput → SettledSession → Player → Type 0
 HasPlayerBy slots (Opens cpu quota drives) i (Playing slot) = HasSlot slots (opened_machine cpu quota drives) i slot
 HasPlayerBy slots (Forks parent at) i (Waiting fork) = IsForkFor i parent at fork
 HasPlayerBy slots _ i _ = ⊥
 
-abbrev pub HasPlayer : List SlotState → SessionInput → Player → Type 0
+abbrev pub HasPlayer : List SlotState → SettledSession → Player → Type 0
 HasPlayer slots i p = HasPlayerBy slots i.start i p
 
 -- each session with its player
-abbrev pub HavePlayers : List SlotState → List SessionInput → List Player → Type 0
+abbrev pub HavePlayers : List SlotState → List SettledSession → List Player → Type 0
 HavePlayers slots [] [] = ⊤
 HavePlayers slots (i ∷ is) (p ∷ ps) = HasPlayer slots i p × HavePlayers slots is ps
 HavePlayers slots [] (p ∷ ps) = ⊥
@@ -80,23 +81,23 @@ HavePlayers slots (i ∷ is) [] = ⊥
 
 -- the keys of a forked session can be pressed: they are those of an opened session before the fork and then others in order,
 -- not too many, and it has the steps up to the fork
-pub record IsForkPressable (inputs : List SessionInput) (i : SessionInput) (parent at : ℕ) : Type 0 where
-  pub other : SessionInput
+pub record IsForkPressable (inputs : List SettledSession) (i : SettledSession) (parent at : ℕ) : Type 0 where
+  pub other : SettledSession
   pub there : slice_get inputs parent ≡ Some other
   pub opened : IsOpened other.start
   pub own : List Key
   pub keys : i.keys ≡ keys_before at other.keys ++ own
   pub order : IsInOrder at own
   pub few : length i.keys ≤ most_keys
-  pub within : at ≤ i.session.steps
+  pub within : at ≤ i.steps
 
 -- those of an opened one: their counts don't fall, and they are not too many
-abbrev pub IsPressableBy : List SessionInput → StartInput → SessionInput → Type 0
+abbrev pub IsPressableBy : List SettledSession → StartInput → SettledSession → Type 0
 IsPressableBy inputs (Opens cpu quota drives) i = IsInOrder 0 i.keys × (length i.keys ≤ most_keys)
 IsPressableBy inputs (Forks parent at) i = IsForkPressable inputs i parent at
 
 -- those of each session
-abbrev pub ArePressable : List SessionInput → Type 0
+abbrev pub ArePressable : List SettledSession → Type 0
 ArePressable inputs = (place : ℕ) → IfSome (slice_get inputs place) (λ i. IsPressableBy inputs i.start i)
 
 -- ---- refusals
@@ -113,10 +114,10 @@ IsStartRefusal h (Opens cpu quota drives) e = (o : Opening) × IsOpening cpu quo
 IsStartRefusal h (Forks parent at) e = ⊥
 
 -- how opening sessions one after another is refused
-abbrev pub IsSlotRefusal : (all : List SessionInput) → Host → List SessionInput → RunError → Type 0
-IsSlotRefusal all h is (refusal.SessionRefused name fault) = IsFirstRefused all h is fault
-IsSlotRefusal all h is refusal.OutOfMemory = ⊤
-IsSlotRefusal all h is _ = ⊥
+abbrev pub IsSlotRefusal : (all : List StartInput) → Host → List StartInput → RunError → Type 0
+IsSlotRefusal all h starts (refusal.SessionRefused name fault) = IsFirstRefused all h starts fault
+IsSlotRefusal all h starts refusal.OutOfMemory = ⊤
+IsSlotRefusal all h starts _ = ⊥
 
 -- how so many forks, which may write so many pages, are refused in a host
 abbrev pub IsForksRefusal : Config → Host → (forks pages : ℕ) → RunError → Type 0
@@ -127,25 +128,25 @@ IsForksRefusal config h forks pages refusal.OutOfMemory = ⊤
 IsForksRefusal config h forks pages _ = ⊥
 
 -- how playing all sessions of a configuration is refused
-abbrev pub IsSessionsRefusal : Config → Host → List SessionInput → RunError → Type 0
-IsSessionsRefusal config h is (refusal.SessionRefused name fault) = (fault ≢ NoFrames) × IsFirstRefused is h is fault
-IsSessionsRefusal config h is (refusal.FramesExceeded name quotas frames) =
-    (quotas ≡ pages_of_config config) × (frames ≡ config.frames) × IsFirstRefused is h is NoFrames
-IsSessionsRefusal config h is refusal.OutOfMemory = ⊤
-IsSessionsRefusal config h is _ = ⊥
+abbrev pub IsSessionsRefusal : Config → Host → List StartInput → RunError → Type 0
+IsSessionsRefusal config h starts (refusal.SessionRefused name fault) = (fault ≢ NoFrames) × IsFirstRefused starts h starts fault
+IsSessionsRefusal config h starts (refusal.FramesExceeded name quotas frames) =
+    (quotas ≡ pages_of_config config) × (frames ≡ config.frames) × IsFirstRefused starts h starts NoFrames
+IsSessionsRefusal config h starts refusal.OutOfMemory = ⊤
+IsSessionsRefusal config h starts _ = ⊥
 
 -- ---- once they were played
 
 -- a player has played the session, whose slot it left so
-pub record HasEnded (system : Disk) (inputs : List SessionInput) (slots : List SlotState) (i : SessionInput) (p : Player) : Type 0 where
+pub record HasEnded (system : Disk) (inputs : List SettledSession) (slots : List SlotState) (i : SettledSession) (p : Player) : Type 0 where
   pub slot : ScriptedSlot
   pub plays : p ≡ Playing slot
   pub last : MachineState
   pub stands : slot_at slot.id.0 slots ≡ Some last
-  pub played : IsPlayed system i.keys i.session.steps (start_of inputs i) last slot.console.items slot.list.items
+  pub played : IsPlayed system i.keys i.steps (start_of inputs i) last slot.console.items slot.list.items
 
 -- each of some sessions
-abbrev pub AllEnded : Disk → (inputs : List SessionInput) → List SlotState → List SessionInput → List Player → Type 0
+abbrev pub AllEnded : Disk → (inputs : List SettledSession) → List SlotState → List SettledSession → List Player → Type 0
 AllEnded system inputs slots [] [] = ⊤
 AllEnded system inputs slots (i ∷ is) (p ∷ ps) = HasEnded system inputs slots i p × AllEnded system inputs slots is ps
 AllEnded system inputs slots [] (p ∷ ps) = ⊥
@@ -188,6 +189,6 @@ pub record HasReported (session : SessionConfig) (p : ScriptedSlot) (closed : Cl
 
 -- each session that ended so is reported, and leaves its files
 abbrev pub AreFinished : List SessionConfig → List SlotState → List Player → List SessionReport → List SessionFiles → Type 0
-AreFinished sessions slots players reports files = (system : Disk) (is : List SessionInput)
+AreFinished sessions slots players reports files = (system : Disk) (is : List SettledSession)
     → map (λ i. i.session) is ≡ sessions → AllEnded system is slots is players
     → (map report_view reports ≡ reports_of system is) × (map left_by files ≡ files_left system is)

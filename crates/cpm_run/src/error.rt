@@ -1,25 +1,44 @@
 //! Why a run is refused.
 ghost use Rattle.std.specs.Prelude.{◌≡◌};
 ghost use Rattle.cpm_run.specs.declared.error.RunError.TheVariants.{OutOfMemory};
-ghost use Rattle.cpm_run.specs.Refusals.{run_error_of_reading, run_status_of};
+ghost use Rattle.cpm_run.specs.Refusals.{run_error_of_live, run_error_of_reading, run_status_of};
 
 use cpm_batch::ReadError;
 use cpm_command_line::ShownWord;
 use cpm_config::ConfigError;
 use cpm_machine::OpenError;
+use cpm_play::LiveError;
 use std::alloc::{AllocError, AllocFailed};
-use std::fmt;
+use std::{fmt, io};
 use thiserror::Error;
 
 /// Why the sessions of a configuration are not run. Its text is one line that begins with its code.
 #[derive(Clone, Copy, Drop, Error)]
 pub enum RunError {
+    /// The configuration has no session of this name.
+    #[error("HO1 the configuration has no session '{0}'")]
+    NoSession(ShownWord),
+    /// The session of this name is forked, so that its first keys are those of another.
+    #[error("HO1 session '{0}' is forked: its keys can't be typed, but those of the session that it is forked from")]
+    NotOpened(ShownWord),
     /// The configuration is refused.
     #[error("HO2 {0}")]
     ConfigRefused(ConfigError),
+    /// The session of this name has too many keys, with those that the one had before that it is forked from.
+    #[error("HO3 session '{0}' has more than 4096 keys, with those of the session that it is forked from")]
+    TooManyKeys(ShownWord),
     /// A file of a run is refused: HO3 a key script, HO4 what can't be read, HO6 an image.
     #[error("{0}")]
     FileRefused(ReadError),
+    /// Standard input can't be read.
+    #[error("HO4 can't read standard input: {0}")]
+    InputUnreadable(io::Error),
+    /// Standard output can't be written.
+    #[error("HO5 can't write to standard output: {0}")]
+    OutputUnwritable(io::Error),
+    /// The record of the keys can't be written.
+    #[error("HO5 can't write the record of the keys: {0}")]
+    RecordUnwritable(io::Error),
     /// A file of a run can't be written.
     #[error("HO5 can't write '{0}'")]
     WriteFault(ShownWord),
@@ -53,9 +72,14 @@ impl RunError {
         ensures { result ≡ run_status_of self.now }
     {
         match self {
+            RunError::NoSession(_) | RunError::NotOpened(_) => 1,
             RunError::ConfigRefused(_) => 2,
+            RunError::TooManyKeys(_) => 3,
             RunError::FileRefused(error) => error.status(),
-            RunError::WriteFault(_) => 5,
+            RunError::InputUnreadable(_) => 4,
+            RunError::OutputUnwritable(_)
+            | RunError::RecordUnwritable(_)
+            | RunError::WriteFault(_) => 5,
             RunError::OutOfMemory => 8,
             RunError::SessionRefused { .. } | RunError::FramesExceeded { .. } => 9,
         }
@@ -69,6 +93,19 @@ impl From<ReadError> for RunError {
         match error {
             ReadError::OutOfMemory => RunError::OutOfMemory,
             fault => RunError::FileRefused(fault),
+        }
+    }
+}
+
+impl From<LiveError> for RunError {
+    ghost from_gives = { λ l e. e ≡ run_error_of_live l };
+
+    fn from(error: LiveError) -> RunError {
+        match error {
+            LiveError::Unreadable(reason) => RunError::InputUnreadable(reason),
+            LiveError::Unwritable(reason) => RunError::OutputUnwritable(reason),
+            LiveError::Unrecorded(reason) => RunError::RecordUnwritable(reason),
+            LiveError::OutOfMemory => RunError::OutOfMemory,
         }
     }
 }

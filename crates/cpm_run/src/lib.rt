@@ -1,16 +1,28 @@
-//! A run of the sessions of a configuration: they are opened in a host and played by turns, and what they leave is written
-//! and reported; or it is refused, with its exit status.
+//! A run of the sessions of a configuration: what they need is read; what each is played by is settled; they are opened in a host and played by turns; and
+//! what they leave is written and reported. Or it is refused, with its exit status.
 #![tactic(auto)]
 
+mod alone;
 mod at_pc;
 mod error;
 mod illegal;
+mod options;
+mod part;
 mod play;
 mod quotas;
+mod records;
 mod report;
 mod run;
+mod settle;
+mod settled;
+mod stages;
+mod trial;
+mod typed;
+mod watcher;
 
 pub use error::RunError;
 pub use illegal::IllegalBytes;
+pub use options::{RecordFile, RunOptions};
 pub use report::{Report, SessionReport};
-pub use run::{judge_host, run_host};
+pub use run::run_host;
+pub use watcher::{RunStage, RunWatcher};

@@ -1,7 +1,7 @@
 //! Playing the sessions of a configuration in a host.
 ghost use Rattle.std.specs.Prelude.{◌≡◌, ◌≤◌, ◌∷◌, [], IfErr, IfOk, List, OnErr, OnOk, Some, map};
 ghost use Rattle.std.specs.Vec.Iter.{into_iter_items};
-ghost use Rattle.cpm_batch.specs.Inputs.{SessionInput, given};
+ghost use Rattle.cpm_batch.specs.Inputs.{StartInput};
 ghost use Rattle.cpm_batch.specs.Outputs.{left_by};
 ghost use Rattle.cpm_slots.specs.Host.{Host as HostValue, new_host, refusal_of, slot_at};
 ghost use Rattle.cpm_machine.specs.MachineState.{MachineState};
@@ -14,14 +14,16 @@ ghost use Rattle.cpm_play.specs.declared.player.Player.{Player as PlayerValue};
 ghost use Rattle.cpm_play.specs.declared.scripted_slot.ScriptedSlot.{ScriptedSlot};
 ghost use Rattle.cpm_run.specs.Playing.{HavePlayers, AreFinished, ArePressable, HasReported, IsClosed, IsForksRefusal, IsOpeningRefusal};
 ghost use Rattle.cpm_run.specs.Playing.{IsSessionsRefusal, IsPrepared, IsSlotRefusal, IsStartRefusal, OpensSlot, files_by, report_by};
-ghost use Rattle.cpm_run.specs.Run.{AllAccepted, AreOpenable, HasForkRoom, IsFirstRefused, IsShortFor};
+ghost use Rattle.cpm_run.specs.Settled.{settled_view, starts_of};
+ghost use Rattle.cpm_run.specs.Run.{AllAccepted, HasForkRoom, IsFirstRefused, IsShortFor};
 ghost use Rattle.cpm_run.specs.Run.{files_left, fork_pages_in, forks_in, report_view, reports_of};
 
 use crate::at_pc::bytes_of_slot;
 use crate::error::RunError;
 use crate::quotas::pages_of_config;
 use crate::report::SessionReport;
-use cpm_batch::{Input, Inputs, SessionFiles, Start};
+use crate::settled::{SettledInput, SettledInputs};
+use cpm_batch::{SessionFiles, Start};
 use cpm_command_line::{ShownWord, shown};
 use cpm_config::{Config, SessionConfig};
 use cpm_machine::{Closed, OpenError, Opening};
@@ -58,46 +60,49 @@ fn open_slot(
     session: &SessionConfig,
     opening: Opening,
     keys: Vec<Key>,
+    steps: u64,
 ) -> Result<ScriptedSlot, RunError>
-    ensures opened { IfOk result (OpensSlot opening keys.items session.entry.now.steps host.old.host host.new.host) }
+    ensures opened { IfOk result (OpensSlot opening keys.items steps host.old.host host.new.host) }
     ensures refusal { IfErr result (IsOpeningRefusal host.old.host opening) }
     ensures unchanged { OnErr result (host.new.host ≡ host.old.host) }
 {
     match host.open(alloc, opening) {
-        Ok(id) => Ok(ScriptedSlot::new(alloc, id, keys, session.steps)),
+        Ok(id) => Ok(ScriptedSlot::new(alloc, id, keys, steps)),
         Err((_, fault)) => Err(refused(session, fault)),
     }
 }
 
 /// The player of a session: one whose slot is opened now, or one that is to be forked.
-fn prepare(alloc: Global, host: &mut Host, input: Input<'_>) -> Result<Player, RunError>
-    ensures prepared { IfOk result (IsPrepared (given input.entry) host.old.host host.new.host) }
-    ensures refusal { IfErr result (IsStartRefusal host.old.host (given input.entry).start) }
+fn prepare(alloc: Global, host: &mut Host, input: SettledInput<'_>) -> Result<Player, RunError>
+    ensures prepared { IfOk result (IsPrepared (settled_view input.entry) host.old.host host.new.host) }
+    ensures refusal { IfErr result (IsStartRefusal host.old.host (settled_view input.entry).start) }
     ensures unchanged { OnErr result (host.new.host ≡ host.old.host) }
 {
-    let Input {
+    let SettledInput {
         session,
         start,
         keys,
+        steps,
+        ..
     } = input;
     match start {
         Start::Opened { cpu, quota, drives } => {
             let opening = Opening { cpu, quota, drives };
-            let slot = open_slot(alloc, host, session, opening, keys)?;
+            let slot = open_slot(alloc, host, session, opening, keys, steps)?;
             Ok(Player::Playing(slot))
         }
         Start::Forked { parent, at } => Ok(Player::Waiting(Fork {
             parent,
             at,
             keys,
-            steps: session.steps,
+            steps,
         })),
     }
 }
 
 /// Why the sessions of a configuration have no slots, if opening them is refused so: where the quotas exceed the frames, with both numbers.
 fn play_refusal(config: &Config, refusal: RunError) -> RunError
-    ensures { (h : HostValue) (is : List SessionInput) → IsSlotRefusal is h is refusal → IsSessionsRefusal config.now h is result }
+    ensures { (h : HostValue) (starts : List StartInput) → IsSlotRefusal starts h starts refusal → IsSessionsRefusal config.now h starts result }
 {
     match refusal {
         RunError::SessionRefused { name, fault } => match fault {
@@ -145,17 +150,17 @@ fn fork_refusal(config: &Config, error: PlayError) -> RunError
 fn prepare_all(
     alloc: Global,
     host: &mut Host,
-    inputs: Vec<Input<'_>>,
+    inputs: Vec<SettledInput<'_>>,
 ) -> Result<Vec<Player>, RunError>
     requires { host.old.host.slots ≡ [] }
-    ensures prepared { IfOk result (λ players. HavePlayers host.new.host.slots (map given inputs.entry.items) players.items) }
-    ensures accepted { OnOk result ((all : List SessionInput) → HasForkRoom all host.new.host → AllAccepted all host.old.host (map given inputs.entry.items)) }
-    ensures openable { OnOk result (AreOpenable host.old.host (map given inputs.entry.items)) }
-    ensures short { OnOk result ((all : List SessionInput) (fault : OpenErrorValue) → IsShortFor host.new.host (forks_in all) (fork_pages_in all) fault
-        → IsFirstRefused all host.old.host (map given inputs.entry.items) fault) }
+    ensures prepared { IfOk result (λ players. HavePlayers host.new.host.slots (map settled_view inputs.entry.items) players.items) }
+    ensures accepted { OnOk result ((all : List StartInput) → HasForkRoom all host.new.host
+        → AllAccepted all host.old.host (starts_of (map settled_view inputs.entry.items))) }
+    ensures short { OnOk result ((all : List StartInput) (fault : OpenErrorValue) → IsShortFor host.new.host (forks_in all) (fork_pages_in all) fault
+        → IsFirstRefused all host.old.host (starts_of (map settled_view inputs.entry.items)) fault) }
     ensures differ { IfOk result (λ players. AllDiffer players.items) }
     ensures system { host.new.host.system ≡ host.old.host.system }
-    ensures refusal { IfErr result (λ e. (all : List SessionInput) → IsSlotRefusal all host.old.host (map given inputs.entry.items) e) }
+    ensures refusal { IfErr result (λ e. (all : List StartInput) → IsSlotRefusal all host.old.host (starts_of (map settled_view inputs.entry.items)) e) }
 {
     let mut players = Vec::new(alloc);
     let mut rest = inputs.into_iter();
@@ -261,22 +266,21 @@ fn finish_all<'a>(
 fn prepare_host(
     alloc: Global,
     config: &Config,
-    inputs: Inputs<'_>,
+    inputs: SettledInputs<'_>,
 ) -> Result<(Host, Vec<Player>), RunError>
     requires least { LEAST_FRAMES ≤ config.now.frames }
     requires most { config.now.frames ≤ MOST_FRAMES }
-    ensures prepared { IfOk result (λ p. HavePlayers p.0.host.slots (map given inputs.entry.sessions.items) p.1.items) }
-    ensures accepted { IfOk result (λ p. (all : List SessionInput) → HasForkRoom all p.0.host
-        → AllAccepted all (new_host inputs.entry.system config.entry.now.frames) (map given inputs.entry.sessions.items)) }
-    ensures openable { OnOk result (AreOpenable (new_host inputs.entry.system config.entry.now.frames) (map given inputs.entry.sessions.items)) }
-    ensures short { IfOk result (λ p. (all : List SessionInput) (fault : OpenErrorValue) → IsShortFor p.0.host (forks_in all) (fork_pages_in all) fault
-        → IsFirstRefused all (new_host inputs.entry.system config.entry.now.frames) (map given inputs.entry.sessions.items) fault) }
+    ensures prepared { IfOk result (λ p. HavePlayers p.0.host.slots (map settled_view inputs.entry.sessions.items) p.1.items) }
+    ensures accepted { IfOk result (λ p. (all : List StartInput) → HasForkRoom all p.0.host
+        → AllAccepted all (new_host inputs.entry.system config.entry.now.frames) (starts_of (map settled_view inputs.entry.sessions.items))) }
+    ensures short { IfOk result (λ p. (all : List StartInput) (fault : OpenErrorValue) → IsShortFor p.0.host (forks_in all) (fork_pages_in all) fault
+        → IsFirstRefused all (new_host inputs.entry.system config.entry.now.frames) (starts_of (map settled_view inputs.entry.sessions.items)) fault) }
     ensures differ { IfOk result (λ p. AllDiffer p.1.items) }
     ensures system { IfOk result (λ p. p.0.host.system ≡ inputs.entry.system) }
     ensures refusal { IfErr result (IsSessionsRefusal config.entry.now (new_host inputs.entry.system config.entry.now.frames)
-        (map given inputs.entry.sessions.items)) }
+        (starts_of (map settled_view inputs.entry.sessions.items))) }
 {
-    let Inputs { system, sessions } = inputs;
+    let SettledInputs { system, sessions } = inputs;
     let mut host = match Host::new(alloc, system, config.frames) {
         Ok(host) => host,
         Err(_) => return Err(RunError::OutOfMemory),
@@ -287,36 +291,24 @@ fn prepare_host(
     }
 }
 
-/// Opens all sessions of a configuration that aren't forked, and drops them again.
-pub(crate) fn open_all(alloc: Global, config: &Config, inputs: Inputs<'_>) -> Result<(), RunError>
-    requires least { LEAST_FRAMES ≤ config.now.frames }
-    requires most { config.now.frames ≤ MOST_FRAMES }
-    ensures refusal { IfErr result (IsSessionsRefusal config.entry.now (new_host inputs.entry.system config.entry.now.frames)
-        (map given inputs.entry.sessions.items)) }
-    ensures openable { OnOk result (AreOpenable (new_host inputs.entry.system config.entry.now.frames) (map given inputs.entry.sessions.items)) }
-{
-    prepare_host(alloc, config, inputs)?;
-    Ok(())
-}
-
 /// Plays the sessions of a configuration in a host, by turns in their order, forks those that are forked on the way, and gives what is left of them.
 pub(crate) fn play_all<'a, T: Watcher>(
     alloc: Global,
     config: &'a Config,
-    inputs: Inputs<'_>,
+    inputs: SettledInputs<'_>,
     watcher: &mut T,
 ) -> Result<RunResults<'a>, RunError>
     requires least { LEAST_FRAMES ≤ config.now.frames }
     requires most { config.now.frames ≤ MOST_FRAMES }
     requires quantum { 1 ≤ config.now.quantum }
-    requires keys { ArePressable (map given inputs.sessions.items) }
-    requires sessions { map (λ i. i.session) (map given inputs.sessions.items) ≡ config.now.sessions.items }
-    ensures reports { IfOk result (λ p. map report_view p.reports.items ≡ reports_of inputs.entry.system (map given inputs.entry.sessions.items)) }
-    ensures files { IfOk result (λ p. map left_by p.files.items ≡ files_left inputs.entry.system (map given inputs.entry.sessions.items)) }
-    ensures accepted { OnOk result (AllAccepted (map given inputs.entry.sessions.items)
-        (new_host inputs.entry.system config.entry.now.frames) (map given inputs.entry.sessions.items)) }
+    requires keys { ArePressable (map settled_view inputs.sessions.items) }
+    requires sessions { map (λ i. i.session) (map settled_view inputs.sessions.items) ≡ config.now.sessions.items }
+    ensures reports { IfOk result (λ p. map report_view p.reports.items ≡ reports_of inputs.entry.system (map settled_view inputs.entry.sessions.items)) }
+    ensures files { IfOk result (λ p. map left_by p.files.items ≡ files_left inputs.entry.system (map settled_view inputs.entry.sessions.items)) }
+    ensures accepted { OnOk result (AllAccepted (starts_of (map settled_view inputs.entry.sessions.items))
+        (new_host inputs.entry.system config.entry.now.frames) (starts_of (map settled_view inputs.entry.sessions.items))) }
     ensures refusal { IfErr result (IsSessionsRefusal config.entry.now (new_host inputs.entry.system config.entry.now.frames)
-        (map given inputs.entry.sessions.items)) }
+        (starts_of (map settled_view inputs.entry.sessions.items))) }
 {
     let (mut host, mut players) = prepare_host(alloc, config, inputs)?;
     match play(

@@ -33,7 +33,12 @@ impl SessionReport {
 }
 
 /// How each session of a run ended, in their order.
-pub type Report = Vec<SessionReport>;
+#[derive(Drop)]
+pub struct Report {
+    pub sessions: Vec<SessionReport>,
+    /// Of each, whether sessions were to stop idle, and it stopped where it waits for a key that doesn't come.
+    pub idle: Vec<bool>,
+}
 
 impl fmt::Display for SessionReport {
     fn fmt<W: fmt::Write>(&self, f: &mut fmt::Formatter<W>) -> fmt::Result {

@@ -12,10 +12,9 @@ use crate::place::check_com;
 use crate::progress::{Audience, Form, Teller};
 use crate::record::record_in;
 use crate::refused::CommandRefusal;
-use crate::rehearse::waits_in;
 use crate::screen::{Lines, Screen};
+use crate::sessions::waiting_word;
 use crate::typing::{Terminals, tell_full, tell_quit};
-use crate::waiting_word;
 use cpm_geom::Image;
 use cpm_host::{
     ComTask, CuedKeys, Ending, HostError, LiveResult, ProgramResult, ProgramStart, Script, Tail,
@@ -171,11 +170,12 @@ fn play_cued<W: Write, E: StandardError>(
 ) -> Result<LiveResult, CommandRefusal>
     requires { AreFit cued.cues.now }
 {
-    let mut record = record_in(rt, outputs, task.record)?;
+    let keys = Cell::new(0);
+    let mut record = record_in(rt, outputs, task.record, &keys)?;
     let steps = task.steps.unwrap_or(STEPS);
     let played = run_waiting(rt.alloc(), start, steps, cued, out, &mut record, teller);
     teller.end();
-    record.end(played)
+    record.end(played.map_err(CommandRefusal::from))
 }
 
 /// Tells how far a program is, if that is asked. Where its text goes to the same terminal, both note whether what comes next begins a line.
@@ -219,11 +219,12 @@ fn play_keyboard<W: Write>(
     start: ProgramStart,
     out: &mut W,
 ) -> Result<(ProgramResult, bool), CommandRefusal> {
-    let mut record = record_in(rt, outputs, task.record)?;
+    let keys = Cell::new(0);
+    let mut record = record_in(rt, outputs, task.record, &keys)?;
     let most_keys = record.most_keys();
     tell_quit(rt);
     let played = play_live(rt, task, start, most_keys, out, &mut record);
-    let typed = record.end(played)?;
+    let typed = record.end(played.map_err(CommandRefusal::from))?;
     tell_full(rt, typed.keys.len(), most_keys);
     Ok((typed.ran, typed.waits))
 }
@@ -242,6 +243,12 @@ fn play_live<W: Write, S: Write>(
         Ok(mut input) => run_live(rt.alloc(), start, steps, most_keys, &mut input, out, record),
         Err(_) => Err(HostError::OutOfMemory),
     }
+}
+
+/// Whether a line of a script's text begins as one that waits.
+fn waits_in(text: &[u8]) -> bool {
+    text.split(|byte| *byte == b'\n').any(|line| line.starts_with(b"wait")
+        || line.starts_with(b"expect"))
 }
 
 /// Writes the first drives to files, as many as these are, where those that were read are still what they were then. Else the drives stay beside them.

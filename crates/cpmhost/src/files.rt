@@ -4,19 +4,15 @@ ghost use Rattle.cpm_host.specs.Refusals.{IsFileRefusal, IsOutRefusal};
 ghost use Rattle.cpm_store.specs.Files.{CountsFailure};
 
 use crate::batch::{Batch, NamingRule};
-use crate::beside::is_missing;
 use crate::guard::Guard;
 use crate::held::{HeldFiles, LockableFiles};
 use crate::output::Outputs;
-use crate::patient::PatientError;
 use crate::place::script_paths;
-use crate::refused::{CommandRefusal, PathLine, RefusalDetail};
-use crate::rehearsals::Rehearsals;
+use crate::refused::{CommandRefusal, RefusalDetail};
 use cpm_host::{
-    Config, HostError, MOST_FILE, RunError, RunTask, SessionConfig, Store, StoreError, read_whole,
-    shown,
+    Config, HostError, MOST_FILE, RunError, SessionConfig, Store, StoreError, read_whole, shown,
 };
-use std::alloc::{AllocError, Global};
+use std::alloc::Global;
 use std::io::ErrorKind;
 use std::rt::Files;
 use std::{fs, io};
@@ -182,58 +178,6 @@ pub fn check_scripts(
     check_files(rt, outputs, &scripts)
 }
 
-/// Makes in a batch for each session a script by which it does the same, if that is asked: that by which it was played by itself, or else its own. A script
-/// that is there is left as it was where its session was typed at and no key came, which is said.
-pub fn add_scripts(
-    rt: &impl LockableFiles,
-    batch: &mut Batch,
-    config: &Config,
-    rehearsals: &Rehearsals,
-    task: &RunTask<'_>,
-) -> Result<(), HostError> {
-    let scripts = script_paths(rt.alloc(), config, task.scripts)?;
-    for (place, (session, script)) in config.sessions.iter().zip(&scripts).enumerate() {
-        let rehearsed = rehearsals.script_at(place);
-        let to = script.as_str();
-        let is_typed = task.keyboard == Some(session.name.as_str());
-        if is_typed && has_no_key(rehearsed) && !is_missing(fs::symlink_metadata(rt, to)) {
-            let path = PathLine(to);
-            let _ = eprintln!(PatientError::new(rt);
-                "cpmhost: no key came, so '{path}' is as it was"
-            );
-        } else {
-            add_script(rt, batch, rehearsed, session, to)?;
-        }
-    }
-    Ok(())
-}
-
-/// Whether a session was played by itself by no key.
-fn has_no_key(rehearsed: Option<&[u8]>) -> bool {
-    match rehearsed {
-        Some(script) => script.is_empty(),
-        None => false,
-    }
-}
-
-/// Makes in a batch a file of the script by which a session was played by itself, or else its own.
-fn add_script(
-    rt: &impl LockableFiles,
-    batch: &mut Batch,
-    rehearsed: Option<&[u8]>,
-    session: &SessionConfig,
-    to: &str,
-) -> Result<(), HostError> {
-    match (rehearsed, &session.keys) {
-        (Some(text), _) => add_file(rt, batch, to, text),
-        (None, Some(name)) => {
-            let text = read_file(rt, name.as_str())?;
-            add_file(rt, batch, to, text.as_slice())
-        }
-        (None, None) => add_file(rt, batch, to, &[]),
-    }
-}
-
 /// Why a file was not written.
 pub fn unwritable(name: &str, reason: io::Error) -> HostError
     ensures { IsOutRefusal result ⊎ (result ≡ HostError.OutOfMemory) }
@@ -262,46 +206,28 @@ pub fn unreadable(name: &str, reason: io::Error) -> HostError
     }
 }
 
-/// These bytes once more.
-pub fn copied(alloc: Global, bytes: &[u8]) -> Result<Vec<u8>, AllocError> {
-    let mut copy = Vec::new(alloc);
-    copy.extend_from_slice(bytes)?;
-    Ok(copy)
-}
-
 /// The files of the machine as a store. It doesn't tell what they hold, since others can write them. What is written has its name once the batch of it has
 /// taken its names.
 #[derive(Drop)]
 pub struct MachineFiles<'a, R: LockableFiles> {
     rt: &'a R,
     batch: Batch,
-    /// The scripts of the sessions that were played by themselves.
-    rehearsals: &'a Rehearsals,
     guard: Guard<'a>,
     failures: u64,
     reason: Option<io::Error>,
-    /// Why the script that was read last is refused.
-    refusal: Option<HostError>,
 }
 
 impl<'a, R: LockableFiles> MachineFiles<'a, R> {
-    /// The files, of which no call has failed yet, and the scripts of the sessions that were played by themselves.
-    pub fn new(
-        rt: &'a R,
-        outputs: Outputs,
-        rehearsals: &'a Rehearsals,
-        guard: Guard<'a>,
-    ) -> MachineFiles<'a, R>
+    /// The files, of which no call has failed yet.
+    pub fn new(rt: &'a R, outputs: Outputs, guard: Guard<'a>) -> MachineFiles<'a, R>
         ensures { result.failures ≡ 0 }
     {
         MachineFiles {
             rt,
             batch: Batch::of_played(rt, outputs),
-            rehearsals,
             guard,
             failures: 0,
             reason: None,
-            refusal: None,
         }
     }
 
@@ -314,9 +240,6 @@ impl<'a, R: LockableFiles> MachineFiles<'a, R> {
     /// were, where memory is refused between two of them.
     pub fn refuse(&mut self, error: RunError) -> CommandRefusal {
         self.batch.remove(self.rt);
-        if let Some(refusal) = self.refusal {
-            return CommandRefusal::from(refusal);
-        }
         CommandRefusal {
             error: HostError::from(error),
             behind: match self.reason {
@@ -350,13 +273,6 @@ impl<R: LockableFiles> Store for MachineFiles<'_, R> {
     ghost does = { λ _ _ _. ⊤ };
 
     fn read(&mut self, alloc: Global, name: &str) -> Result<Vec<u8>, StoreError> {
-        if let Some(refusal) = self.rehearsals.refusal_of(name) {
-            self.refusal = Some(refusal);
-            return Err(self.fault(io::Error::from(ErrorKind::InvalidData)));
-        }
-        if let Some(script) = self.rehearsals.script_named(name) {
-            return copied(alloc, script).map_err(|_| StoreError::OutOfMemory);
-        }
         match self.guard.read(self.rt, alloc, name) {
             Ok(bytes) => Ok(bytes),
             Err(reason) => Err(self.fault(reason)),

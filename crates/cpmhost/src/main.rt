@@ -15,41 +15,31 @@ mod files;
 mod get;
 mod guard;
 mod held;
-mod judge;
 mod output;
 mod patient;
 mod place;
 mod progress;
 mod record;
 mod refused;
-mod rehearsals;
-mod rehearse;
 mod screen;
+mod sessions;
 mod stream;
 mod typing;
 
 use asm::asm;
-use batch::Batch;
-use bounds::{Bounds, check_bounds};
 use com::com;
 use cpm_flags::Cpu;
 use cpm_host::{
-    Config, HostError, Report, RunTask, SessionReport, Task, VERSION, asks_version, command,
-    page_text, run_check, run_debug, run_host, run_list,
+    HostError, Task, VERSION, asks_version, command, page_text, run_check, run_debug, run_list,
 };
 use disk::do_disk;
-use files::{MachineFiles, add_scripts, check_outputs, check_record, check_scripts, read_file};
-use guard::Guard;
-use held::{LockableFiles, hold_images};
-use judge::judge;
+use files::read_file;
+use held::LockableFiles;
 use output::Outputs;
-use patient::{PatientError, PatientInput, PatientOutput, StandardError};
-use place::check_apart;
-use progress::{Audience, Form, Teller};
-use refused::{CommandRefusal, RefusalDetail};
-use rehearsals::Rehearsals;
-use rehearse::rehearse_all;
+use patient::{PatientError, PatientInput, PatientOutput};
+use refused::CommandRefusal;
 use screen::Screen;
+use sessions::run_sessions;
 use std::env::Env;
 use std::fs::{File, OpenOptions};
 use std::io::{BufReader, BufWriter, ErrorKind, IsTerminal, Write};
@@ -58,7 +48,7 @@ use std::os::unix::fs::FileTypeExt;
 use std::process::{self, ExitCode};
 use std::rt::{Clock, Files};
 use std::{env, fs, io};
-use typing::{Terminals, type_in};
+use typing::Terminals;
 
 /// How many standard streams there are: their numbers are those below.
 const STANDARD_STREAMS: i32 = 3;
@@ -72,133 +62,6 @@ fn arguments(rt: &(impl Env + AllocGlobal)) -> Result<Vec<String>, HostError>
         Err(error) if error.kind() == ErrorKind::OutOfMemory => Err(HostError::OutOfMemory),
         Err(_) => Err(HostError::NotText),
     }
-}
-
-/// Runs the sessions of the configuration in a file, one of them by the keys of standard input if that is asked.
-#[inline(never)]
-fn run_sessions(
-    rt: &(impl LockableFiles + Input),
-    outputs: Outputs,
-    task: &RunTask<'_>,
-    terminals: Terminals,
-) -> Result<(), CommandRefusal> {
-    let mut config = read_config(rt, task.config)?;
-    let mut rehearsals = Rehearsals::new(rt);
-    run_config(rt, outputs, &mut config, &mut rehearsals, task, terminals)
-}
-
-/// The configuration in a file.
-fn read_config(rt: &(impl Files + AllocGlobal), file: &str) -> Result<Config, HostError> {
-    let text = read_file(rt, file)?;
-    Ok(Config::read(rt.alloc(), text.as_slice())?)
-}
-
-/// Runs the sessions of a configuration, of which none was played yet.
-fn run_config(
-    rt: &(impl LockableFiles + Input),
-    outputs: Outputs,
-    config: &mut Config,
-    rehearsals: &mut Rehearsals,
-    task: &RunTask<'_>,
-    terminals: Terminals,
-) -> Result<(), CommandRefusal> {
-    let bounds = check_bounds(rt, config, task)?;
-    check_outputs(rt, outputs, config)?;
-    check_record(rt, outputs, task.record)?;
-    check_scripts(rt, outputs, config, task.scripts)?;
-    check_apart(rt, task.config, config, task)?;
-    let held = hold_images(rt, config)?;
-    let guard = Guard {
-        bounds: &bounds,
-        shows_controls: !task.is_raw,
-        held: &held,
-    };
-    judge(rt, outputs, config, task, guard)?;
-    if let Some(name) = task.keyboard {
-        type_in(rt, outputs, config, rehearsals, name, task, terminals)?;
-    }
-    let form = Form::of(task.has_progress, terminals.is_error_terminal);
-    rehearse_all(rt, config, rehearsals, task.stops_idle, form)?;
-    let (report, mut batch) = play_sessions(rt, outputs, config, rehearsals, form, guard)?;
-    if let Err(refused) = make_scripts(rt, &mut batch, config, rehearsals, task, &bounds) {
-        batch.remove(rt);
-        return Err(refused);
-    }
-    let named = batch.take_names(rt);
-    // (what was played is told also where a file can't have its name)
-    let printed = print_report(rt, rehearsals, &report);
-    named?;
-    Ok(printed?)
-}
-
-/// Runs the sessions of a configuration, and gives how each ended, and the files that they write.
-fn play_sessions(
-    rt: &impl LockableFiles,
-    outputs: Outputs,
-    config: &Config,
-    rehearsals: &Rehearsals,
-    form: Form,
-    guard: Guard<'_>,
-) -> Result<(Report, Batch), CommandRefusal> {
-    let mut files = MachineFiles::new(rt, outputs, rehearsals, guard);
-    let mut teller = Teller::new(rt, Audience::Sessions(config), form);
-    let ran = run_host(rt.alloc(), config, &mut files, &mut teller);
-    teller.end();
-    match ran {
-        Ok(report) => Ok((report, files.into_batch())),
-        Err(error) => Err(files.refuse(error)),
-    }
-}
-
-/// Makes the scripts of a run that are asked for, whose names are looked at once more.
-fn make_scripts(
-    rt: &impl LockableFiles,
-    batch: &mut Batch,
-    config: &Config,
-    rehearsals: &Rehearsals,
-    task: &RunTask<'_>,
-    bounds: &Bounds,
-) -> Result<(), CommandRefusal> {
-    bounds.check_scripts(rt, config, task.scripts)?;
-    add_scripts(rt, batch, config, rehearsals, task)?;
-    Ok(())
-}
-
-/// Prints how each session ended, and the bytes at which one ended that are no instruction.
-fn print_report(
-    rt: &impl LockableFiles,
-    rehearsals: &Rehearsals,
-    report: &[SessionReport],
-) -> Result<(), HostError> {
-    let Ok(mut out) = BufWriter::new(rt.alloc(), PatientOutput::new(rt)) else {
-        return Err(HostError::OutOfMemory);
-    };
-    for (place, session) in report.iter().enumerate() {
-        let word = waiting_word(rehearsals.is_idle(place));
-        print_session(rt, &mut out, session, word)?;
-    }
-    Ok(())
-}
-
-/// Prints how a session ended, with a last word, on one line at a time.
-fn print_session<W: Write>(
-    rt: &impl StandardError,
-    out: &mut W,
-    session: &SessionReport,
-    word: &str,
-) -> Result<(), HostError> {
-    writeln!(out, "{session}{word}").map_err(HostError::OutputUnwritable)?;
-    out.flush().map_err(HostError::OutputUnwritable)?;
-    if let Some(illegal) = session.illegal() {
-        let name = session.name.as_str();
-        let _ = eprintln!(PatientError::new(rt); "{name} {illegal}");
-    }
-    Ok(())
-}
-
-/// The fifth word of a report, where the session waits for a key and none comes.
-pub fn waiting_word(waits: bool) -> &'static str {
-    if waits { " waiting" } else { "" }
 }
 
 /// Prints the program in a file as instructions of a processor.

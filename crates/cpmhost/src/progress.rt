@@ -1,8 +1,11 @@
 //! How far sessions have come, told on standard error.
 
-use crate::patient::{PatientError, StandardError};
-use cpm_host::{Config, Progress, Watcher};
+use crate::held::LockableFiles;
+use crate::patient::{PatientError, PatientOutput, StandardError};
+use crate::typing::{Terminals, tell_full, tell_quit};
+use cpm_host::{Config, MOST_KEYS, Progress, RunStage, RunWatcher, SessionConfig, Watcher};
 use std::cell::Cell;
+use std::io::Write;
 
 /// How often it is told at most: each time that they are so much of the whole further.
 const PARTS: u128 = 50;
@@ -34,8 +37,8 @@ pub enum Audience<'a> {
     Program,
     /// The sessions of a configuration.
     Sessions(&'a Config),
-    /// The session of this name, which is played by itself.
-    Alone(&'a str),
+    /// One of its sessions, which is played by itself.
+    Alone(&'a SessionConfig),
 }
 
 /// Tells how far the sessions of a configuration, one of them, or a program, have come.
@@ -103,7 +106,9 @@ impl<'a, R: StandardError> Teller<'a, R> {
         };
         match self.whom {
             Audience::Program => self.tell_program(before, percent, behind),
-            Audience::Alone(name) => self.tell_alone(before, percent, name, behind),
+            Audience::Alone(session) => {
+                self.tell_alone(before, percent, session.name.as_str(), behind);
+            }
             Audience::Sessions(config) => match config.sessions.get(progress.slowest) {
                 Some(slowest) if progress.ended < progress.sessions => {
                     self.tell_slowest(before, percent, progress, slowest.name.as_str(), behind);
@@ -159,5 +164,91 @@ impl<R: StandardError> Watcher for Teller<'_, R> {
             self.told = parts;
             self.tell(progress);
         }
+    }
+}
+
+/// Tells how a run goes on: how far its sessions have come, and first that one types, where one does.
+#[derive(Drop)]
+pub struct RunTeller<'a, R: LockableFiles> {
+    rt: &'a R,
+    config: &'a Config,
+    form: Form,
+    teller: Teller<'a, R>,
+    terminals: Terminals,
+    /// Whether one types.
+    is_typing: bool,
+    /// Whether what comes next on standard output begins a line.
+    is_at_line_start: &'a Cell<bool>,
+    /// How many keys were typed.
+    keys: &'a Cell<usize>,
+}
+
+impl<'a, R: LockableFiles> RunTeller<'a, R> {
+    /// Nothing is told yet.
+    pub fn new(
+        rt: &'a R,
+        config: &'a Config,
+        form: Form,
+        terminals: Terminals,
+        is_at_line_start: &'a Cell<bool>,
+        keys: &'a Cell<usize>,
+    ) -> RunTeller<'a, R> {
+        RunTeller {
+            rt,
+            config,
+            form,
+            teller: Teller::new(rt, Audience::Sessions(config), form),
+            terminals,
+            is_typing: false,
+            is_at_line_start,
+            keys,
+        }
+    }
+
+    /// Ends what is told. At a terminal what comes after a session that was typed at begins on a line of its own.
+    pub fn end(&mut self) {
+        if self.is_typing {
+            self.is_typing = false;
+            self.end_typing();
+        }
+        self.teller.end();
+    }
+
+    /// Ends the line of a session that was typed at, and tells where no more was typed since a script has not more keys.
+    fn end_typing(&self) {
+        if self.terminals.is_output_terminal && !self.is_at_line_start.get() {
+            // (where this fails, so does the report, which says it)
+            let _ = PatientOutput::new(self.rt).write_all(b"\n");
+        }
+        tell_full(self.rt, self.keys.get(), MOST_KEYS);
+    }
+}
+
+impl<R: LockableFiles> Watcher for RunTeller<'_, R> {
+    fn is_watching(&self) -> bool {
+        self.teller.is_watching()
+    }
+
+    fn see(&mut self, progress: Progress) {
+        self.teller.see(progress);
+    }
+}
+
+impl<R: LockableFiles> RunWatcher for RunTeller<'_, R> {
+    fn begin(&mut self, stage: RunStage) {
+        self.end();
+        let whom = match stage {
+            RunStage::Typing => {
+                self.is_typing = true;
+                tell_quit(self.rt);
+                return;
+            }
+            RunStage::Alone(place) => match self.config.sessions.get(place) {
+                Some(session) => Audience::Alone(session),
+                None => Audience::Sessions(self.config),
+            },
+            RunStage::All => Audience::Sessions(self.config),
+        };
+        self.teller = Teller::new(self.rt, whom, self.form);
     }
 }

@@ -6,6 +6,7 @@ use crate::output::{OutputFile, Outputs};
 use crate::patient::PatientError;
 use crate::refused::{CommandRefusal, PathLine, RefusalDetail};
 use cpm_host::{HostError, MOST_KEYS};
+use std::cell::Cell;
 use std::io;
 use std::io::Write;
 
@@ -14,14 +15,16 @@ use std::io::Write;
 pub struct Record<'a, R: LockableFiles> {
     rt: &'a R,
     begun: Option<OutputFile<'a, R>>,
-    has_keys: bool,
+    /// How many keys it got.
+    keys: &'a Cell<usize>,
 }
 
-/// The record in the file of a name, which stays as it is until the record has ended; or none.
+/// The record in the file of a name, which stays as it is until the record has ended; or none. Its keys are counted.
 pub fn record_in<'a, R: LockableFiles>(
     rt: &'a R,
     outputs: Outputs,
     name: Option<&str>,
+    keys: &'a Cell<usize>,
 ) -> Result<Record<'a, R>, CommandRefusal> {
     let begun = match name {
         None => None,
@@ -30,11 +33,7 @@ pub fn record_in<'a, R: LockableFiles>(
             Err(reason) => return Err(CommandRefusal::from(unwritable(name, reason))),
         },
     };
-    Ok(Record {
-        rt,
-        begun,
-        has_keys: false,
-    })
+    Ok(Record { rt, begun, keys })
 }
 
 impl<R: LockableFiles> Record<'_, R> {
@@ -49,14 +48,11 @@ impl<R: LockableFiles> Record<'_, R> {
 
     /// Ends the record of what came so: it takes its name where that was played to its end. Else the keys so far are left beside, which is said. A record
     /// without a key replaces none.
-    pub fn end<T: Drop>(self, played: Result<T, HostError>) -> Result<T, CommandRefusal> {
-        let Record {
-            rt,
-            begun,
-            has_keys,
-        } = self;
+    pub fn end<T: Drop>(self, played: Result<T, CommandRefusal>) -> Result<T, CommandRefusal> {
+        let Record { rt, begun, keys } = self;
+        let has_keys = keys.get() > 0;
         let Some(begun) = begun else {
-            return Ok(played?);
+            return played;
         };
         match played {
             Ok(played) if !has_keys && begun.is_to_replace() => {
@@ -77,7 +73,7 @@ impl<R: LockableFiles> Record<'_, R> {
                         "cpmhost: the keys so far are in '{path}'"
                     );
                 }
-                Err(CommandRefusal::from(error))
+                Err(error)
             }
         }
     }
@@ -115,13 +111,18 @@ fn left<R: LockableFiles>(rt: &R, begun: OutputFile<'_, R>, has_keys: bool) -> R
 
 impl<R: LockableFiles> Write for Record<'_, R> {
     fn write(&mut self, buf: &[u8]) -> io::Result<usize> {
-        match &mut self.begun {
-            Some(begun) => {
-                self.has_keys = true;
-                begun.write(buf)
-            }
-            None => Ok(buf.len()),
-        }
+        let written = match &mut self.begun {
+            Some(begun) => begun.write(buf)?,
+            None => buf.len(),
+        };
+        // (each key is a line)
+        let lines = buf
+            .iter()
+            .take(written)
+            .filter(|byte| **byte == b'\n')
+            .count();
+        self.keys.set(self.keys.get().saturating_add(lines));
+        Ok(written)
     }
 
     fn flush(&mut self) -> io::Result<()> {

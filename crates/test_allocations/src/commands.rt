@@ -2,13 +2,13 @@
 
 use crate::CallOutcome;
 use crate::machines::letter;
-use crate::stores::{holds, put};
+use crate::stores::{are_in_order, holds, put};
 use crate::texts::{CONFIG, KEYS, SOURCE};
 use cpm_flags::Cpu;
 use cpm_geom::{Format, Image};
 use cpm_host::{
-    Config, DebugError, HostError, MemoryStore, NoWatcher, ProgramStart, RunError, Script, Tail,
-    judge_host, run_asm, run_com, run_debug, run_host, run_list, run_live, tail_of,
+    Config, DebugError, HostError, MemoryStore, NoWatcher, ProgramStart, RunError, RunOptions,
+    Script, Tail, run_asm, run_com, run_debug, run_host, run_list, run_live, tail_of,
 };
 use std::alloc::{AllocError, Global};
 use std::io;
@@ -126,7 +126,7 @@ fn fill(store: &mut MemoryStore, blank: &[u8]) -> Result<(), AllocError> {
     put(store, "one.keys", KEYS)
 }
 
-/// Whether a store has the files of the run up to one of them, and none after it.
+/// Whether a store has the files of the run up to one of them and none after it, and those that were read as they were.
 fn are_written_in_order(store: &MemoryStore, blank: &[u8]) -> bool {
     let files: [(&str, &[u8]); 4] = [
         ("one.txt", SHOWN[0]),
@@ -134,19 +134,32 @@ fn are_written_in_order(store: &MemoryStore, blank: &[u8]) -> bool {
         ("a.out", blank),
         ("two.txt", SHOWN[1]),
     ];
-    let mut is_there = true;
-    for (name, bytes) in files {
-        is_there = is_there && store.file(name).is_some();
-        if is_there != store.file(name).is_some() || (is_there && !holds(store, name, bytes)) {
-            return false;
-        }
-    }
-    holds(store, "p.img", blank) && holds(store, "a.img", blank) && holds(store, "one.keys", KEYS)
+    are_in_order(store, &files)
+        && holds(store, "p.img", blank)
+        && holds(store, "a.img", blank)
+        && holds(store, "one.keys", KEYS)
 }
 
 fn run_over(alloc: Global, config: &Config, store: &mut MemoryStore, blank: &[u8]) -> CallOutcome {
-    let answer = run_host(alloc, config, store, &mut NoWatcher);
-    let is_right = are_written_in_order(store, blank);
+    let options = RunOptions {
+        typed: None,
+        stops_idle: false,
+        records: &[],
+    };
+    let mut input: &[u8] = &[];
+    let mut out = Counter { count: 0 };
+    let mut lines = Counter { count: 0 };
+    let answer = run_host(
+        alloc,
+        config,
+        options,
+        store,
+        &mut input,
+        &mut out,
+        &mut lines,
+        &mut NoWatcher,
+    );
+    let is_right = are_written_in_order(store, blank) && out.count == 0 && lines.count == 0;
     match answer {
         Ok(_) if is_right && store.file("two.txt").is_some() => CallOutcome::Made,
         Err(RunError::OutOfMemory) => {
@@ -165,29 +178,6 @@ fn run_configured(alloc: Global, config: &Config) -> Result<CallOutcome, AllocEr
 pub fn run(alloc: Global) -> Result<CallOutcome, AllocError> {
     match Config::read(alloc, CONFIG.as_bytes()) {
         Ok(config) => run_configured(alloc, &config),
-        Err(_) => Err(AllocError),
-    }
-}
-
-fn judge_over(alloc: Global, config: &Config, store: &mut MemoryStore) -> CallOutcome {
-    let answer = judge_host(alloc, config, store);
-    let is_unwritten = store.file("one.txt").is_none() && store.file("two.txt").is_none();
-    match answer {
-        Ok(()) => CallOutcome::made_if(is_unwritten),
-        Err(RunError::OutOfMemory) => CallOutcome::refused_if(is_unwritten),
-        Err(_) => CallOutcome::Wrong,
-    }
-}
-
-fn judge_configured(alloc: Global, config: &Config) -> Result<CallOutcome, AllocError> {
-    let blank = Image::blank(alloc, Format::Ibm3740)?.into_bytes();
-    let mut store = filled(alloc, blank.as_slice())?;
-    Ok(judge_over(alloc, config, &mut store))
-}
-
-pub fn judge(alloc: Global) -> Result<CallOutcome, AllocError> {
-    match Config::read(alloc, CONFIG.as_bytes()) {
-        Ok(config) => judge_configured(alloc, &config),
         Err(_) => Err(AllocError),
     }
 }

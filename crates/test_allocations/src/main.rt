@@ -8,6 +8,7 @@ mod copies;
 mod disks;
 mod hosts;
 mod machines;
+mod stages;
 mod stores;
 mod texts;
 mod waiting;
@@ -60,7 +61,7 @@ impl CallOutcome {
 }
 
 /// The calls, as they are named on the command line.
-const NAMES: [&str; 45] = [
+const NAMES: [&str; 43] = [
     "command",
     "FlatMemory::new",
     "FrameStore::new",
@@ -80,7 +81,7 @@ const NAMES: [&str; 45] = [
     "Store::read",
     "Store::write",
     "run_host",
-    "judge_host",
+    "run_host in stages",
     "put",
     "get",
     "remove",
@@ -102,9 +103,7 @@ const NAMES: [&str; 45] = [
     "run_debug",
     "run_list",
     "cues_of",
-    "forked_cues_of",
     "run_waiting",
-    "rehearse_session",
     "run_asm_listed",
 ];
 
@@ -130,7 +129,7 @@ fn make(alloc: Global, name: &str) -> Result<CallOutcome, AllocError> {
         "Store::read" => stores::read(alloc),
         "Store::write" => stores::write(alloc),
         "run_host" => commands::run(alloc),
-        "judge_host" => commands::judge(alloc),
+        "run_host in stages" => stages::run(alloc),
         "put" | "get" | "remove" | "rename" | "list" | "to_text" | "from_text" => {
             disks::of_image_files(alloc, name)
         }
@@ -148,9 +147,7 @@ fn make(alloc: Global, name: &str) -> Result<CallOutcome, AllocError> {
         "run_debug" => commands::debug(alloc),
         "run_list" => Ok(commands::list()),
         "cues_of" => Ok(waiting::cues(alloc)),
-        "forked_cues_of" => Ok(waiting::forked_cues(alloc)),
         "run_waiting" => waiting::com(alloc),
-        "rehearse_session" => waiting::session(alloc),
         "run_asm_listed" => Ok(waiting::listed_source(alloc)),
         _ => Ok(CallOutcome::Wrong),
     }

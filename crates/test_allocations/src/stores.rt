@@ -25,6 +25,18 @@ pub fn holds(store: &MemoryStore, name: &str, bytes: &[u8]) -> bool {
     store.file(name).is_some_and(|found| found == bytes)
 }
 
+/// Whether a store has these files up to one of them, and none after it.
+pub fn are_in_order(store: &MemoryStore, files: &[(&str, &[u8])]) -> bool {
+    let mut is_there = true;
+    for (name, bytes) in files {
+        is_there = is_there && store.file(*name).is_some();
+        if is_there != store.file(*name).is_some() || (is_there && !holds(store, *name, *bytes)) {
+            return false;
+        }
+    }
+    true
+}
+
 /// Whether the two files are as they were, and no other is there.
 fn is_as_filled(store: &MemoryStore) -> bool {
     holds(store, "old", b"what it held")

@@ -1,14 +1,9 @@
-//! Scripts that wait, the machines that are played by them, and a source with its listing.
+//! Scripts that wait, a machine that is played by one, and a source with its listing.
 
 use crate::CallOutcome;
 use crate::commands::{Counter, start};
-use crate::texts::{KEYS, SOURCE};
-use cpm_flags::Cpu;
-use cpm_geom::{Format, Image};
-use cpm_host::{
-    CuedKeys, HostError, NoWatcher, Opening, Script, SessionStart, cues_of, forked_cues_of,
-    rehearse_session, run_asm_listed, run_waiting,
-};
+use crate::texts::SOURCE;
+use cpm_host::{CuedKeys, HostError, NoWatcher, Script, cues_of, run_asm_listed, run_waiting};
 use std::alloc::{AllocError, Global};
 
 /// A line of the command processor, and a key once its prompt is shown again.
@@ -26,18 +21,6 @@ const EXPECTS: Script<'static> = Script {
 pub fn cues(alloc: Global) -> CallOutcome {
     match cues_of(alloc, WAITS) {
         Ok(cues) => CallOutcome::made_if(cues.len() == 7),
-        Err(HostError::OutOfMemory) => CallOutcome::Refused,
-        Err(_) => CallOutcome::Wrong,
-    }
-}
-
-pub fn forked_cues(alloc: Global) -> CallOutcome {
-    let parent = Script {
-        name: "one.keys",
-        text: KEYS,
-    };
-    match forked_cues_of(alloc, parent, 3, WAITS) {
-        Ok(forked) => CallOutcome::made_if(forked.cues.len() == 11 && forked.before == 4),
         Err(HostError::OutOfMemory) => CallOutcome::Refused,
         Err(_) => CallOutcome::Wrong,
     }
@@ -68,36 +51,6 @@ pub fn com(alloc: Global) -> Result<CallOutcome, AllocError> {
             Ok(typed) if typed.ran.ending.count == 7 && out.count == 1 => CallOutcome::Made,
             Err(HostError::OutOfMemory) => CallOutcome::refused_if(record.count == 0),
             _ => CallOutcome::Wrong,
-        },
-    )
-}
-
-pub fn session(alloc: Global) -> Result<CallOutcome, AllocError> {
-    let system = Image::blank(alloc, Format::Ibm3740)?;
-    let mut drives = Vec::new(alloc);
-    drives.push(Image::blank(alloc, Format::Ibm3740)?)?;
-    let Ok(cues) = cues_of(alloc, WAITS) else {
-        return Err(AllocError);
-    };
-    let cued = CuedKeys {
-        cues: cues.as_slice(),
-        waits_from: 0,
-        stops_idle: true,
-    };
-    let start = SessionStart {
-        name: "one",
-        opening: Opening {
-            cpu: Cpu::I8080,
-            quota: 16,
-            drives,
-        },
-        steps: 1000,
-    };
-    Ok(
-        match rehearse_session(alloc, &system, start, cued, &mut NoWatcher) {
-            Ok(typed) => CallOutcome::made_if(typed.keys.len() == 5 && typed.steps < 1000),
-            Err(HostError::OutOfMemory) => CallOutcome::Refused,
-            Err(_) => CallOutcome::Wrong,
         },
     )
 }

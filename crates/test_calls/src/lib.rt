@@ -12,6 +12,8 @@ mod runs;
 #[cfg(test)]
 mod same;
 #[cfg(test)]
+mod streams;
+#[cfg(test)]
 mod texts;
 #[cfg(test)]
 mod waits;

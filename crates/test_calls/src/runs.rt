@@ -5,8 +5,8 @@ use cpm_asm::AsmErrorKind;
 use cpm_flags::Cpu;
 use cpm_geom::{Format, Image};
 use cpm_host::{
-    Config, DebugError, HostError, MOST_FILE, MemoryStore, NoWatcher, Origin, Page, Store,
-    UsageError, UsageFault, UsageRefusal, read_whole, run_debug, run_host, shown,
+    Config, DebugError, HostError, MOST_FILE, MemoryStore, NoWatcher, Origin, Page, RunOptions,
+    Store, UsageError, UsageFault, UsageRefusal, read_whole, run_debug, run_host, shown,
 };
 use cpm_machine::OpenError;
 use std::io;
@@ -228,13 +228,32 @@ fn config(rt: &(impl Abort + AllocGlobal)) -> Config {
     Config::read(rt.alloc(), FORKED.as_bytes()).expect(rt, "a configuration")
 }
 
-/// Fails unless a run is refused, before it writes anything.
+/// Fails unless a run is refused, before it reads a key or writes anything.
 fn is_refused(rt: &(impl Abort + AllocGlobal), config: &Config) {
     let mut store = filled(rt);
-    match run_host(rt.alloc(), config, &mut store, &mut NoWatcher) {
+    let options = RunOptions {
+        typed: Some("one"),
+        stops_idle: false,
+        records: &[],
+    };
+    let mut input: &[u8] = b"DIR\r";
+    let mut out: Vec<u8> = Vec::new(rt.alloc());
+    let mut lines: Vec<u8> = Vec::new(rt.alloc());
+    match run_host(
+        rt.alloc(),
+        config,
+        options,
+        &mut store,
+        &mut input,
+        &mut out,
+        &mut lines,
+        &mut NoWatcher,
+    ) {
         Ok(_) => panic!(rt; "run"),
         Err(error) => same(rt, error.status(), 2),
     }
+    same(rt, input.len(), 4);
+    same(rt, out.len(), 0);
     assert!(rt; store.file("one.txt").is_none());
 }
 

@@ -4,7 +4,7 @@ use crate::stores::Stores;
 use cpm_batch::{Input, ReadError, SessionFiles, Start, outputs_of, read_inputs};
 use cpm_config::Config;
 use cpm_geom::Image;
-use cpm_script::Key;
+use cpm_script::{Cue, Key};
 use cpm_store::{MemoryStore, Store};
 use std::alloc::{AllocError, Global};
 use test_images::Images;
@@ -175,8 +175,8 @@ fn shown_inputs(alloc: Global, inputs: &[Input<'_>]) -> Result<String, RowFault>
         }
         out.push_str(input.session.name.as_str())?;
         out.push_str(shown_start(alloc, &input.start)?.as_str())?;
-        let keys = shown_keys(alloc, input.keys.as_slice())?;
-        out.push_str(format!(in alloc; "; keys {keys}")?.as_str())?;
+        let cues = shown_cues(alloc, input.cues.as_slice())?;
+        out.push_str(format!(in alloc; "; cues {cues}")?.as_str())?;
     }
     Ok(out)
 }
@@ -194,12 +194,26 @@ fn shown_start(alloc: Global, start: &Start) -> Result<String, AllocError> {
     }
 }
 
-/// Keys, each with its count; `none` where there are none.
-fn shown_keys(alloc: Global, keys: &[Key]) -> Result<String, AllocError> {
+/// A cue: `key COUNT BYTE`, `wait TEXT` or `press BYTE`.
+fn shown_cue(alloc: Global, cue: &Cue) -> Result<String, RowFault> {
+    match cue {
+        Cue::Key(key) => {
+            let Key { count, byte } = *key;
+            Ok(format!(in alloc; "key {count} {byte:02X}")?)
+        }
+        Cue::Wait(text) => match str::from_utf8(text.as_slice()) {
+            Ok(text) => Ok(format!(in alloc; "wait {text:?}")?),
+            Err(_) => Err(RowFault::Unready),
+        },
+        Cue::Press(byte) => Ok(format!(in alloc; "press {byte:02X}")?),
+    }
+}
+
+/// What a script says, one cue after another; `none` where it says nothing.
+fn shown_cues(alloc: Global, cues: &[Cue]) -> Result<String, RowFault> {
     let mut out = String::new(alloc);
-    for key in keys {
-        let Key { count, byte } = *key;
-        add_item(&mut out, format!(in alloc; "{count} {byte:02X}")?.as_str())?;
+    for cue in cues {
+        add_item(&mut out, shown_cue(alloc, cue)?.as_str())?;
     }
     if out.is_empty() {
         out.push_str("none")?;

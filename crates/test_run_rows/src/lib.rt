@@ -1,15 +1,14 @@
 //! Rows of what the commands of `cpmhost` do: programs, sources, listings, checks, the debugger, and runs of sessions over a store.
 #![tactic(auto)]
 
+mod asked;
 mod config;
-mod cues;
 mod given;
 mod looks;
 mod played;
 mod programs;
 mod recorder;
 mod runs;
-mod sessions;
 mod texts;
 
 pub use programs::Programs;

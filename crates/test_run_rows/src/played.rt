@@ -10,15 +10,15 @@ use std::alloc::Global;
 use test_language::{RowAnswer, RowFault, RowLine, Word};
 
 /// The file of the key script.
-pub(crate) const KEYS: &str = "a.keys";
+const KEYS: &str = "a.keys";
 
 /// The script of this text in the file of this name.
-pub(crate) fn script_of<'a>(name: &'a str, text: &'a [u8]) -> Script<'a> {
+fn script_of<'a>(name: &'a str, text: &'a [u8]) -> Script<'a> {
     Script { name, text }
 }
 
 impl Programs {
-    /// Does a line that plays a program or a session, or reads the script of a fork.
+    /// Does a line that plays a program.
     pub(crate) fn play(
         &mut self,
         alloc: Global,
@@ -27,15 +27,12 @@ impl Programs {
         match line.verb() {
             "com" => self.com(alloc, line.arguments()),
             "type" => self.type_keys(alloc, line),
-            "replay" => self.replay(alloc),
-            "fork-keys" => self.fork_keys(alloc, line.arguments()),
-            "session" => self.session(alloc, line),
-            _ => self.rehearse(alloc, line.arguments()),
+            _ => self.replay(alloc),
         }
     }
 
     /// Copies of the drives.
-    pub(crate) fn drives(&self, alloc: Global) -> Result<Vec<Image>, RowFault> {
+    fn drives(&self, alloc: Global) -> Result<Vec<Image>, RowFault> {
         let mut drives = Vec::new(alloc);
         for drive in &self.drives {
             drives.push(drive.copy(alloc)?)?;
@@ -53,8 +50,8 @@ impl Programs {
         })
     }
 
-    /// Keeps the result of a program or a session, and answers how it ended.
-    pub(crate) fn keep(
+    /// Keeps the result of a program, and answers how it ended.
+    fn keep(
         &mut self,
         alloc: Global,
         outcome: Result<LiveResult, HostError>,

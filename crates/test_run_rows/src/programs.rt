@@ -22,7 +22,6 @@ pub struct Programs {
     pub(crate) listing: Vec<u8>,
     pub(crate) orders: Vec<u8>,
     pub(crate) keys: Vec<u8>,
-    pub(crate) parent: Vec<u8>,
     pub(crate) tail: Option<Tail>,
     pub(crate) drives: Vec<Image>,
     pub(crate) steps: u64,
@@ -45,7 +44,6 @@ impl Scene for Programs {
             listing: Vec::new(alloc),
             orders: Vec::new(alloc),
             keys: Vec::new(alloc),
-            parent: Vec::new(alloc),
             tail: None,
             drives: Vec::new(alloc),
             steps: STEPS,
@@ -75,16 +73,7 @@ impl Scene for Programs {
     fn takes_text(verb: &str) -> bool {
         matches!(
             verb,
-            "program"
-                | "source"
-                | "listing"
-                | "orders"
-                | "keys"
-                | "parent"
-                | "type"
-                | "session"
-                | "check"
-                | "debug"
+            "program" | "source" | "listing" | "orders" | "keys" | "type" | "check" | "debug"
         )
     }
 
@@ -96,7 +85,6 @@ impl Scene for Programs {
             | "listing"
             | "orders"
             | "keys"
-            | "parent"
             | "tail"
             | "drives"
             | "steps"
@@ -107,9 +95,7 @@ impl Scene for Programs {
             }
             "left" => self.left(alloc, line.arguments()),
             "asm" | "asm-listed" | "list" | "check" | "debug" => self.write(alloc, line),
-            "com" | "type" | "replay" | "fork-keys" | "session" | "rehearse" => {
-                self.play(alloc, line)
-            }
+            "com" | "type" | "replay" => self.play(alloc, line),
             _ => self.images.act(alloc, line),
         }
     }
@@ -126,7 +112,6 @@ impl Programs {
             "listing" => return self.listing(alloc, line),
             "orders" => self.orders = line.given(alloc, arguments)?,
             "keys" => self.keys = line.given(alloc, arguments)?,
-            "parent" => self.parent = line.given(alloc, arguments)?,
             "tail" => return self.tail(alloc, arguments),
             "drives" => self.drives = self.images.copies(alloc, arguments)?,
             "steps" => return self.steps(alloc, arguments),

@@ -1,9 +1,10 @@
 //! The rows of runs: sessions of a configuration over files in memory.
 
+use crate::asked::{Asked, Heard, stops_idle};
 use crate::config::changed;
 use crate::given::{bytes_given, count_of};
 use cpm_geom::Image;
-use cpm_host::{Config, HostError, MemoryStore, NoWatcher, Report, Store, judge_host, run_host};
+use cpm_host::{Config, HostError, MemoryStore, NoWatcher, Report, Store, run_host};
 use std::alloc::{AllocError, Global};
 use test_images::Images;
 use test_language::{RowAnswer, RowFault, RowLine, Scene, Word, number};
@@ -17,6 +18,8 @@ pub struct Runs {
     images: Images,
     store: MemoryStore,
     config: String,
+    asked: Asked,
+    heard: Heard,
     report: Report,
     status: u8,
 }
@@ -27,13 +30,21 @@ impl Scene for Runs {
             images: Images::new(alloc),
             store: MemoryStore::new(alloc),
             config: String::new(alloc),
-            report: Vec::new(alloc),
+            asked: Asked::new(alloc),
+            heard: Heard::before(alloc, &[])?,
+            report: Report {
+                sessions: Vec::new(alloc),
+                idle: Vec::new(alloc),
+            },
             status: 0,
         })
     }
 
     fn is_alone(verb: &str) -> bool {
-        matches!(verb, "config" | "run" | "judge" | "cuts" | "status")
+        matches!(
+            verb,
+            "config" | "shown" | "recorded" | "left" | "cuts" | "status"
+        )
     }
 
     fn takes_text(verb: &str) -> bool {
@@ -50,8 +61,12 @@ impl Scene for Runs {
             "same" => self.same(alloc, arguments),
             "load" => self.load(alloc, arguments),
             "fail-call" => self.fail_call(arguments),
-            "run" => self.run(alloc),
-            "judge" => self.judge(alloc),
+            "type" => self.asked.type_keys(alloc, line),
+            "keys-to" => self.asked.keys_to(alloc, arguments),
+            "run" => self.run(alloc, arguments),
+            "shown" => RowAnswer::bytes(alloc, self.heard.shown.as_slice()),
+            "recorded" => RowAnswer::bytes(alloc, self.heard.recorded.as_slice()),
+            "left" => RowAnswer::bytes(alloc, self.heard.left.as_slice()),
             "cuts" => self.cuts(alloc),
             "illegal" => self.illegal(alloc, arguments),
             "status" => RowAnswer::words(alloc, self.status),
@@ -60,10 +75,32 @@ impl Scene for Runs {
     }
 }
 
-/// Runs the sessions of a configuration.
-fn run(alloc: Global, config: &[u8], store: &mut MemoryStore) -> Result<Report, HostError> {
+/// Runs the sessions of a configuration, one of them by the keys that are typed if that is asked.
+fn run(
+    alloc: Global,
+    config: &[u8],
+    asked: &Asked,
+    stops_idle: bool,
+    store: &mut MemoryStore,
+    heard: &mut Heard,
+) -> Result<Report, HostError> {
     let config = Config::read(alloc, config)?;
-    Ok(run_host(alloc, &config, store, &mut NoWatcher)?)
+    let records = asked.records(alloc)?;
+    let options = asked.options(records.as_slice(), stops_idle);
+    let mut input = asked.keys.as_slice();
+    let (out, record) = (&mut heard.shown, &mut heard.recorded);
+    let ran = run_host(
+        alloc,
+        &config,
+        options,
+        store,
+        &mut input,
+        out,
+        record,
+        &mut NoWatcher,
+    );
+    heard.left = Vec::from_slice(alloc, input)?;
+    Ok(ran?)
 }
 
 /// The status of the result of a run, 0 where it was run.
@@ -74,14 +111,15 @@ fn status_of(outcome: &Result<Report, HostError>) -> u8 {
     }
 }
 
-/// The lines of a report.
+/// The lines of a report, as the command prints them.
 fn report_lines(alloc: Global, report: &Report) -> Result<String, RowFault> {
     let mut lines = String::new(alloc);
-    for session in report {
+    for (session, is_idle) in report.sessions.iter().zip(&report.idle) {
         if !lines.as_str().is_empty() {
             lines.push('\n')?;
         }
         lines.push_str(session.to_string(alloc)?.as_str())?;
+        lines.push_str(if *is_idle { " waiting" } else { "" })?;
     }
     Ok(lines)
 }
@@ -181,46 +219,40 @@ impl Runs {
         RowAnswer::refused_text(alloc, &error)
     }
 
-    /// `run`: runs the sessions. The line that reports each.
-    fn run(&mut self, alloc: Global) -> Result<RowAnswer, RowFault> {
-        match run(alloc, self.config.as_bytes(), &mut self.store) {
+    /// Runs the sessions of so many bytes of the configuration.
+    fn ran(
+        &mut self,
+        alloc: Global,
+        length: usize,
+        stops_idle: bool,
+    ) -> Result<Result<Report, HostError>, RowFault> {
+        self.heard = Heard::before(alloc, self.asked.keys.as_slice())?;
+        let bytes = self.config.as_bytes();
+        let config = &bytes[..length.min(bytes.len())];
+        let (store, heard) = (&mut self.store, &mut self.heard);
+        Ok(run(alloc, config, &self.asked, stops_idle, store, heard))
+    }
+
+    /// `run`: runs the sessions. `run stop-idle`: each ends where it waits and no key will come. The line that reports each.
+    fn run(&mut self, alloc: Global, arguments: &[Word<'_>]) -> Result<RowAnswer, RowFault> {
+        let stops_idle = stops_idle(arguments)?;
+        let length = self.config.as_str().len();
+        match self.ran(alloc, length, stops_idle)? {
             Ok(report) => {
+                let lines = report_lines(alloc, &report)?;
                 self.report = report;
                 self.status = 0;
-                Ok(RowAnswer::Words(report_lines(alloc, &self.report)?))
+                Ok(RowAnswer::Words(lines))
             }
             Err(error) => self.refuse(alloc, error),
-        }
-    }
-
-    /// `judge`: judges the configuration, and plays nothing: `judged`.
-    fn judge(&mut self, alloc: Global) -> Result<RowAnswer, RowFault> {
-        match Config::read(alloc, self.config.as_bytes()) {
-            Ok(config) => self.judge_config(alloc, &config),
-            Err(error) => self.refuse(alloc, HostError::from(error)),
-        }
-    }
-
-    /// Judges a configuration that was read.
-    fn judge_config(&mut self, alloc: Global, config: &Config) -> Result<RowAnswer, RowFault> {
-        match judge_host(alloc, config, &mut self.store) {
-            Ok(()) => {
-                self.status = 0;
-                RowAnswer::words(alloc, "judged")
-            }
-            Err(error) => {
-                self.status = error.status();
-                RowAnswer::refused_text(alloc, &error)
-            }
         }
     }
 
     /// `cuts`: runs each beginning of the configuration, from no byte up to all. How many were run, and how many refused as configurations.
     fn cuts(&mut self, alloc: Global) -> Result<RowAnswer, RowFault> {
         let (mut runs, mut refusals) = (0u64, 0u64);
-        let bytes = self.config.as_bytes();
-        for end in 0..=bytes.len() {
-            let outcome = run(alloc, &bytes[..end], &mut self.store);
+        for end in 0..=self.config.as_str().len() {
+            let outcome = self.ran(alloc, end, false)?;
             match status_of(&outcome) {
                 0 => runs = runs.saturating_add(1),
                 CONFIG_REFUSED => refusals = refusals.saturating_add(1),
@@ -233,7 +265,7 @@ impl Runs {
     /// `illegal N`: the bytes that are no instruction at which the Nth session ended, or `none`.
     fn illegal(&self, alloc: Global, arguments: &[Word<'_>]) -> Result<RowAnswer, RowFault> {
         let place = count_of(arguments)?.saturating_sub(1);
-        match self.report.get(place) {
+        match self.report.sessions.get(place) {
             Some(session) => match session.illegal() {
                 Some(bytes) => RowAnswer::words(alloc, bytes),
                 None => RowAnswer::words(alloc, "none"),

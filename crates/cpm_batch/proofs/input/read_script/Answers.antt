@@ -1,20 +1,18 @@
-use Rattle.std.proofs.Common.{◌∙◌, ap, sym}
-use Rattle.cpm_script.specs.Script.{script}
-use Rattle.cpm_batch.proofs.ReadLemmas.{script_read}
-use Rattle.std.proofs.Common.{Err, refl, subst}
-use Rattle.cpm_script.specs.Script.{Reads}
-use Rattle.cpm_script.specs.declared.fault.ScriptError.{ScriptError}
+use Rattle.std.proofs.Common.{◌∙◌, Err, ap, refl, subst, sym}
 use Rattle.std.proofs.lemmas.Result.{err_from_is_err_and}
+use Rattle.cpm_script.specs.Cues.{ReadsCues, all_said, cues}
+use Rattle.cpm_script.specs.declared.fault.ScriptError.{ScriptError}
 use Rattle.cpm_store.specs.Log.{Gave}
 use Rattle.cpm_batch.specs.Inputs.{ScriptIn}
 use Rattle.cpm_batch.specs.declared.error.ReadError.TheVariants.{Script}
+use Rattle.cpm_batch.proofs.ReadLemmas.{script_read}
 use Rattle.cpm_batch.proofs.StopLemmas.{stopped_at, stopped_missed}
 use Rattle.cpm_batch.proofs.input.read_script.Goals as goal
 
 pub returns-in-Ok-clause-log : goal.returns-in-Ok-clause-log
 returns-in-Ok-clause-log g c =
-    script_read g.S.Store.does c.args.name.now c.in_ok-text.text.items c.in-Ok.keys.items c.args.store.now c.read_bytes.new.store c.in_ok-text.ensures.gave
-    (ap script (sym c.as_slice.ensures.value) ∙ c.in-Ok.ensures.read)
+    script_read g.S.Store.does c.args.name.now c.in_ok-text.text.items (all_said c.in-Ok.cues) c.args.store.now c.read_bytes.new.store c.in_ok-text.ensures.gave
+    (ap cues (sym c.as_slice.ensures.value) ∙ c.in-Ok.ensures.read)
 
 pub returns-in_err-text-clause-refused_log : goal.returns-in_err-text-clause-refused_log
 returns-in_err-text-clause-refused_log g c =
@@ -24,5 +22,12 @@ returns-in_err-text-clause-refused_log g c =
 pub returns-in-Err-Line-clause-refused_log : goal.returns-in-Err-Line-clause-refused_log
 returns-in-Err-Line-clause-refused_log g c =
     stopped_at g.S.Store.does (ScriptIn c.args.name.now) (Script c.shown.result c.in-Err-Line.number c.in-Err-Line.fault) (Gave c.args.name.now c.in_ok-text.text.items) c.args.store.now
-    c.read_bytes.new.store c.in_ok-text.ensures.gave
-    (c.shown.ensures, record { text = c.in_ok-text.text.items; read = ap script (sym c.as_slice.ensures.value) ∙ subst (λ (x : ScriptError). Reads (Err x) (script c.as_slice.result.now)) c.in-Err-Line.field-0-is c.in-Err-Line.ensures.read; calls = refl })
+    c.read_bytes.new.store c.in_ok-text.ensures.gave (
+      c.shown.ensures,
+      record {
+        text = c.in_ok-text.text.items;
+        read = ap cues (sym c.as_slice.ensures.value) ∙ subst (λ (x : ScriptError). ReadsCues (Err x) (cues c.as_slice.result.now)) c.in-Err-Line.field-0-is
+            c.in-Err-Line.ensures.read;
+        calls = refl;
+      },
+    )

@@ -11,15 +11,15 @@ use Rattle.cpm_image_files.proofs.putting.written.Goals as goal
 
 pub begin-fcb-requires-clause-writable : goal.begin-fcb-requires-clause-writable
 begin-fcb-requires-clause-writable c =
-    is_writable c.args.image c.of_bytes.result c.of_bytes.ensures.same c.of_bytes.ensures.bytes c.requires.whole c.new-drive.result c.log_in.new.self c.new-drive.ensures c.log_in.ensures
+    is_writable c.args.image c.requires.bytes c.requires.whole c.new-drive.result c.log_in.new.self c.new-drive.ensures c.log_in.ensures
 
 pub begin-fcb-requires-clause-room : goal.begin-fcb-requires-clause-room
 begin-fcb-requires-clause-room c =
-    has_room c.args.image c.of_bytes.result c.of_bytes.ensures.same c.of_bytes.ensures.bytes c.requires.whole c.new-drive.result c.log_in.new.self c.new-drive.ensures c.log_in.ensures c.args.file.now.user c.args.file.now.name c.args.bytes.now c.requires.room
+    has_room c.args.image c.requires.bytes c.requires.whole c.new-drive.result c.log_in.new.self c.new-drive.ensures c.log_in.ensures c.args.file.now.user c.args.file.now.name c.args.bytes.now c.requires.room
 
 pub loop-number-init : goal.loop-number-init
 loop-number-init c =
-    is_started c.args.image c.of_bytes.result c.of_bytes.ensures.same c.of_bytes.ensures.bytes c.requires.whole c.new-drive.result c.log_in.new.self c.new-drive.ensures c.log_in.ensures c.args.file.now.user c.args.file.now.name c.args.bytes.now c.begin-fcb.new.drive c.begin-fcb.result c.begin-fcb.ensures
+    is_started c.args.image c.requires.bytes c.requires.whole c.new-drive.result c.log_in.new.self c.new-drive.ensures c.log_in.ensures c.args.file.now.user c.args.file.now.name c.args.bytes.now c.begin-fcb.new.drive c.begin-fcb.result c.begin-fcb.ensures
 
 pub write_next-requires : goal.write_next-requires
 write_next-requires c = c.loop-number.invariant.keeps.writable.free

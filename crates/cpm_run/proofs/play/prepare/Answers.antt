@@ -17,5 +17,5 @@ returns-in_ok-slot-in-Opened-clause-prepared c =
 
 pub returns-in-Forked-clause-prepared : goal.returns-in-Forked-clause-prepared
 returns-in-Forked-clause-prepared c =
-    waits c.args.input (record { parent = c.in-Forked.parent; at = c.in-Forked.at; keys = c.args.input.keys; steps = c.args.input.session.now.steps }) c.args.host.now.host c.in-Forked.is
+    waits c.args.input (record { parent = c.in-Forked.parent; at = c.in-Forked.at; keys = c.args.input.keys; steps = c.args.input.steps }) c.args.host.now.host c.in-Forked.is
     (record { parent = refl; at = refl; keys = refl; steps = refl })

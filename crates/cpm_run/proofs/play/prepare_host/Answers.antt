@@ -1,26 +1,23 @@
 use Rattle.std.proofs.Common.{◌∙◌, ap, subst, List, map}
-use Rattle.cpm_batch.specs.Inputs.{SessionInput, given}
 use Rattle.cpm_slots.specs.Host.{Host}
 use Rattle.cpm_machine.specs.declared.opening.OpenError.{OpenError}
 use Rattle.cpm_run.specs.Playing.{IsSessionsRefusal}
-use Rattle.cpm_run.specs.Run.{AllAccepted, AreOpenable, HasForkRoom, IsFirstRefused, IsShortFor, fork_pages_in, forks_in}
+use Rattle.cpm_run.specs.Run.{AllAccepted, HasForkRoom, IsFirstRefused, IsShortFor, fork_pages_in, forks_in}
 use Rattle.cpm_run.proofs.play.prepare_host.Goals as goal
+use Rattle.cpm_run.specs.Settled.{settled_view, starts_of}
+use Rattle.cpm_batch.specs.Inputs.{StartInput}
 
 pub returns-in-Ok-prepare_all-clause-accepted : goal.returns-in-Ok-prepare_all-clause-accepted
 returns-in-Ok-prepare_all-clause-accepted c =
-    let inputs = map given c.args.inputs.sessions.items in
+    let inputs = map settled_view c.args.inputs.sessions.items in
     let now = c.prepare_all.new.host.host in
-    subst (λ (h : Host). (all : List SessionInput) → HasForkRoom all now → AllAccepted all h inputs) c.in-Ok.ensures.made c.in-Ok-prepare_all.ensures.accepted
-
-pub returns-in-Ok-prepare_all-clause-openable : goal.returns-in-Ok-prepare_all-clause-openable
-returns-in-Ok-prepare_all-clause-openable c =
-    subst (λ (h : Host). AreOpenable h (map given c.args.inputs.sessions.items)) c.in-Ok.ensures.made c.in-Ok-prepare_all.ensures.openable
+    subst (λ (h : Host). (all : List StartInput) → HasForkRoom all now → AllAccepted all h (starts_of inputs)) c.in-Ok.ensures.made c.in-Ok-prepare_all.ensures.accepted
 
 pub returns-in-Ok-prepare_all-clause-short : goal.returns-in-Ok-prepare_all-clause-short
 returns-in-Ok-prepare_all-clause-short c =
-    let inputs = map given c.args.inputs.sessions.items in
+    let inputs = map settled_view c.args.inputs.sessions.items in
     let now = c.prepare_all.new.host.host in
-    subst (λ (h : Host). (all : List SessionInput) (fault : OpenError) → IsShortFor now (forks_in all) (fork_pages_in all) fault → IsFirstRefused all h inputs fault) c.in-Ok.ensures.made
+    subst (λ (h : Host). (all : List StartInput) (fault : OpenError) → IsShortFor now (forks_in all) (fork_pages_in all) fault → IsFirstRefused all h (starts_of inputs) fault) c.in-Ok.ensures.made
     c.in-Ok-prepare_all.ensures.short
 
 pub returns-in-Ok-prepare_all-clause-system : goal.returns-in-Ok-prepare_all-clause-system
@@ -28,6 +25,6 @@ returns-in-Ok-prepare_all-clause-system c = c.in-Ok-prepare_all.ensures.system �
 
 pub returns-in-Err-prepare_all-clause-refusal : goal.returns-in-Err-prepare_all-clause-refusal
 returns-in-Err-prepare_all-clause-refusal c =
-    let inputs = map given c.args.inputs.sessions.items in
-    subst (λ (h : Host). IsSessionsRefusal c.args.config.now h inputs c.play_refusal.result) c.in-Ok.ensures.made
-    (c.play_refusal.ensures c.in-Ok.host.host inputs (c.in-Err-prepare_all.ensures.refusal inputs))
+    let inputs = map settled_view c.args.inputs.sessions.items in
+    subst (λ (h : Host). IsSessionsRefusal c.args.config.now h (starts_of inputs) c.play_refusal.result) c.in-Ok.ensures.made
+    (c.play_refusal.ensures c.in-Ok.host.host (starts_of inputs) (c.in-Err-prepare_all.ensures.refusal (starts_of inputs)))

@@ -1,0 +1,71 @@
+-- The lines of keys, and the records of all sessions.
+use Rattle.std.proofs.Common.{◌≡◌, ◌∙◌, ◌<◌, ◌≤◌, ◌+◌, ℕ, zero, suc, Bool, true, false, List, [], ◌∷◌, ◌++◌, Option, Some, None, length, map, refl, sym, subst, ap, arith, slice_get, get_or, take, drop, append-nil, append_assoc}
+use Rattle.std.specs.Prelude.{IfSome, option_map}
+use Rattle.std.specs.List.{All}
+use Rattle.std.proofs.lemmas.List.{at_drop_all, drop_more}
+use Rattle.std.proofs.lemmas.List.Elements.{All-drop}
+use Rattle.std.proofs.lemmas.Option.{slice_get-get_or, slice_get-map}
+use Rattle.cpm_script.specs.Recording.{key_line, recorded}
+use Rattle.cpm_script.specs.declared.script.Key.{Key}
+use Rattle.cpm_store.specs.Writes.{NamedBytes}
+use Rattle.cpm_run.specs.Playing.{IsPressableBy}
+use Rattle.cpm_run.specs.Run.{record_of, record_outputs}
+use Rattle.cpm_run.specs.Settled.{SettledSession, settled_view}
+use Rattle.cpm_run.specs.Settling.{AreBelow80h, AreSound}
+use Rattle.cpm_run.specs.declared.options.RecordFile.{RecordFile}
+use Rattle.cpm_run.specs.declared.settled.SettledInput.{SettledInput}
+
+-- ---- lines
+
+pub lines-begun : (keys : List Key) (lines : List ℕ) → lines ≡ [] → lines ++ recorded (drop 0 keys) ≡ recorded keys
+lines-begun keys lines none = ap (λ (ls : List ℕ). ls ++ recorded keys) none
+
+pub lines-more : (keys : List Key) (i : ℕ) (d : Key) (lines more : List ℕ) → i < length keys → more ≡ lines ++ key_line (get_or keys i d) → lines ++ recorded (drop i keys) ≡ recorded keys
+    → more ++ recorded (drop (i + 1) keys) ≡ recorded keys
+lines-more keys i d lines more within is all =
+    ap (λ (ls : List ℕ). ls ++ recorded (drop (i + 1) keys)) is ∙ append_assoc lines (key_line (get_or keys i d)) (recorded (drop (i + 1) keys))
+    ∙ ap (λ (ks : List Key). lines ++ recorded ks) (sym (drop_more keys i d within)) ∙ all
+
+pub lines-all : (keys : List Key) (i : ℕ) (lines : List ℕ) → length keys ≤ i → lines ++ recorded (drop i keys) ≡ recorded keys → lines ≡ recorded keys
+lines-all keys i lines past all = sym (append-nil lines) ∙ sym (at_drop_all (λ (ks : List Key). lines ++ recorded ks) keys i past) ∙ all
+
+-- ---- records
+
+none_left : (rs : List RecordFile) → record_outputs rs [] ≡ []
+none_left [] = refl
+none_left (r ∷ rs) = refl
+
+pub records-past : (rs : List RecordFile) (ss : List SettledInput) (i : ℕ) (outputs : List NamedBytes) → length ss ≤ i
+    → outputs ++ record_outputs (drop i rs) (map settled_view (drop i ss)) ≡ record_outputs rs (map settled_view ss) → outputs ≡ record_outputs rs (map settled_view ss)
+records-past rs ss i outputs past all =
+    sym (append-nil outputs) ∙ ap (λ (os : List NamedBytes). outputs ++ os) (sym (none_left (drop i rs)))
+    ∙ sym (at_drop_all (λ (xs : List SettledInput). outputs ++ record_outputs (drop i rs) (map settled_view xs)) ss i past) ∙ all
+
+pub records-all : (rs : List RecordFile) (ss : List SettledInput) (i : ℕ) (outputs : List NamedBytes) → length rs ≤ i
+    → outputs ++ record_outputs (drop i rs) (map settled_view (drop i ss)) ≡ record_outputs rs (map settled_view ss) → outputs ≡ record_outputs rs (map settled_view ss)
+records-all rs ss i outputs past all =
+    sym (append-nil outputs) ∙ sym (at_drop_all (λ (xs : List RecordFile). outputs ++ record_outputs xs (map settled_view (drop i ss))) rs i past) ∙ all
+
+pub records-more : (rs : List RecordFile) (ss : List SettledInput) (i : ℕ) (d : RecordFile) (e : SettledInput) (own : List Key) (outputs more : List NamedBytes) → i < length rs → i < length ss
+    → e ≡ get_or ss i e → own ≡ drop e.before e.keys.items → more ≡ outputs ++ record_of (get_or rs i d) own
+    → outputs ++ record_outputs (drop i rs) (map settled_view (drop i ss)) ≡ record_outputs rs (map settled_view ss)
+    → more ++ record_outputs (drop (i + 1) rs) (map settled_view (drop (i + 1) ss)) ≡ record_outputs rs (map settled_view ss)
+records-more rs ss i d e own outputs more there too at own_is is all =
+    let rest = record_outputs (drop (i + 1) rs) (map settled_view (drop (i + 1) ss)) in
+    ap (λ (os : List NamedBytes). os ++ rest) is ∙ append_assoc outputs (record_of (get_or rs i d) own) rest
+    ∙ ap (λ (ks : List Key). outputs ++ (record_of (get_or rs i d) ks ++ rest)) (own_is ∙ ap (λ (x : SettledInput). drop x.before x.keys.items) at)
+    ∙ ap (λ (xs : List SettledInput). outputs ++ record_outputs (get_or rs i d ∷ drop (i + 1) rs) (map settled_view xs)) (sym (drop_more ss i e too))
+    ∙ ap (λ (xs : List RecordFile). outputs ++ record_outputs xs (map settled_view (drop i ss))) (sym (drop_more rs i d there)) ∙ all
+
+-- own keys are below 80h
+pub own-below : (ss : List SettledInput) (i : ℕ) (e : SettledInput) (own : List Key) → AreSound (map settled_view ss) → i < length ss → e ≡ get_or ss i e → own ≡ drop e.before e.keys.items → AreBelow80h own
+own-below ss i e own sound within at is =
+    let there : slice_get (map settled_view ss) i ≡ Some (settled_view (get_or ss i e)) = slice_get-map settled_view ss i ∙ ap (option_map settled_view) (slice_get-get_or ss i e within) in
+    let both = subst (λ (o : Option SettledSession). IfSome o (λ s. IsPressableBy (map settled_view ss) s.start s × AreBelow80h s.keys)) there (sound i) in
+    subst AreBelow80h (sym (is ∙ ap (λ (x : SettledInput). drop x.before x.keys.items) at)) (All-drop (λ k. k.byte < 128) (get_or ss i e).before (get_or ss i e).keys.items both.1)
+
+-- ---- where sessions stopped idle
+
+pub idles : (ss : List SettledInput) → map (λ i. i.is_idle) ss ≡ map (λ s. s.is_idle) (map settled_view ss)
+idles [] = refl
+idles (s ∷ ss) = ap (λ (bs : List Bool). s.is_idle ∷ bs) (idles ss)

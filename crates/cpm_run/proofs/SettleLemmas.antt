@@ -1,0 +1,422 @@
+-- What settling sessions rests on.
+use Rattle.std.proofs.Common.{◌≡◌, ◌∙◌, ◌<◌, ◌≤◌, ◌+◌, ⊎_elim, inl, inr, ℕ, zero, suc, Bool, true, false, ◌&&◌, List, [], ◌∷◌, ◌++◌, length, drop, get_or, map, Option, Some, None, refl, sym, ap, subst, arith, append_assoc, append-nil}
+use Rattle.std.specs.Prelude.{Vec, IfSome, IsSome, max, nat_lt, option_map, slice_get}
+use Rattle.std.specs.List.{All}
+use Rattle.std.specs.declared.alloc.Global.{Global}
+use Rattle.std.proofs.Math.Nat.{le-max_left, le-max_right}
+use Rattle.std.proofs.lemmas.List.{length-append, length-drop, length-map, map-append, map_push}
+use Rattle.std.proofs.lemmas.List.Elements.{All-append, All-cons, All-drop, All-filter, All-nil}
+use Rattle.std.proofs.lemmas.Option.{get_or_from_slice_get, slice_get-map, slice_get_within}
+use Rattle.cpm_batch.specs.Inputs.{Forks, IsOpened, Opens, SessionInput, StartInput, given, timed_keys}
+use Rattle.cpm_batch.specs.declared.input.Input.{Input}
+use Rattle.cpm_config.specs.declared.config.SessionConfig.{SessionConfig}
+use Rattle.cpm_geom.specs.Disk.{Disk}
+use Rattle.cpm_machine.specs.MachineState.{MachineState}
+use Rattle.cpm_machine.specs.Serve.{look_of}
+use Rattle.cpm_machine.specs.Step.{is_running}
+use Rattle.cpm_play.specs.Cued.{HasEndedCued, IsCued, IsCuedFrom, key_count, waits_at}
+use Rattle.cpm_play.specs.Live.{AreGiven}
+use Rattle.cpm_play.specs.Playing.{EndsAs, IsInOrder, alone_by}
+use Rattle.cpm_script.specs.Cues.{Awaited, Counted, CueText, Pressed, cue_text, cued_key_count}
+use Rattle.cpm_script.specs.Fork.{keys_before}
+use Rattle.cpm_script.specs.Laws.{CountsRise, KeysAreAscii, PressesFollow}
+use Rattle.cpm_script.specs.Recording.{AreTyped}
+use Rattle.cpm_script.specs.Script.{most_keys}
+use Rattle.cpm_script.specs.declared.cue.Cue.{Cue}
+use Rattle.cpm_script.specs.declared.cue.Cue.TheVariants.{Key as Timed}
+use Rattle.cpm_script.specs.declared.script.Key.{Key}
+use Rattle.cpm_script.proofs.CueLemmas.{ascii-append, counted-keys, keys_in-append}
+use Rattle.cpm_script.proofs.ForkLemmas.{length-keys_before}
+use Rattle.cpm_run.specs.Playing.{IsForkPressable, IsPressableBy}
+use Rattle.cpm_run.specs.Run.{starts_read}
+use Rattle.cpm_run.specs.Settled.{AreSettled, HasPlayedKeys, IsSettled, SessionPart, SettledSession, TypedSession}
+use Rattle.cpm_run.specs.Settled.{before_in, forked_at, keys_if_settled, opened_by, part_of, said_at, settled_steps, settled_view, starts_of, steps_at}
+use Rattle.cpm_run.specs.Settling.{AreBelow80h, AreFitInputs, AreOpenable, AreReady, AreSound, AreSoundKeys, HasParent, IsFitInput, IsFitPart, IsOpenable}
+use Rattle.cpm_run.specs.Settling.{IsPartReady, IsPartRefusal, IsSettlingRefusal, IsSoundAfter}
+use Rattle.cpm_run.specs.declared.settled.SettledInput.{SettledInput}
+use Rattle.cpm_run.specs.declared.error.RunError.{RunError}
+use Rattle.cpm_run.proofs.OrderLemmas.{own_from}
+use Rattle.cpm_run.proofs.PartLemmas.{joined_said}
+
+-- ---- keys below 80h
+
+counted_below : (keys : List Key) → AreBelow80h keys → KeysAreAscii (map Counted keys)
+counted_below [] all = tt
+counted_below (k ∷ ks) all = (all 0 k (omega arith), counted_below ks (λ i d within. all (suc i) d (omega (arith, within))))
+
+below_counted : (keys : List Key) → KeysAreAscii (map Counted keys) → AreBelow80h keys
+below_counted [] all = All-nil (λ (k : Key). k.byte < 128)
+below_counted (k ∷ ks) all = All-cons (λ (k : Key). k.byte < 128) k ks all.0 (below_counted ks all.1)
+
+below_typed : (n : ℕ) (keys : List Key) → AreTyped n keys → AreBelow80h keys
+below_typed n [] all = All-nil (λ (k : Key). k.byte < 128)
+below_typed n (k ∷ ks) all = All-cons (λ (k : Key). k.byte < 128) k ks all.2 (below_typed k.count ks all.3)
+
+-- ---- what a session says after its keys from before
+
+pub cues_say : (before : List Key) (own cues : List Cue) → cues ≡ map Timed before ++ own → map cue_text cues ≡ map Counted before ++ map cue_text own
+cues_say before own cues is = joined_said before own cues is
+
+pub cues_ascii : (p : SessionPart) (cues : List Cue) → IsFitPart p → map cue_text cues ≡ map Counted p.before ++ p.said → KeysAreAscii (map cue_text cues)
+cues_ascii p cues fit says = subst KeysAreAscii (sym says) (ascii-append (map Counted p.before) p.said (counted_below p.before fit.before) fit.ascii)
+
+cues_counted : (p : SessionPart) (cues : List Cue) → map cue_text cues ≡ map Counted p.before ++ p.said → key_count cues ≡ length p.before + cued_key_count p.said
+cues_counted p cues says =
+    let own = keys_in-append (map Counted p.before) p.said in
+    let first = counted-keys p.before in
+    let all = ap cued_key_count says in
+    omega (arith, own, first, all)
+
+pub cues_few : (p : SessionPart) (cues : List Cue) → IsFitPart p → map cue_text cues ≡ map Counted p.before ++ p.said → key_count cues ≤ most_keys
+cues_few p cues fit says = let few = fit.few in let n = cues_counted p cues says in omega (arith, few, n)
+
+-- the code's values
+pub all_cues : (before first : List Key) (own all cues : List Cue) → first ≡ before → all ≡ map Timed first ++ own → cues ≡ all → cues ≡ map Timed before ++ own
+all_cues before first own all cues same joined is = is ∙ joined ∙ ap (λ (ks : List Key). map Timed ks ++ own) same
+
+pub all_keys : (before first came given rest keys : List Key) (n : ℕ) → first ≡ before → given ≡ came → n ≡ length before → rest ≡ drop n given → keys ≡ first ++ rest → keys ≡ before ++ drop (length before) came
+all_keys before first came given rest keys n same is long left joined =
+    joined ∙ ap (λ (ks : List Key). ks ++ rest) same ∙ ap (λ (ks : List Key). before ++ ks) (left ∙ ap (λ (m : ℕ). drop m given) long ∙ ap (λ (ks : List Key). drop (length before) ks) is)
+
+-- ---- how it was played
+
+-- these keys came from a start, after which so much was done
+pub record CameFrom (system : Disk) (p : SessionPart) (stops_idle : Bool) (cues : List Cue) (came : List Key) (done : ℕ) (now start : MachineState) : Type 0 where
+  pub by : IsCued system start p.limit p.at cues came
+  pub ending : EndsAs (alone_by system came done start) now
+  pub ends : HasEndedCued system start p.limit p.at stops_idle came done now
+  pub waits : (look_of now).waiting ≡ waits_at system start came done
+
+ended_as : (system : Disk) (start : MachineState) (steps from : ℕ) (stops_idle : Bool) (keys : List Key) (done : ℕ) (now other : MachineState) → now.ended ≡ other.ended
+    → HasEndedCued system start steps from stops_idle keys done now → HasEndedCued system start steps from stops_idle keys done other
+ended_as system start steps from false keys done now other same h = ⊎_elim (λ all. inl all) (λ over. inr (ap is_running (sym same) ∙ over)) h
+ended_as system start steps from true keys done now other same h = ⊎_elim (λ over. inl (ap is_running (sym same) ∙ over)) (λ idle. inr idle) h
+
+pub played_by : (system : Disk) (p : SessionPart) (stops_idle : Bool) (cues : List Cue) (came : List Key) (done : ℕ) (now start : MachineState) (keys : List Key) (steps : ℕ) (idle : Bool)
+    → start ≡ p.opening → map cue_text cues ≡ map Counted p.before ++ p.said → CameFrom system p stops_idle cues came done now start → done ≤ p.limit
+    → keys ≡ p.before ++ drop (length p.before) came → steps ≡ settled_steps stops_idle p done → idle ≡ stops_idle && (look_of now).waiting
+    → HasPlayedKeys system p stops_idle keys steps idle
+played_by system p stops_idle cues came done now start keys steps idle opened says h within joined long waits =
+    let c : CameFrom system p stops_idle cues came done now p.opening = subst (λ (s : MachineState). CameFrom system p stops_idle cues came done now s) opened h in
+    record {
+      came = came;
+      done = done;
+      played = record {
+        cues = cues;
+        says = says;
+        by = c.by;
+        ends = ended_as system p.opening p.limit p.at stops_idle came done now (alone_by system came done p.opening) c.ending.ended c.ends;
+        within = within;
+      };
+      all = joined;
+      long = long;
+      idle = waits ∙ ap (λ (b : Bool). stops_idle && b) c.waits;
+    }
+
+pub at_least : (stops_idle : Bool) (p : SessionPart) (done : ℕ) → p.at ≤ p.limit → p.at ≤ settled_steps stops_idle p done
+at_least false p done within = within
+at_least true p done within =
+    let a = le-max_left p.at p.last in
+    let b = le-max_right done (max p.at p.last) in
+    omega (arith, a, b)
+
+-- the keys that came are sound
+pub came_sound : (system : Disk) (start : MachineState) (p : SessionPart) (own cues : List Cue) (came keys : List Key) (done steps : ℕ) → p.said ≡ map cue_text own → IsFitPart p
+    → cues ≡ map Timed p.before ++ own → IsCued system start p.limit p.at cues came → AreGiven (key_count cues) done came → keys ≡ p.before ++ drop (length p.before) came → p.at ≤ steps
+    → AreSoundKeys p keys steps
+came_sound system start p own cues came keys done steps said fit are by given joined late =
+    let rise = subst (λ (cs : List CueText). CountsRise p.at cs) said fit.counts in
+    let follow = subst (λ (cs : List CueText). PressesFollow false cs) said fit.presses in
+    let cued = subst (λ (cs : List Cue). IsCuedFrom system start p.limit p.at [] 0 0 cs came) are by in
+    let r = own_from system start p.limit p.at p.before [] 0 0 own came rise follow cued in
+    let says : map cue_text cues ≡ map Counted p.before ++ p.said = cues_say p.before own cues are ∙ ap (λ (cs : List CueText). map Counted p.before ++ cs) (sym said) in
+    let n = cues_counted p cues says in
+    let few = given.few in
+    let most = fit.few in
+    let long = length-append p.before (drop (length p.before) came) in
+    let left = length-drop (length p.before) came in
+    let all = ap (λ (ks : List Key). length ks) joined in
+    record {
+      own = drop (length p.before) came;
+      joined = joined;
+      order = subst (λ (ks : List Key). IsInOrder p.at (drop (length p.before) ks)) (sym r.1) r.2;
+      ascii = All-drop (λ (k : Key). k.byte < 128) (length p.before) came (below_typed 0 came given.typed);
+      few = omega (arith, n, few, most, long, left, all);
+      within = late;
+    }
+
+-- ---- keys as they are written
+
+key_first : (key : Key) (cs : List CueText) (own : List Key) (rest : Option (List Key)) → ((ks : List Key) → rest ≡ Some ks → cs ≡ map Counted ks) → option_map (λ ks. key ∷ ks) rest ≡ Some own
+    → Counted key ∷ cs ≡ map Counted own
+key_first key cs own None same is = absurd (cc)
+key_first key cs own (Some ks) same is =
+    let first : key ∷ ks ≡ own = cc in
+    ap (λ (x : List CueText). Counted key ∷ x) (same ks refl) ∙ ap (map Counted) first
+
+timed_said : (said : List CueText) (own : List Key) → timed_keys said ≡ Some own → said ≡ map Counted own
+timed_said [] own is = let none : [] ≡ own = cc in ap (map Counted) none
+timed_said (Counted key ∷ cs) own is = key_first key cs own (timed_keys cs) (timed_said cs) is
+timed_said (Awaited text ∷ cs) own is = absurd (cc)
+timed_said (Pressed byte ∷ cs) own is = absurd (cc)
+
+counted_order : (n : ℕ) (keys : List Key) → CountsRise n (map Counted keys) → IsInOrder n keys
+counted_order n [] rise = tt
+counted_order n (k ∷ ks) rise = (rise.0, counted_order k.count ks rise.1)
+
+pub written_sound : (p : SessionPart) (own keys : List Key) → IsFitPart p → timed_keys p.said ≡ Some own → keys ≡ p.before ++ own → AreSoundKeys p keys p.limit
+written_sound p own keys fit timed joined =
+    let said = timed_said p.said own timed in
+    let n = ap cued_key_count said in
+    let m = counted-keys own in
+    let few = fit.few in
+    let long = length-append p.before own in
+    let all = ap (λ (ks : List Key). length ks) joined in
+    record {
+      own = own;
+      joined = joined;
+      order = counted_order p.at own (subst (λ (cs : List CueText). CountsRise p.at cs) said fit.counts);
+      ascii = below_counted own (subst KeysAreAscii said fit.ascii);
+      few = omega (arith, n, m, few, long, all);
+      within = fit.within;
+    }
+
+pub written_part : (p : SessionPart) (cues now : List Cue) (read : Option (Vec Key Global)) (own : Vec Key Global) (first last keys : List Key) → IsFitPart p → now ≡ cues
+    → option_map (λ (v : Vec Key Global). v.items) read ≡ timed_keys (map cue_text now) → read ≡ Some own → first ≡ p.before → last ≡ own.items → keys ≡ first ++ last → p.said ≡ map cue_text cues
+    → AreSoundKeys p keys p.limit
+written_part p cues now read own first last keys fit same timed some before are joined said =
+    let is : timed_keys p.said ≡ Some own.items =
+    ap timed_keys said ∙ ap (λ (cs : List Cue). timed_keys (map cue_text cs)) (sym same) ∙ sym timed ∙ ap (λ (o : Option (Vec Key Global)). option_map (λ (v : Vec Key Global). v.items) o) some in
+    written_sound p own.items keys fit is (joined ∙ ap (λ (ks : List Key). ks ++ last) before ∙ ap (λ (ks : List Key). p.before ++ ks) are)
+
+-- ---- a session after those before it
+
+few_pressable : (ss : List SettledSession) (b : StartInput) (s : SettledSession) → IsPressableBy ss b s → length s.keys ≤ most_keys
+few_pressable ss (Opens cpu quota drives) s h = h.1
+few_pressable ss (Forks parent at) s h = h.few
+
+abbrev pub IsSoundIn : List SettledSession → SettledSession → Type 0
+IsSoundIn ss s = IsPressableBy ss s.start s × AreBelow80h s.keys
+
+few_if : (ss : List SettledSession) (at : ℕ) (o : Option SettledSession) → IfSome o (IsSoundIn ss) → length (keys_before at (keys_if_settled o)) ≤ most_keys
+few_if ss at None h = omega arith
+few_if ss at (Some s) h =
+    let all = few_pressable ss s.start s h.0 in
+    let some = length-keys_before at s.keys in
+    omega (arith, all, some)
+
+pub few_before : (ss : List SettledSession) (b : StartInput) → AreSound ss → length (before_in ss b) ≤ most_keys
+few_before ss (Opens cpu quota drives) sound = omega arith
+few_before ss (Forks parent at) sound = few_if ss at (slice_get ss parent) (sound parent)
+
+below_if : (ss : List SettledSession) (at : ℕ) (o : Option SettledSession) → IfSome o (IsSoundIn ss) → AreBelow80h (keys_before at (keys_if_settled o))
+below_if ss at None h = All-nil (λ (k : Key). k.byte < 128)
+below_if ss at (Some s) h = All-filter (λ (k : Key). nat_lt k.count at) (λ (k : Key). k.byte < 128) s.keys h.1
+
+below_before : (ss : List SettledSession) (b : StartInput) → AreSound ss → AreBelow80h (before_in ss b)
+below_before ss (Opens cpu quota drives) sound = All-nil (λ (k : Key). k.byte < 128)
+below_before ss (Forks parent at) sound = below_if ss at (slice_get ss parent) (sound parent)
+
+pub part_before : (typed : Option TypedSession) (sessions : List SessionConfig) (ss : List SettledSession) (i : SessionInput) (p : SessionPart) → p ≡ part_of typed sessions ss i → AreSound ss
+    → length p.before ≤ most_keys
+part_before typed sessions ss i p is sound = let few = few_before ss i.start sound in let same = ap (λ (q : SessionPart). length q.before) is in omega (arith, few, same)
+
+pub part_fit : (typed : Option TypedSession) (sessions : List SessionConfig) (ss : List SettledSession) (i : SessionInput) (p : SessionPart) → p ≡ part_of typed sessions ss i → AreSound ss
+    → IsFitInput typed (starts_of ss) i → length p.before + cued_key_count p.said ≤ most_keys → IsFitPart p
+part_fit typed sessions ss i p is sound fit few =
+    let long : length (starts_of ss) ≡ length ss = length-map ss (λ (s : SettledSession). s.start) in
+    let said : said_at typed (length (starts_of ss)) i.said ≡ p.said = ap (λ (n : ℕ). said_at typed n i.said) long ∙ sym (ap (λ (q : SessionPart). q.said) is) in
+    let at : forked_at i.start ≡ p.at = sym (ap (λ (q : SessionPart). q.at) is) in
+    let limit : steps_at typed (length (starts_of ss)) i.session.steps ≡ p.limit = ap (λ (n : ℕ). steps_at typed n i.session.steps) long ∙ sym (ap (λ (q : SessionPart). q.limit) is) in
+    let within = fit.within in
+    record {
+      before = subst AreBelow80h (sym (ap (λ (q : SessionPart). q.before) is)) (below_before ss i.start sound);
+      ascii = subst KeysAreAscii said fit.order.ascii;
+      counts = subst (λ (n : ℕ). CountsRise n p.said) at (subst (λ (cs : List CueText). CountsRise (forked_at i.start) cs) said fit.from_fork);
+      presses = subst (λ (cs : List CueText). PressesFollow false cs) said fit.order.presses;
+      few = few;
+      within = omega (arith, within, at, limit);
+    }
+
+fork_sound : (ss : List SettledSession) (parent at : ℕ) (b : StartInput) (own : List Key) (s : SettledSession) (o : Option SettledSession) → slice_get ss parent ≡ o → option_map (λ x. x.start) o ≡ Some b → IsOpened b
+    → s.keys ≡ keys_before at (keys_if_settled o) ++ own → IsInOrder at own → length s.keys ≤ most_keys → at ≤ s.steps → IsForkPressable ss s parent at
+fork_sound ss parent at b own s None there seen opened joined order few within = absurd (cc)
+fork_sound ss parent at b own s (Some other) there seen opened joined order few within =
+    let same : b ≡ other.start = cc in
+    record { other = other; there = there; opened = subst IsOpened same opened; own = own; keys = joined; order = order; few = few; within = within }
+
+pressable : (ss : List SettledSession) (b : StartInput) (s : SettledSession) (own : List Key) → HasParent (starts_of ss) b → s.keys ≡ before_in ss b ++ own → IsInOrder (forked_at b) own → length s.keys ≤ most_keys
+    → forked_at b ≤ s.steps → IsPressableBy ss b s
+pressable ss (Opens cpu quota drives) s own parent joined order few within = (subst (λ (ks : List Key). IsInOrder 0 ks) (sym joined) order, few)
+pressable ss (Forks parent at) s own h joined order few within =
+    fork_sound ss parent at h.0 own s (slice_get ss parent) refl (sym (slice_get-map (λ (x : SettledSession). x.start) ss parent) ∙ h.1) h.2 joined order few within
+
+pub session_sound : (typed : Option TypedSession) (sessions : List SessionConfig) (ss : List SettledSession) (i : SessionInput) (p : SessionPart) (s : SettledSession) → p ≡ part_of typed sessions ss i → AreSound ss
+    → HasParent (starts_of ss) i.start → s.start ≡ i.start → AreSoundKeys p s.keys s.steps → IsSoundAfter ss s
+session_sound typed sessions ss i p s is sound parent begins keys =
+    let before : p.before ≡ before_in ss i.start = ap (λ (q : SessionPart). q.before) is in
+    let at : p.at ≡ forked_at i.start = ap (λ (q : SessionPart). q.at) is in
+    let joined : s.keys ≡ before_in ss i.start ++ keys.own = keys.joined ∙ ap (λ (ks : List Key). ks ++ keys.own) before in
+    let late = keys.within in
+    record {
+      pressable = subst (λ (b : StartInput). IsPressableBy ss b s) (sym begins)
+          (pressable ss i.start s keys.own parent joined (subst (λ (n : ℕ). IsInOrder n keys.own) at keys.order) keys.few (omega (arith, late, at)));
+      ascii = subst AreBelow80h (sym joined) (All-append (λ (k : Key). k.byte < 128) (before_in ss i.start) keys.own (below_before ss i.start sound) keys.ascii);
+    }
+
+-- ---- one after another
+
+-- the first are settled, and the rest are still to come
+pub record IsSettledTo (system : Disk) (stops_idle : Bool) (typed : Option TypedSession) (sessions : List SessionConfig) (all rest : List SessionInput) (settled : List SettledSession) : Type 0 where
+  pub done : List SessionInput
+  pub parts : done ++ rest ≡ all
+  pub starts : starts_read done ≡ starts_of settled
+  pub keys : AreSettled system stops_idle typed sessions [] done settled
+  pub fit : AreFitInputs typed (starts_of settled) rest
+  pub sound : AreSound settled
+
+none_sound : AreSound []
+none_sound place = tt
+
+settled_none : (system : Disk) (stops_idle : Bool) (typed : Option TypedSession) (sessions : List SessionConfig) (all : List SessionInput) (settled : List SettledSession) → settled ≡ [] → AreFitInputs typed [] all
+    → IsSettledTo system stops_idle typed sessions all all settled
+settled_none system stops_idle typed sessions all settled none fit =
+    let first : IsSettledTo system stops_idle typed sessions all all [] = record { done = []; parts = refl; starts = refl; keys = tt; fit = fit; sound = none_sound } in
+    subst (λ (ss : List SettledSession). IsSettledTo system stops_idle typed sessions all all ss) (sym none) first
+
+-- at a place, also where one more stands behind
+sound_there : (P : SettledSession → Type 0) (ss : List SettledSession) (s : SettledSession) → ((place : ℕ) → IfSome (slice_get ss place) P) → P s → (place : ℕ) → IfSome (slice_get (ss ++ s ∷ []) place) P
+sound_there P [] s all one zero = one
+sound_there P [] s all one (suc place) = tt
+sound_there P (x ∷ ss) s all one zero = all zero
+sound_there P (x ∷ ss) s all one (suc place) = sound_there P ss s (λ (n : ℕ). all (suc n)) one place
+
+still_there : (ss : List SettledSession) (s other : SettledSession) (place : ℕ) → slice_get ss place ≡ Some other → slice_get (ss ++ s ∷ []) place ≡ Some other
+still_there [] s other place is = absurd (cc)
+still_there (x ∷ ss) s other zero is = is
+still_there (x ∷ ss) s other (suc place) is = still_there ss s other place is
+
+still_pressable : (ss : List SettledSession) (s : SettledSession) (b : StartInput) (x : SettledSession) → IsPressableBy ss b x → IsPressableBy (ss ++ s ∷ []) b x
+still_pressable ss s (Opens cpu quota drives) x h = h
+still_pressable ss s (Forks parent at) x h = record {
+  other = h.other;
+  there = still_there ss s h.other parent h.there;
+  opened = h.opened;
+  own = h.own;
+  keys = h.keys;
+  order = h.order;
+  few = h.few;
+  within = h.within;
+}
+
+still_sound : (ss : List SettledSession) (s : SettledSession) (o : Option SettledSession) → IfSome o (IsSoundIn ss) → IfSome o (IsSoundIn (ss ++ s ∷ []))
+still_sound ss s None h = tt
+still_sound ss s (Some x) h = (still_pressable ss s x.start x h.0, h.1)
+
+sound_more : (ss : List SettledSession) (s : SettledSession) → AreSound ss → IsSoundAfter ss s → AreSound (ss ++ s ∷ [])
+sound_more ss s all one =
+    sound_there (IsSoundIn (ss ++ s ∷ [])) ss s (λ (place : ℕ). still_sound ss s (slice_get ss place) (all place)) (still_pressable ss s s.start s one.pressable, one.ascii)
+
+keys_more : (system : Disk) (stops_idle : Bool) (typed : Option TypedSession) (sessions : List SessionConfig) (before : List SettledSession) (is : List SessionInput) (ss : List SettledSession) (i : SessionInput) (s : SettledSession)
+    → AreSettled system stops_idle typed sessions before is ss → IsSettled system stops_idle (part_of typed sessions (before ++ ss) i) i s
+    → AreSettled system stops_idle typed sessions before (is ++ i ∷ []) (ss ++ s ∷ [])
+keys_more system stops_idle typed sessions before [] [] i s all one =
+    (subst (λ (xs : List SettledSession). IsSettled system stops_idle (part_of typed sessions xs i) i s) (append-nil before) one, tt)
+keys_more system stops_idle typed sessions before [] (x ∷ ss) i s all one = absurd all
+keys_more system stops_idle typed sessions before (j ∷ is) [] i s all one = absurd all
+keys_more system stops_idle typed sessions before (j ∷ is) (x ∷ ss) i s all one = (
+  all.0,
+  keys_more system stops_idle typed sessions (before ++ x ∷ []) is ss i s all.1
+      (subst (λ (xs : List SettledSession). IsSettled system stops_idle (part_of typed sessions xs i) i s) (sym (append_assoc before (x ∷ []) ss)) one),
+)
+
+-- the code's values: the next of those still to come, after those that are settled
+pub settled_next : (system : Disk) (stops_idle : Bool) (typed : Option TypedSession) (sessions : List SessionConfig) (all : List SessionInput) (rest more : List Input) (input : Input) (settled now : List SettledInput)
+    → rest ≡ input ∷ more → now ≡ settled → IsSettledTo system stops_idle typed sessions all (map given rest) (map settled_view settled)
+    → IsSettledTo system stops_idle typed sessions all (given input ∷ map given more) (map settled_view now)
+settled_next system stops_idle typed sessions all rest more input settled now steps same h =
+    subst (λ (ss : List SettledInput). IsSettledTo system stops_idle typed sessions all (given input ∷ map given more) (map settled_view ss)) (sym same)
+    (subst (λ (xs : List Input). IsSettledTo system stops_idle typed sessions all (map given xs) (map settled_view settled)) steps h)
+
+pub first_settled : (system : Disk) (stops_idle : Bool) (typed : Option TypedSession) (sessions : List SessionConfig) (all rest : List Input) (settled : List SettledInput) → rest ≡ all → settled ≡ []
+    → AreFitInputs typed [] (map given all) → IsSettledTo system stops_idle typed sessions (map given all) (map given rest) (map settled_view settled)
+first_settled system stops_idle typed sessions all rest settled whole none fit =
+    subst (λ (xs : List Input). IsSettledTo system stops_idle typed sessions (map given all) (map given xs) (map settled_view settled)) (sym whole)
+    (settled_none system stops_idle typed sessions (map given all) (map settled_view settled) (ap (map settled_view) none) fit)
+
+pub pushed_view : (settled now more : List SettledInput) (s : SettledInput) → now ≡ settled → more ≡ settled ++ s ∷ [] → map settled_view more ≡ map settled_view now ++ settled_view s ∷ []
+pushed_view settled now more s same pushed =
+    ap (map settled_view) pushed ∙ map_push settled_view settled s ∙ ap (λ (ss : List SettledInput). map settled_view ss ++ settled_view s ∷ []) (sym same)
+
+-- one more
+pub settled_more : (system : Disk) (stops_idle : Bool) (typed : Option TypedSession) (sessions : List SessionConfig) (all rest : List SessionInput) (i : SessionInput) (settled more : List SettledSession) (s : SettledSession)
+    → IsSettledTo system stops_idle typed sessions all (i ∷ rest) settled → IsSettled system stops_idle (part_of typed sessions settled i) i s → IsSoundAfter settled s → more ≡ settled ++ s ∷ []
+    → IsSettledTo system stops_idle typed sessions all rest more
+settled_more system stops_idle typed sessions all rest i settled more s h one sound pushed =
+    let begins : starts_of (settled ++ s ∷ []) ≡ starts_of settled ++ i.start ∷ [] =
+    map_push (λ (x : SettledSession). x.start) settled s ∙ ap (λ (b : StartInput). starts_of settled ++ b ∷ []) one.start in
+    let next : IsSettledTo system stops_idle typed sessions all rest (settled ++ s ∷ []) = record {
+      done = h.done ++ i ∷ [];
+      parts = append_assoc h.done (i ∷ []) rest ∙ h.parts;
+      starts = map_push (λ (x : SessionInput). x.start) h.done i ∙ ap (λ (bs : List StartInput). bs ++ i.start ∷ []) h.starts ∙ sym begins;
+      keys = keys_more system stops_idle typed sessions [] h.done settled i s h.keys one;
+      fit = subst (λ (bs : List StartInput). AreFitInputs typed bs rest) (sym begins) h.fit.1;
+      sound = sound_more settled s h.sound sound;
+    } in
+    subst (λ (ss : List SettledSession). IsSettledTo system stops_idle typed sessions all rest ss) (sym pushed) next
+
+-- ---- the next one is ready
+
+there_after : {A : Type 0} (before after : List A) (x d : A) → get_or (before ++ x ∷ after) (length before) d ≡ x
+there_after [] after x d = refl
+there_after (y ∷ before) after x d = there_after before after x d
+
+all_there : {A : Type 0} (P : A → Type 0) (before after : List A) (x : A) → All P (before ++ x ∷ after) → P x
+all_there P before after x all =
+    let long = length-append before (x ∷ after) in
+    subst P (there_after before after x x) (all (length before) x (omega (arith, long)))
+
+all_before : {A : Type 0} (P : A → Type 0) (before after : List A) → All P (before ++ after) → All P before
+all_before P [] after all = All-nil P
+all_before P (x ∷ before) after all = All-cons P x before (all 0 x (omega arith)) (all_before P before after (λ i d within. all (suc i) d (omega (arith, within))))
+
+starts_joined : (before after : List SessionInput) → starts_read (before ++ after) ≡ starts_read before ++ starts_read after
+starts_joined before after = map-append (λ (x : SessionInput). x.start) before after
+
+openable_there : (starts : List StartInput) (b : StartInput) → AreOpenable starts → (IsOpened b → IsOpenable b) → HasParent starts b → IfSome (opened_by starts b) IsOpenable
+openable_there starts (Opens cpu quota drives) all own h = own tt
+openable_there starts (Forks parent at) all own h =
+    let at_place : get_or starts parent h.0 ≡ h.0 = get_or_from_slice_get starts parent h.0 h.0 h.1 in
+    let good : IsOpened h.0 → IsOpenable h.0 =
+    subst (λ (b : StartInput). IsOpened b → IsOpenable b) at_place (all parent h.0 (slice_get_within starts parent h.0 h.1)) in
+    subst (λ (o : Option StartInput). IfSome o IsOpenable) (sym h.1) (good h.2)
+
+untyped : (typed : Option TypedSession) (place : ℕ) (said : List CueText) → typed ≡ None → IsSome (timed_keys said) → IsSome (timed_keys (said_at typed place said))
+untyped typed place said none timed = subst (λ (t : Option TypedSession). IsSome (timed_keys (said_at t place said))) (sym none) timed
+
+pub next_ready : (system : Disk) (stops_idle : Bool) (typed : Option TypedSession) (sessions : List SessionConfig) (all rest : List SessionInput) (i : SessionInput) (settled : List SettledSession) (place : ℕ)
+    → IsSettledTo system stops_idle typed sessions all (i ∷ rest) settled → AreReady stops_idle typed all → IsPartReady stops_idle (said_at typed place i.said) (opened_by (starts_of settled) i.start)
+next_ready system stops_idle typed sessions all rest i settled place h ready =
+    ⊎_elim (λ plain.
+    let timed = subst (λ (is : List SessionInput). All (λ (x : SessionInput). IsSome (timed_keys x.said)) is) (sym h.parts) plain.timed in
+    inl (plain.runs_on, untyped typed place i.said plain.untyped (all_there (λ (x : SessionInput). IsSome (timed_keys x.said)) h.done rest i timed)))
+    (λ openable.
+    let joined : starts_read all ≡ starts_read h.done ++ i.start ∷ starts_read rest = sym (ap starts_read h.parts) ∙ starts_joined h.done (i ∷ rest) in
+    let good = subst AreOpenable joined openable in
+    let own = all_there (λ (b : StartInput). IsOpened b → IsOpenable b) (starts_read h.done) (starts_read rest) i.start good in
+    let before = all_before (λ (b : StartInput). IsOpened b → IsOpenable b) (starts_read h.done) (i.start ∷ starts_read rest) good in
+    inr (openable_there (starts_of settled) i.start (subst AreOpenable h.starts before) own h.fit.0.parent)) ready
+
+-- ---- how settling is refused
+
+pub next_refused : (system : Disk) (stops_idle : Bool) (typed : Option TypedSession) (sessions : List SessionConfig) (all rest : List SessionInput) (i : SessionInput) (settled : List SettledSession) (e : RunError)
+    → IsSettledTo system stops_idle typed sessions all (i ∷ rest) settled → IsPartRefusal (part_of typed sessions settled i) i e → IsSettlingRefusal system stops_idle typed sessions all e
+next_refused system stops_idle typed sessions all rest i settled e h r =
+    record { done = h.done; input = i; rest = rest; order = sym h.parts; settled = settled; before = h.keys; refused = r }
+
+-- all are settled
+pub all_settled : (system : Disk) (stops_idle : Bool) (typed : Option TypedSession) (sessions : List SessionConfig) (all rest : List SessionInput) (settled : List SettledSession) → rest ≡ []
+    → IsSettledTo system stops_idle typed sessions all rest settled → AreSettled system stops_idle typed sessions [] all settled
+all_settled system stops_idle typed sessions all rest settled none h =
+    let whole : h.done ≡ all = sym (append-nil h.done) ∙ ap (λ (is : List SessionInput). h.done ++ is) (sym none) ∙ h.parts in
+    subst (λ (is : List SessionInput). AreSettled system stops_idle typed sessions [] is settled) whole h.keys

@@ -1,0 +1,225 @@
+-- From what was read of a run to what its sessions are played by.
+use Rattle.std.proofs.Common.{◌≡◌, ◌∙◌, ◌<◌, ◌≤◌, ◌+◌, ◌⊎◌, inl, inr, ℕ, zero, suc, Bool, true, false, List, [], ◌∷◌, ◌++◌, Option, Some, None, length, map, refl, sym, subst, ap, arith, slice_get, get_or, take, drop, if◌then◌else◌, ◌==◌, ◌||◌}
+use Rattle.std.specs.Prelude.{IsSome, is_some, not, nat_lt, option_map, string_bytes}
+use Rattle.std.specs.List.{All}
+use Rattle.std.proofs.lemmas.Bool.Decides.{nat_tests}
+use Rattle.std.proofs.lemmas.List.{at_drop_all, drop_more, length-append, map_more}
+use Rattle.std.proofs.lemmas.List.Elements.{All-cons, All-get_or, All-nil, All-push, All-same}
+use Rattle.std.proofs.lemmas.Option.{get_or_from_slice_get, slice_get-get_or, slice_get-map, slice_get_within}
+use Rattle.cpm_batch.specs.Inputs.{Forks, IsOpened, Opens, SessionInput, StartInput, given, timed_keys}
+use Rattle.cpm_batch.specs.declared.input.Input.{Input}
+use Rattle.cpm_config.specs.declared.config.Config.{Config}
+use Rattle.cpm_config.specs.declared.config.SessionConfig.{SessionConfig}
+use Rattle.cpm_flags.specs.declared.regs.Cpu.{Cpu}
+use Rattle.cpm_geom.specs.Disk.{Disk}
+use Rattle.cpm_machine.specs.Opening.{drives_fault, fault_else, opening_fault}
+use Rattle.cpm_machine.specs.declared.opening.OpenError.{OpenError}
+use Rattle.cpm_machine.specs.declared.opening.OpenError.TheVariants.{BadQuota}
+use Rattle.cpm_machine.specs.declared.opening.Opening.{Opening}
+use Rattle.cpm_script.specs.Cues.{Counted, CueText, cue_text, cued_key_count}
+use Rattle.cpm_script.specs.Laws.{AreInOrder, CountsRise, KeysAreAscii, PressesFollow}
+use Rattle.cpm_script.specs.Recording.{AreTyped}
+use Rattle.cpm_script.specs.declared.cue.Cue.{Cue}
+use Rattle.cpm_script.specs.declared.cue.Cue.TheVariants as cue
+use Rattle.cpm_script.specs.declared.script.Key.{Key}
+use Rattle.cpm_slots.specs.Host.{Host, new_host, room_fault, with_opened}
+use Rattle.cpm_run.specs.Playing.{IsSessionsRefusal}
+use Rattle.cpm_run.specs.Refusing.{IsSettleRefusal}
+use Rattle.cpm_run.specs.Run.{AllAccepted, IsOpening, starts_read}
+use Rattle.cpm_run.specs.Settled.{AreUntouched, IsTypedAt, IsTypedIfAny, Streams, TypedSession, forked_at, streams, typed_view}
+use Rattle.cpm_run.specs.Settling.{AreFitInputs, AreFitStarts, AreOpenable, IsFitInput, IsOpenable, IsSettlingRefusal}
+use Rattle.cpm_run.specs.declared.error.RunError.{RunError}
+use Rattle.cpm_run.specs.declared.error.RunError.TheVariants as refusal
+use Rattle.cpm_run.specs.declared.options.RunOptions.{RunOptions}
+use Rattle.cpm_run.specs.declared.typed.TypedKeys.{TypedKeys}
+use Rattle.std.specs.Borrow.{Bor}
+
+-- ---- scripts that wait
+
+-- the session's script has a count for each key
+abbrev pub IsTimed : SessionInput → Type 0
+IsTimed i = IsSome (timed_keys i.said)
+
+known_with : (key : Key) (keys : Option (List Key)) → is_some (option_map (λ ks. key ∷ ks) keys) ≡ is_some keys
+known_with key None = refl
+known_with key (Some keys) = refl
+
+-- a key with a count leaves it open whether the others have one
+pub key-left : (cs : List Cue) (i : ℕ) (x : Cue) (key : Key) → i < length cs → x ≡ get_or cs i x → x ≡ cue.Key key
+    → is_some (timed_keys (map cue_text (drop (i + 1) cs))) ≡ is_some (timed_keys (map cue_text (drop i cs)))
+key-left cs i x key within is this =
+    sym (ap (λ (rest : List Cue). is_some (timed_keys (map cue_text rest))) (drop_more cs i x within ∙ ap (λ (y : Cue). y ∷ drop (i + 1) cs) (sym is ∙ this))
+    ∙ known_with key (timed_keys (map cue_text (drop (i + 1) cs))))
+
+none-known : (x : Cue) (rest : List Cue) → ((key : Key) → x ≡ cue.Key key → ⊥) → is_some (timed_keys (cue_text x ∷ map cue_text rest)) ≡ false
+none-known (cue.Key key) rest other = absurd (other key refl)
+none-known (cue.Wait text) rest other = refl
+none-known (cue.Press byte) rest other = refl
+
+-- anything else waits
+pub wait-found : (cs : List Cue) (i : ℕ) (x : Cue) → i < length cs → x ≡ get_or cs i x → ((key : Key) → x ≡ cue.Key key → ⊥) → is_some (timed_keys (map cue_text (drop i cs))) ≡ false
+wait-found cs i x within is other =
+    ap (λ (rest : List Cue). is_some (timed_keys (map cue_text rest))) (drop_more cs i x within ∙ ap (λ (y : Cue). y ∷ drop (i + 1) cs) (sym is)) ∙ none-known x (drop (i + 1) cs) other
+
+-- none is left
+pub none-left : (cs : List Cue) (i : ℕ) → length cs ≤ i → is_some (timed_keys (map cue_text (drop i cs))) ≡ true
+none-left cs i past = at_drop_all (λ (rest : List Cue). is_some (timed_keys (map cue_text rest))) cs i past
+
+pub none-asked : {A : Type 0} (o : Option A) → is_some o ≡ false → o ≡ None
+none-asked None none = refl
+none-asked (Some x) none = absurd (cc)
+
+-- one more session whose script has a count for each key
+pub timed-more : (is : List Input) (n : ℕ) (i : Input) (cs : List Cue) (waits : Bool) → n < length is → i ≡ get_or is n i → cs ≡ i.cues.items → waits ≡ not (is_some (timed_keys (map cue_text cs)))
+    → waits ≡ false → All IsTimed (map given (take n is)) → All IsTimed (map given (take (n + 1) is))
+timed-more is n i cs waits within is_at own test quiet all =
+    let said : is_some (timed_keys (map cue_text (get_or is n i).cues.items)) ≡ true =
+    by_test (is_some (timed_keys (map cue_text (get_or is n i).cues.items)))
+    (sym quiet ∙ test ∙ ap (λ (x : List Cue). not (is_some (timed_keys (map cue_text x)))) (own ∙ ap (λ (x : Input). x.cues.items) is_at)) in
+    All-same IsTimed (map given (take (n + 1) is)) (map given (take n is) ++ given (get_or is n i) ∷ []) (map_more given is n i within)
+    (All-push IsTimed (map given (take n is)) (given (get_or is n i)) all said)
+  where
+    by_test : (t : Bool) → false ≡ not t → t ≡ true
+    by_test true e = refl
+    by_test false e = absurd (cc)
+
+-- ---- openings
+
+none_of : (first second : Option OpenError) → fault_else first second ≡ None → first ≡ None
+none_of None second none = refl
+none_of (Some fault) second none = none
+
+fault_by : ℕ → List Disk → Option OpenError
+fault_by quota images = if nat_lt quota 16 || nat_lt 256 quota then Some BadQuota else drives_fault (length images)
+
+fault_is : (cpu : Cpu) (quota : ℕ) (images : List Disk) (o : Opening) → IsOpening cpu quota images o → opening_fault o ≡ fault_by quota images
+unfolding fault_by
+fault_is cpu quota images o is = ap (λ (n : ℕ). fault_by n o.drives.items) is.quota ∙ ap (fault_by quota) is.drives
+
+abbrev OpensIf : StartInput → Type 0
+OpensIf b = IsOpened b → IsOpenable b
+
+one_openable : (cpu : Cpu) (quota : ℕ) (images : List Disk) (o : Opening) → IsOpening cpu quota images o → opening_fault o ≡ None → OpensIf (Opens cpu quota images)
+one_openable cpu quota images o is none = λ opened p of. fault_is cpu quota images p of ∙ sym (fault_is cpu quota images o is) ∙ none
+
+-- what was accepted can be opened
+pub accepted_openable : (all : List StartInput) (h : Host) (starts : List StartInput) → AllAccepted all h starts → AreOpenable starts
+accepted_openable all h [] r = All-nil OpensIf
+accepted_openable all h (Opens cpu quota drives ∷ bs) r =
+    All-cons OpensIf (Opens cpu quota drives) bs (one_openable cpu quota drives r.0 r.1 (none_of (opening_fault r.0) (room_fault h r.0.quota) r.2)) (accepted_openable all (with_opened h r.0) bs r.3)
+accepted_openable all h (Forks parent at ∷ bs) r = All-cons OpensIf (Forks parent at) bs (λ opened. absurd opened) (accepted_openable all h bs r)
+
+-- ---- sessions that are fit
+
+pub fit_starts : (typed : Option TypedSession) (starts : List StartInput) (is : List SessionInput) → AreFitInputs typed starts is → AreFitStarts starts (starts_read is)
+fit_starts typed starts [] fit = tt
+fit_starts typed starts (i ∷ is) fit = (fit.0.parent, fit_starts typed (starts ++ i.start ∷ []) is fit.1)
+
+-- what was typed is in order
+typed_few : (keys : List Key) → cued_key_count (map Counted keys) ≡ length keys
+typed_few [] = refl
+typed_few (k ∷ ks) = ap suc (typed_few ks)
+
+typed_counts : (n : ℕ) (keys : List Key) → AreTyped n keys → CountsRise n (map Counted keys)
+typed_counts n [] typed = tt
+typed_counts n (k ∷ ks) typed = (typed.0, typed_counts k.count ks typed.3)
+
+typed_ascii : (n : ℕ) (keys : List Key) → AreTyped n keys → KeysAreAscii (map Counted keys)
+typed_ascii n [] typed = tt
+typed_ascii n (k ∷ ks) typed = (typed.2, typed_ascii k.count ks typed.3)
+
+typed_presses : (keys : List Key) → PressesFollow false (map Counted keys)
+typed_presses [] = tt
+typed_presses (k ∷ ks) = typed_presses ks
+
+typed_order : (keys : List Key) → AreTyped 0 keys → length keys ≤ 4096 → AreInOrder (map Counted keys)
+typed_order keys typed few =
+    record { few = let n = typed_few keys in omega (arith, n, few); counts = typed_counts 0 keys typed; ascii = typed_ascii 0 keys typed; presses = typed_presses keys }
+
+at_zero : (b : StartInput) → IsOpened b → forked_at b ≡ 0
+at_zero (Opens cpu quota drives) opened = refl
+at_zero (Forks parent at) opened = absurd opened
+
+fit_one : (t : TypedSession) (starts : List StartInput) (i : SessionInput) → AreInOrder (map Counted t.keys) → (length starts ≡ t.place → IsOpened i.start) → IsFitInput None starts i
+    → IsFitInput (Some t) starts i
+fit_one t starts i keys opened fit = by_test (length starts == t.place) refl
+  where
+    by_test : (b : Bool) → (length starts == t.place) ≡ b → IsFitInput (Some t) starts i
+    by_test true e =
+        let same : length starts ≡ t.place = grind (arith, nat_tests) in
+        let zero = at_zero i.start (opened same) in
+        record {
+          order = subst (λ (b : Bool). AreInOrder (if b then map Counted t.keys else i.said)) (sym e) keys;
+          from_fork = subst (λ (b : Bool). CountsRise (forked_at i.start) (if b then map Counted t.keys else i.said)) (sym e)
+              (subst (λ (n : ℕ). CountsRise n (map Counted t.keys)) (sym zero) keys.counts);
+          within = subst (λ (b : Bool). forked_at i.start ≤ (if b then t.steps else i.session.steps)) (sym e) (omega (arith, zero));
+          parent = fit.parent;
+        }
+    by_test false e = record {
+      order = subst (λ (b : Bool). AreInOrder (if b then map Counted t.keys else i.said)) (sym e) fit.order;
+      from_fork = subst (λ (b : Bool). CountsRise (forked_at i.start) (if b then map Counted t.keys else i.said)) (sym e) fit.from_fork;
+      within = subst (λ (b : Bool). forked_at i.start ≤ (if b then t.steps else i.session.steps)) (sym e) fit.within;
+      parent = fit.parent;
+    }
+
+fit_from : (t : TypedSession) (starts : List StartInput) (is : List SessionInput) → AreInOrder (map Counted t.keys)
+    → ((place : ℕ) (i : SessionInput) → slice_get is place ≡ Some i → length starts + place ≡ t.place → IsOpened i.start) → AreFitInputs None starts is → AreFitInputs (Some t) starts is
+fit_from t starts [] keys opened fit = tt
+fit_from t starts (i ∷ is) keys opened fit = (
+  fit_one t starts i keys (λ e. opened 0 i refl (omega (arith, e))) fit.0,
+  fit_from t (starts ++ i.start ∷ []) is keys (λ place j there e. opened (suc place) j there (let more = length-append starts (i.start ∷ []) in omega (arith, e, more))) fit.1,
+)
+
+fit_typed : (system : Disk) (sessions : List SessionConfig) (name : List ℕ) (inputs : List SessionInput) (io : Streams) (t : TypedSession) → IsTypedAt system sessions name inputs io t
+    → AreFitInputs None [] inputs → AreFitInputs (Some t) [] inputs
+fit_typed system sessions name inputs io t at fit =
+    let given = at.typed.given in
+    fit_from t [] inputs (typed_order t.keys given.typed given.few)
+    (λ place i there e.
+    let here : place ≡ t.place = omega (arith, e) in
+    let found : Some i ≡ Some at.input = sym there ∙ ap (slice_get inputs) here ∙ at.there in
+    let same : at.input ≡ i = cc in
+    subst (λ (x : SessionInput). IsOpened x.start) same at.opened)
+    fit
+
+pub typed_fit : (system : Disk) (sessions : List SessionConfig) (name : Option (List ℕ)) (inputs : List SessionInput) (io : Streams) (typed : Option TypedSession)
+    → IsTypedIfAny system sessions name inputs io typed → AreFitInputs None [] inputs → AreFitInputs typed [] inputs
+typed_fit system sessions None inputs io typed h fit = subst (λ (t : Option TypedSession). AreFitInputs t [] inputs) (sym h.0) fit
+typed_fit system sessions (Some name) inputs io typed h fit =
+    subst (λ (t : Option TypedSession). AreFitInputs t [] inputs) (sym h.1) (fit_typed system sessions name inputs io h.0 h.2 fit)
+
+-- ---- refusals
+
+pub sessions_refused : (config : Config) (options : RunOptions) (io : Streams) (system : Disk) (inputs : List SessionInput) (e : RunError) → AreUntouched io
+    → IsSessionsRefusal config (new_host system config.frames) (starts_read inputs) e → IsSettleRefusal config options io system inputs e
+sessions_refused config options io system inputs (refusal.SessionRefused name fault) untouched r = (r.0, r.1, untouched)
+sessions_refused config options io system inputs (refusal.FramesExceeded name quotas frames) untouched r = (r.0, r.1, r.2, untouched)
+sessions_refused config options io system inputs refusal.OutOfMemory untouched r = tt
+sessions_refused config options io system inputs _ untouched r = absurd r
+
+pub settle_refused : (config : Config) (options : RunOptions) (io : Streams) (system : Disk) (inputs : List SessionInput) (typed : Option TypedSession) (e : RunError)
+    → AllAccepted (starts_read inputs) (new_host system config.frames) (starts_read inputs) ⊎ AreUntouched io
+    → IsTypedIfAny system config.sessions.items (option_map (λ n. n.now) options.typed) inputs io typed
+    → IsSettlingRefusal system options.stops_idle typed config.sessions.items inputs e → IsSettleRefusal config options io system inputs e
+settle_refused config options io system inputs typed (refusal.TooManyKeys shown) judged heard r =
+    record { judged = judged; typed = typed; heard = heard; over = record { done = r.done; input = r.input; rest = r.rest; order = r.order; settled = r.settled; before = r.before; over = r.refused } }
+settle_refused config options io system inputs typed refusal.OutOfMemory judged heard r = tt
+settle_refused config options io system inputs typed _ judged heard r = absurd r.refused
+
+pub settle_refused_as : (config : Config) (options : RunOptions) (io : Streams) (system : Disk) (inputs : List SessionInput) (typed heard : Option TypedKeys) (e : RunError) → typed ≡ heard
+    → AllAccepted (starts_read inputs) (new_host system config.frames) (starts_read inputs) ⊎ AreUntouched io
+    → IsTypedIfAny system config.sessions.items (option_map (λ n. n.now) options.typed) inputs io (typed_view heard)
+    → IsSettlingRefusal system options.stops_idle (typed_view typed) config.sessions.items inputs e → IsSettleRefusal config options io system inputs e
+settle_refused_as config options io system inputs typed heard e same judged given r =
+    settle_refused config options io system inputs (typed_view heard) e judged given
+    (subst (λ (t : Option TypedKeys). IsSettlingRefusal system options.stops_idle (typed_view t) config.sessions.items inputs e) same r)
+
+-- where nothing is to be typed, nothing was
+pub nothing_heard : (config : Config) (options : RunOptions) (io : Streams) (system : Disk) (inputs : List SessionInput) → options.typed ≡ None → AreUntouched io
+    → IsTypedIfAny system config.sessions.items (option_map (λ n. n.now) options.typed) inputs io None
+nothing_heard config options io system inputs none untouched =
+    subst (λ (o : Option (Bor (List ℕ))). IsTypedIfAny system config.sessions.items (option_map (λ n. n.now) o) inputs io None) (sym none) (refl, untouched)
+
+-- what wasn't used
+pub none_touched : (unread before unrecorded : Option (List ℕ)) → AreUntouched (streams unread unread before before unrecorded unrecorded)
+none_touched unread before unrecorded = record { unread = refl; unwritten = refl; unrecorded = refl }

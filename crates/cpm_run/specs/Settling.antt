@@ -1,0 +1,174 @@
+-- What settling the sessions of a run rests on, and how it is refused. All of it is own.
+use Rattle.std.specs.Prelude.{⊤, ◌≡◌, ◌≤◌, ◌<◌, ◌⊎◌, ◌+◌, ◌++◌, ◌∷◌, ℕ, Bool, true, false, List, [], length, map, slice_get}
+use Rattle.std.specs.Prelude.{Option, Some, None, option_map, IfSome, IsSome}
+use Rattle.std.specs.List.{All}
+use Rattle.cpm_batch.specs.Inputs.{Forks, IsOpened, Opens, SessionInput, StartInput, start_view, timed_keys}
+use Rattle.cpm_config.specs.Rules.{is_opened, origin_view, place_of, session_view}
+use Rattle.cpm_config.specs.declared.config.Config.{Config}
+use Rattle.cpm_config.specs.declared.config.SessionConfig.{SessionConfig}
+use Rattle.cpm_geom.specs.Disk.{Disk}
+use Rattle.cpm_machine.specs.Opening.{opening_fault}
+use Rattle.cpm_machine.specs.declared.opening.Opening.{Opening}
+use Rattle.cpm_play.specs.Playing.{IsInOrder}
+use Rattle.cpm_script.specs.Cues.{CueText, all_said, cued_key_count}
+use Rattle.cpm_script.specs.Laws.{AreInOrder, CountsRise, KeysAreAscii, PressesFollow}
+use Rattle.cpm_script.specs.Script.{most_keys}
+use Rattle.cpm_script.specs.declared.script.Key.{Key}
+use Rattle.cpm_run.specs.Playing.{IsPressableBy}
+use Rattle.cpm_run.specs.Refusing.{IsOverfull}
+use Rattle.cpm_slots.specs.Host.{new_host}
+use Rattle.cpm_run.specs.Run.{AllAccepted, IsOpening, starts_read}
+use Rattle.cpm_run.specs.Settled.{AreSettled, AreUntouched, IsTypedIfAny, SessionPart, SettledSession, Streams, TypedSession}
+use Rattle.cpm_run.specs.Settled.{forked_at, opening_of, part_of, said_at, steps_at}
+use Rattle.cpm_run.specs.declared.options.RunOptions.{RunOptions}
+use Rattle.cpm_run.specs.declared.error.RunError.{RunError}
+use Rattle.cpm_run.specs.declared.error.RunError.TheVariants as refusal
+use Rattle.cpm_run.specs.declared.part.Part.{Part}
+
+-- ---- openings
+
+-- it opens a session that begins so
+abbrev pub IsOpeningOf : StartInput → Opening → Type 0
+IsOpeningOf (Opens cpu quota drives) o = IsOpening cpu quota drives o
+IsOpeningOf (Forks parent at) o = ⊥
+
+-- such an opening has no fault
+abbrev pub IsOpenable : StartInput → Type 0
+IsOpenable b = (o : Opening) → IsOpeningOf b o → opening_fault o ≡ None
+
+-- ---- keys
+
+abbrev pub AreBelow80h : List Key → Type 0
+AreBelow80h = All (λ k. k.byte < 128)
+
+-- the code's value
+abbrev pub part_view : Part → SessionPart
+part_view p = record {
+  opening = opening_of (start_view p.opened.now);
+  before = p.before.items;
+  at = p.at;
+  said = all_said p.cues;
+  limit = p.steps;
+  last = p.last;
+}
+
+-- what a session says can be pressed after its keys from before: it is in order, from the fork on, and not too much; and the fork is within its steps
+pub record IsFitPart (p : SessionPart) : Type 0 where
+  pub before : AreBelow80h p.before
+  pub ascii : KeysAreAscii p.said
+  pub counts : CountsRise p.at p.said
+  pub presses : PressesFollow false p.said
+  pub few : length p.before + cued_key_count p.said ≤ most_keys
+  pub within : p.at ≤ p.limit
+
+-- its keys are then those from before and own ones, which come at the fork or later, in order, not too many in all
+pub record AreSoundKeys (p : SessionPart) (keys : List Key) (steps : ℕ) : Type 0 where
+  pub own : List Key
+  pub joined : keys ≡ p.before ++ own
+  pub order : IsInOrder p.at own
+  pub ascii : AreBelow80h own
+  pub few : length keys ≤ most_keys
+  pub within : p.at ≤ steps
+
+-- a session has the keys of its script as they are written, or it can be opened by itself
+abbrev pub IsPartReady : (stops_idle : Bool) → List CueText → Option StartInput → Type 0
+IsPartReady stops_idle said opened = ((stops_idle ≡ false) × IsSome (timed_keys said)) ⊎ IfSome opened IsOpenable
+
+-- ---- all sessions
+
+-- each that was settled can be pressed in the run, and has keys below 80h
+abbrev pub AreSound : List SettledSession → Type 0
+AreSound ss = (place : ℕ) → IfSome (slice_get ss place) (λ s. IsPressableBy ss s.start s × AreBelow80h s.keys)
+
+-- one that comes after them, too
+pub record IsSoundAfter (ss : List SettledSession) (s : SettledSession) : Type 0 where
+  pub pressable : IsPressableBy ss s.start s
+  pub ascii : AreBelow80h s.keys
+
+-- the one that a session is forked from stands among those that begin so, and is opened
+abbrev pub HasParent : List StartInput → StartInput → Type 0
+HasParent starts (Opens cpu quota drives) = ⊤
+HasParent starts (Forks parent at) = (b : StartInput) × (slice_get starts parent ≡ Some b) × IsOpened b
+
+-- a session can be settled after those that begin so
+pub record IsFitInput (typed : Option TypedSession) (starts : List StartInput) (i : SessionInput) : Type 0 where
+  pub order : AreInOrder (said_at typed (length starts) i.said)
+  pub from_fork : CountsRise (forked_at i.start) (said_at typed (length starts) i.said)
+  pub within : forked_at i.start ≤ steps_at typed (length starts) i.session.steps
+  pub parent : HasParent starts i.start
+
+abbrev pub AreFitInputs : Option TypedSession → List StartInput → List SessionInput → Type 0
+AreFitInputs typed starts [] = ⊤
+AreFitInputs typed starts (i ∷ is) = IsFitInput typed starts i × AreFitInputs typed (starts ++ i.start ∷ []) is
+
+-- so it is with each in order
+abbrev pub AreFitStarts : (before starts : List StartInput) → Type 0
+AreFitStarts before [] = ⊤
+AreFitStarts before (b ∷ bs) = HasParent before b × AreFitStarts (before ++ b ∷ []) bs
+
+-- a session that is to be tried has no key and no step, and is forked at once where it is forked
+abbrev pub trial_start : StartInput → StartInput
+trial_start (Opens cpu quota drives) = Opens cpu quota drives
+trial_start (Forks parent at) = Forks parent 0
+
+abbrev pub trial_of : SessionInput → SettledSession
+trial_of i = record { session = i.session; start = trial_start i.start; keys = []; before = 0; steps = 0; is_idle = false }
+
+-- each that is opened has no fault
+abbrev pub AreOpenable : List StartInput → Type 0
+AreOpenable = All (λ b. IsOpened b → IsOpenable b)
+
+-- no session is played by itself
+pub record ArePlain (stops_idle : Bool) (typed : Option TypedSession) (is : List SessionInput) : Type 0 where
+  pub untyped : typed ≡ None
+  pub runs_on : stops_idle ≡ false
+  pub timed : All (λ i. IsSome (timed_keys i.said)) is
+
+-- so it is, or all that are opened can be
+abbrev pub AreReady : (stops_idle : Bool) → Option TypedSession → List SessionInput → Type 0
+AreReady stops_idle typed is = ArePlain stops_idle typed is ⊎ AreOpenable (starts_read is)
+
+-- the place of the session that is to be typed at, where one is, which is opened
+pub record IsTypedIn (config : Config) (name : List ℕ) (place : ℕ) : Type 0 where
+  pub first : place_of name (map session_view config.sessions.items) ≡ Some place
+  pub session : SessionConfig
+  pub there : slice_get config.sessions.items place ≡ Some session
+  pub opened : is_opened (origin_view session.origin) ≡ true
+
+abbrev pub IsTypedPlaceOf : Config → Option (List ℕ) → Option ℕ → Type 0
+IsTypedPlaceOf config None place = place ≡ None
+IsTypedPlaceOf config (Some name) place = (n : ℕ) × (place ≡ Some n) × IsTypedIn config name n
+
+abbrev pub IsTypedPlace : Config → RunOptions → Option ℕ → Type 0
+IsTypedPlace config options place = IsTypedPlaceOf config (option_map (λ n. n.now) options.typed) place
+
+-- a session is opened in the run where it is in the configuration
+abbrev pub BeginsAsConfigured : SessionInput → Type 0
+BeginsAsConfigured i = is_opened (origin_view i.session.origin) ≡ true → IsOpened i.start
+
+-- All sessions are settled, by what was typed at the one that is named. Their openings were all accepted before, or else no key was read.
+pub record AreSettledBy (config : Config) (options : RunOptions) (io : Streams) (system : Disk) (inputs : List SessionInput) (settled : List SettledSession)
+    : Type 0 where
+  pub typed : Option TypedSession
+  pub judged : AllAccepted (starts_read inputs) (new_host system config.frames) (starts_read inputs) ⊎ AreUntouched io
+  pub heard : IsTypedIfAny system config.sessions.items (option_map (λ n. n.now) options.typed) inputs io typed
+  pub keys : AreSettled system options.stops_idle typed config.sessions.items [] inputs settled
+
+-- ---- refusals
+
+-- how settling a session is refused: it has too many keys, or memory was refused
+abbrev pub IsPartRefusal : SessionPart → SessionInput → RunError → Type 0
+IsPartRefusal p i (refusal.TooManyKeys shown) = IsOverfull p i shown.bytes
+IsPartRefusal p i refusal.OutOfMemory = ⊤
+IsPartRefusal p i _ = ⊥
+
+-- how settling all is refused: the first are settled, and the next is refused so
+pub record IsSettlingRefusal (system : Disk) (stops_idle : Bool) (typed : Option TypedSession) (sessions : List SessionConfig) (inputs : List SessionInput)
+    (e : RunError) : Type 0 where
+  pub done : List SessionInput
+  pub input : SessionInput
+  pub rest : List SessionInput
+  pub order : inputs ≡ done ++ input ∷ rest
+  pub settled : List SettledSession
+  pub before : AreSettled system stops_idle typed sessions [] done settled
+  pub refused : IsPartRefusal (part_of typed sessions settled input) input e

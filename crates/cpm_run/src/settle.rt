@@ -1,0 +1,221 @@
+//! What each session of a run is played by: the keys of its script, or where that waits or sessions are to stop idle, those that come where it is played
+//! by itself.
+ghost use Rattle.std.specs.Prelude.{◌≡◌, ◌++◌, [], drop, IfErr, IfOk, map};
+ghost use Rattle.cpm_batch.specs.Inputs.{IsOpened, given, start_view, timed_keys};
+ghost use Rattle.cpm_script.specs.Cues.{all_said};
+ghost use Rattle.cpm_run.specs.Playing.{ArePressable};
+ghost use Rattle.cpm_run.specs.Settled.{AreSettled, HasPlayedKeys, HasSettledBy, IsSettled, opened_by, part_of, said_at, settled_view, starts_of, typed_view};
+ghost use Rattle.cpm_run.specs.Settling.{AreFitInputs, AreReady, AreSound, AreSoundKeys, IsFitInput, IsFitPart, IsOpenable, IsPartReady, IsPartRefusal};
+ghost use Rattle.cpm_run.specs.Settling.{IsSettlingRefusal, IsSoundAfter, part_view};
+ghost use Rattle.std.specs.Prelude.{Some, length};
+
+use crate::alone::{after_keys, machine_of};
+use crate::error::RunError;
+use crate::part::{Part, key_count, part_of, timed_keys};
+use crate::settled::SettledInput;
+use crate::typed::TypedKeys;
+use crate::watcher::{RunStage, RunWatcher};
+use cpm_batch::Input;
+use cpm_command_line::shown;
+use cpm_config::Config;
+use cpm_geom::Image;
+use cpm_play::{CuedKeys, LivePlay, play_cues};
+use cpm_script::{Key, MOST_KEYS};
+use std::alloc::{AllocError, Global};
+use std::io;
+
+/// What a session is played by.
+#[derive(Drop)]
+struct PartPlay {
+    keys: Vec<Key>,
+    steps: u64,
+    is_idle: bool,
+}
+
+/// Keys with others after them.
+fn joined(alloc: Global, first: &[Key], others: &[Key]) -> Result<Vec<Key>, AllocError>
+    ensures { IfOk result (λ v. v.items ≡ first.now ++ others.now) }
+{
+    let mut keys = Vec::new(alloc);
+    keys.extend_from_slice(first)?;
+    keys.extend_from_slice(others)?;
+    Ok(keys)
+}
+
+/// The keys after so many.
+pub(crate) fn keys_after(keys: &[Key], count: usize) -> &[Key]
+    ensures { result.now ≡ drop count keys.now }
+{
+    if count <= keys.len() {
+        &keys[count..]
+    } else {
+        &[]
+    }
+}
+
+/// Plays a session by itself, by the keys that it has from before and by what it says.
+fn play_part<T: RunWatcher>(
+    alloc: Global,
+    system: &Image,
+    part: Part<'_>,
+    stops_idle: bool,
+    watcher: &mut T,
+) -> Result<PartPlay, RunError>
+    requires fit { IsFitPart (part_view part) }
+    requires opened { IsOpened (start_view part.opened.now) }
+    requires openable { IsOpenable (start_view part.opened.now) }
+    ensures played { IfOk result (λ p. HasPlayedKeys system.now (part_view part.entry) stops_idle p.keys.items p.steps p.is_idle) }
+    ensures sound { IfOk result (λ p. AreSoundKeys (part_view part.entry) p.keys.items p.steps) }
+    ensures refusal { IfErr result (λ e. e ≡ RunError.OutOfMemory) }
+{
+    let Part {
+        opened,
+        before,
+        at,
+        cues,
+        steps,
+        last,
+    } = part;
+    let mut machine = machine_of(alloc, opened)?;
+    let cues = after_keys(alloc, before.as_slice(), cues)?;
+    let cued = CuedKeys {
+        cues: cues.as_slice(),
+        waits_from: at,
+        stops_idle,
+    };
+    let played = play_cues(
+        alloc,
+        system,
+        &mut machine,
+        steps,
+        cued,
+        &mut io::sink(),
+        &mut io::sink(),
+        watcher,
+    );
+    // (what is dropped can always be written, so that it fails for nothing else)
+    let Ok(
+        LivePlay {
+            keys: came,
+            steps: done,
+        },
+    ) = played
+    else {
+        return Err(RunError::OutOfMemory);
+    };
+    let own = keys_after(came.as_slice(), before.len());
+    Ok(PartPlay {
+        keys: joined(alloc, before.as_slice(), own)?,
+        steps: if stops_idle {
+            done.max(at.max(last))
+        } else {
+            steps
+        },
+        is_idle: stops_idle && machine.look().waiting,
+    })
+}
+
+/// What a session is played by: the keys of its script as they are written, or those that come.
+fn settle_part<T: RunWatcher>(
+    alloc: Global,
+    system: &Image,
+    place: usize,
+    part: Part<'_>,
+    stops_idle: bool,
+    watcher: &mut T,
+) -> Result<PartPlay, RunError>
+    requires fit { IsFitPart (part_view part) }
+    requires opened { IsOpened (start_view part.opened.now) }
+    requires ready { IsPartReady stops_idle (all_said part.cues) (Some (start_view part.opened.now)) }
+    ensures settled { IfOk result (λ p. HasSettledBy system.now (part_view part.entry) stops_idle (timed_keys (all_said part.entry.cues))
+        p.keys.items p.steps p.is_idle) }
+    ensures sound { IfOk result (λ p. AreSoundKeys (part_view part.entry) p.keys.items p.steps) }
+    ensures refusal { IfErr result (λ e. e ≡ RunError.OutOfMemory) }
+{
+    match timed_keys(alloc, part.cues.as_slice())? {
+        Some(own) if !stops_idle => Ok(PartPlay {
+            keys: joined(alloc, part.before.as_slice(), own.as_slice())?,
+            steps: part.steps,
+            is_idle: false,
+        }),
+        _ => {
+            watcher.begin(RunStage::Alone(place));
+            play_part(alloc, system, part, stops_idle, watcher)
+        }
+    }
+}
+
+/// Settles a session, after those before it.
+fn settle_session<'a, T: RunWatcher>(
+    alloc: Global,
+    config: &Config,
+    system: &Image,
+    input: Input<'a>,
+    settled: &[SettledInput<'_>],
+    typed: &Option<TypedKeys>,
+    stops_idle: bool,
+    watcher: &mut T,
+) -> Result<SettledInput<'a>, RunError>
+    requires fit { IsFitInput (typed_view typed.now) (starts_of (map settled_view settled.now)) (given input) }
+    requires sound { AreSound (map settled_view settled.now) }
+    requires ready { IsPartReady stops_idle (said_at (typed_view typed.now) (length settled.now) (all_said input.cues))
+        (opened_by (starts_of (map settled_view settled.now)) (start_view input.start)) }
+    ensures settled { IfOk result (λ s. IsSettled system.now stops_idle
+        (part_of (typed_view typed.now) config.now.sessions.items (map settled_view settled.now) (given input.entry)) (given input.entry) (settled_view s)) }
+    ensures sound { IfOk result (λ s. IsSoundAfter (map settled_view settled.now) (settled_view s)) }
+    ensures refusal { IfErr result (IsPartRefusal
+        (part_of (typed_view typed.now) config.now.sessions.items (map settled_view settled.now) (given input.entry)) (given input.entry)) }
+{
+    let Input {
+        session,
+        start,
+        cues,
+    } = input;
+    let part = part_of(alloc, config, typed, settled, session, &start, cues)?;
+    let before = part.before.len();
+    if key_count(part.cues.as_slice()) > MOST_KEYS - before {
+        return Err(RunError::TooManyKeys(shown(session.name.as_str())));
+    }
+    let PartPlay {
+        keys,
+        steps,
+        is_idle,
+    } = settle_part(alloc, system, settled.len(), part, stops_idle, watcher)?;
+    Ok(SettledInput {
+        session,
+        start,
+        keys,
+        before,
+        steps,
+        is_idle,
+    })
+}
+
+/// Settles all sessions, in their order.
+pub(crate) fn settle<'a, T: RunWatcher>(
+    alloc: Global,
+    config: &Config,
+    system: &Image,
+    inputs: Vec<Input<'a>>,
+    typed: &Option<TypedKeys>,
+    stops_idle: bool,
+    watcher: &mut T,
+) -> Result<Vec<SettledInput<'a>>, RunError>
+    requires fit { AreFitInputs (typed_view typed.now) [] (map given inputs.items) }
+    requires ready { AreReady stops_idle (typed_view typed.now) (map given inputs.items) }
+    ensures settled { IfOk result (λ v. AreSettled system.now stops_idle (typed_view typed.now) config.now.sessions.items []
+        (map given inputs.entry.items) (map settled_view v.items)) }
+    ensures sound { IfOk result (λ v. AreSound (map settled_view v.items)) }
+    ensures refusal { IfErr result (IsSettlingRefusal system.now stops_idle (typed_view typed.now) config.now.sessions.items (map given inputs.entry.items)) }
+{
+    let mut settled = Vec::new(alloc);
+    let mut rest = inputs.into_iter();
+    while let Some(input) = rest.next() {
+        let before = settled.as_slice();
+        let next = settle_session(
+            alloc, config, system, input, before, typed, stops_idle, watcher,
+        )?;
+        settled.push(next)?;
+    }
+    Ok(settled)
+}

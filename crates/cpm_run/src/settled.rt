@@ -1,0 +1,30 @@
+//! The sessions of a run with what they are played by.
+
+use cpm_batch::Start;
+use cpm_config::SessionConfig;
+use cpm_geom::Image;
+use cpm_script::Key;
+
+/// A session with what it is played by.
+#[derive(Drop)]
+pub(crate) struct SettledInput<'a> {
+    pub(crate) session: &'a SessionConfig,
+    pub(crate) start: Start,
+    /// All its keys: those that the session that it is forked from had before, and then its own.
+    pub(crate) keys: Vec<Key>,
+    /// How many of them that session had.
+    pub(crate) before: usize,
+    /// How many steps it executes in all.
+    pub(crate) steps: u64,
+    /// Whether it stopped idle where it was played by itself.
+    pub(crate) is_idle: bool,
+}
+
+/// All sessions of a run with what they are played by.
+#[derive(Drop)]
+pub(crate) struct SettledInputs<'a> {
+    /// The image of the system drive.
+    pub(crate) system: Image,
+    /// The sessions in their order.
+    pub(crate) sessions: Vec<SettledInput<'a>>,
+}

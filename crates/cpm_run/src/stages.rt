@@ -1,0 +1,150 @@
+//! From what was read of a run to what its sessions are played by.
+ghost use Rattle.std.specs.Prelude.{◌≡◌, ◌≤◌, ◌⊎◌, [], false, None, IfErr, IfOk, OnOk, length, map, option_map};
+ghost use Rattle.std.specs.List.{All};
+ghost use Rattle.cpm_batch.specs.Inputs.{given};
+ghost use Rattle.cpm_slots.specs.Host.{new_host};
+ghost use Rattle.cpm_script.specs.Cues.{cue_text};
+ghost use Rattle.cpm_batch.specs.Inputs.{timed_keys};
+ghost use Rattle.std.specs.Prelude.{is_some, not};
+ghost use Rattle.cpm_run.specs.Refusing.{IsSettleRefusal};
+ghost use Rattle.cpm_run.specs.Run.{AllAccepted, starts_read};
+ghost use Rattle.cpm_run.specs.Settled.{AreUntouched, AreSettled, IsTypedIfAny, settled_view, streams, typed_view};
+ghost use Rattle.cpm_run.specs.Settling.{AreFitInputs, AreOpenable, ArePlain, AreSound, AreSettledBy, BeginsAsConfigured, IsTypedPlace};
+
+use crate::error::RunError;
+use crate::options::RunOptions;
+use crate::settle::settle;
+use crate::settled::SettledInputs;
+use crate::trial::judge_openings;
+use crate::typed::{TypedKeys, type_at};
+use crate::watcher::{RunStage, RunWatcher};
+use cpm_batch::{Input, Inputs, Start};
+use cpm_config::Config;
+use cpm_script::Cue;
+use cpm_slots::{LEAST_FRAMES, MOST_FRAMES};
+use std::alloc::Global;
+use std::io::{Read, Write};
+
+/// Whether a line of a script waits.
+fn waits(cues: &[Cue]) -> bool
+    ensures { result ≡ not (is_some (timed_keys (map cue_text cues.now))) }
+{
+    for cue in cues {
+        let Cue::Key(_) = cue else {
+            return true;
+        };
+    }
+    false
+}
+
+/// Whether a session is played by itself before the run: where one types, where sessions stop idle, and where a script waits.
+fn has_waiting(options: RunOptions<'_>, inputs: &[Input<'_>]) -> bool
+    ensures { result ≡ false → (options.entry.typed ≡ None) × ArePlain options.entry.stops_idle None (map given inputs.now) }
+{
+    if options.typed.is_some() || options.stops_idle {
+        return true;
+    }
+    for input in inputs {
+        if waits(input.cues.as_slice()) {
+            return true;
+        }
+    }
+    false
+}
+
+/// Whether a session is forked.
+fn has_fork(inputs: &[Input<'_>]) -> bool {
+    for input in inputs {
+        if let Start::Forked { .. } = &input.start {
+            return true;
+        }
+    }
+    false
+}
+
+/// Whether all openings and forks are judged before the run: where a session is played by itself, and where one is forked, since hours may pass up to a fork.
+fn plays_alone(options: RunOptions<'_>, inputs: &[Input<'_>]) -> bool
+    ensures { result ≡ false → (options.entry.typed ≡ None) × ArePlain options.entry.stops_idle None (map given inputs.now) }
+{
+    has_waiting(options, inputs) || has_fork(inputs)
+}
+
+/// What is typed at the session that is named, if one is.
+fn type_if_any<I: Read, W: Write, R: Write, T: RunWatcher>(
+    alloc: Global,
+    config: &Config,
+    options: RunOptions<'_>,
+    typed: Option<usize>,
+    inputs: &Inputs<'_>,
+    input: &mut I,
+    out: &mut W,
+    record: &mut R,
+    watcher: &mut T,
+) -> Result<Option<TypedKeys>, RunError>
+    requires place { IsTypedPlace config.now options typed }
+    requires sessions { map (λ i. i.session) (map given inputs.now.sessions.items) ≡ config.now.sessions.items }
+    requires starts { All BeginsAsConfigured (map given inputs.now.sessions.items) }
+    requires accepted { AllAccepted (starts_read (map given inputs.now.sessions.items)) (new_host inputs.now.system config.now.frames)
+        (starts_read (map given inputs.now.sessions.items)) }
+    ensures typed { IfOk result (λ t. IsTypedIfAny inputs.now.system config.now.sessions.items (option_map (λ n. n.now) options.entry.typed)
+        (map given inputs.now.sessions.items)
+        (streams (I.remaining input.old) (I.remaining input.new) (W.contents out.old) (W.contents out.new) (R.contents «record».old) (R.contents «record».new))
+        (typed_view t)) }
+    ensures refusal { IfErr result (IsSettleRefusal config.now options.entry
+        (streams (I.remaining input.old) (I.remaining input.new) (W.contents out.old) (W.contents out.new) (R.contents «record».old) (R.contents «record».new))
+        inputs.now.system (map given inputs.now.sessions.items)) }
+{
+    let (Some(name), Some(place)) = (options.typed, typed) else {
+        return Ok(None);
+    };
+    watcher.begin(RunStage::Typing);
+    let session = &inputs.sessions[place];
+    let system = &inputs.system;
+    let heard = type_at(
+        alloc, config, name, system, session, place, input, out, record,
+    )?;
+    Ok(Some(heard))
+}
+
+/// Judges all openings and forks before a session is played by itself; then settles all sessions, that at which one types first.
+pub(crate) fn settle_inputs<'a, I: Read, W: Write, R: Write, T: RunWatcher>(
+    alloc: Global,
+    config: &Config,
+    options: RunOptions<'_>,
+    typed: Option<usize>,
+    inputs: Inputs<'a>,
+    input: &mut I,
+    out: &mut W,
+    record: &mut R,
+    watcher: &mut T,
+) -> Result<SettledInputs<'a>, RunError>
+    requires least { LEAST_FRAMES ≤ config.now.frames }
+    requires most { config.now.frames ≤ MOST_FRAMES }
+    requires quantum { 1 ≤ config.now.quantum }
+    requires place { IsTypedPlace config.now options typed }
+    requires sessions { map (λ i. i.session) (map given inputs.sessions.items) ≡ config.now.sessions.items }
+    requires starts { All BeginsAsConfigured (map given inputs.sessions.items) }
+    requires fit { AreFitInputs None [] (map given inputs.sessions.items) }
+    ensures system { IfOk result (λ s. s.system ≡ inputs.entry.system) }
+    ensures settled { IfOk result (λ s. AreSettledBy config.now options.entry
+        (streams (I.remaining input.old) (I.remaining input.new) (W.contents out.old) (W.contents out.new) (R.contents «record».old) (R.contents «record».new))
+        inputs.entry.system (map given inputs.entry.sessions.items) (map settled_view s.sessions.items)) }
+    ensures sound { IfOk result (λ s. AreSound (map settled_view s.sessions.items)) }
+    ensures refusal { IfErr result (IsSettleRefusal config.now options.entry
+        (streams (I.remaining input.old) (I.remaining input.new) (W.contents out.old) (W.contents out.new) (R.contents «record».old) (R.contents «record».new))
+        inputs.entry.system (map given inputs.entry.sessions.items)) }
+{
+    let mut heard = None;
+    if plays_alone(options, inputs.sessions.as_slice()) {
+        judge_openings(alloc, config, &inputs)?;
+        heard = type_if_any(
+            alloc, config, options, typed, &inputs, input, out, record, watcher,
+        )?;
+    }
+    let Inputs { system, sessions } = inputs;
+    let stops_idle = options.stops_idle;
+    let sessions = settle(
+        alloc, config, &system, sessions, &heard, stops_idle, watcher,
+    )?;
+    Ok(SettledInputs { system, sessions })
+}

@@ -1,0 +1,92 @@
+//! A session that is typed at, before the others are played.
+ghost use Rattle.std.specs.Prelude.{◌≡◌, ◌<◌, Some, None, IfErr, IfOk, length, map, option_map};
+ghost use Rattle.cpm_batch.specs.Inputs.{IsOpened, given, start_view};
+ghost use Rattle.cpm_config.specs.Rules.{place_of, session_view};
+ghost use Rattle.cpm_run.specs.Refusing.{IsPlaceRefusal, IsTypingRefusal};
+ghost use Rattle.cpm_run.specs.Settled.{IsTypedBy, streams};
+ghost use Rattle.cpm_run.specs.Settling.{IsOpenable, IsTypedPlace};
+
+use crate::alone::machine_of;
+use crate::error::RunError;
+use crate::options::RunOptions;
+use crate::part::last_fork;
+use cpm_batch::Input;
+use cpm_command_line::shown;
+use cpm_config::{Config, Origin, place_of};
+use cpm_geom::Image;
+use cpm_play::{LivePlay, play_live};
+use cpm_script::{Key, MOST_KEYS};
+use std::alloc::Global;
+use std::io::{Read, Write};
+
+/// What was typed at a session.
+#[derive(Drop)]
+pub(crate) struct TypedKeys {
+    /// The place of the session.
+    pub(crate) place: usize,
+    /// The keys, each with the count at which it was accepted.
+    pub(crate) keys: Vec<Key>,
+    /// How many steps the session then has.
+    pub(crate) steps: u64,
+}
+
+/// The place of the session that is to be typed at, if one is.
+pub(crate) fn typed_place(
+    config: &Config,
+    options: RunOptions<'_>,
+) -> Result<Option<usize>, RunError>
+    ensures place { IfOk result (IsTypedPlace config.now options.entry) }
+    ensures refusal { IfErr result (IsPlaceRefusal config.now options.entry) }
+{
+    let Some(name) = options.typed else {
+        return Ok(None);
+    };
+    let sessions = config.sessions.as_slice();
+    let Some(place) = place_of(sessions, name) else {
+        return Err(RunError::NoSession(shown(name)));
+    };
+    match &sessions[place].origin {
+        Origin::Opened { .. } => Ok(Some(place)),
+        Origin::Forked { .. } => Err(RunError::NotOpened(shown(name))),
+    }
+}
+
+/// Plays the session at a place by itself, by the keys that are typed, without a limit of steps.
+pub(crate) fn type_at<I: Read, W: Write, R: Write>(
+    alloc: Global,
+    config: &Config,
+    name: &str,
+    system: &Image,
+    session: &Input<'_>,
+    place: usize,
+    input: &mut I,
+    out: &mut W,
+    record: &mut R,
+) -> Result<TypedKeys, RunError>
+    requires opened { IsOpened (start_view session.now.start) }
+    requires openable { IsOpenable (start_view session.now.start) }
+    ensures typed { IfOk result (λ t. IsTypedBy system.now config.now.sessions.items name.now (start_view session.now.start)
+        (streams (I.remaining input.old) (I.remaining input.new) (W.contents out.old) (W.contents out.new) (R.contents «record».old) (R.contents «record».new))
+        t.keys.items t.steps) }
+    ensures place { IfOk result (λ t. t.place ≡ place) }
+    ensures refusal { IfErr result (IsTypingRefusal system.now (start_view session.now.start)
+        (streams (I.remaining input.old) (I.remaining input.new) (W.contents out.old) (W.contents out.new)
+        (R.contents «record».old) (R.contents «record».new))) }
+{
+    let mut machine = machine_of(alloc, &session.start)?;
+    let LivePlay { keys, steps } = play_live(
+        alloc,
+        system,
+        &mut machine,
+        u64::MAX,
+        MOST_KEYS,
+        input,
+        out,
+        record,
+    )?;
+    Ok(TypedKeys {
+        place,
+        keys,
+        steps: last_fork(config, name).max(steps),
+    })
+}

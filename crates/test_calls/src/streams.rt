@@ -1,0 +1,179 @@
+//! Runs of which a session is typed at: one whose reader or writer fails, and what the watcher is told that begins.
+
+use crate::same::same;
+use cpm_geom::{Format, Image};
+use cpm_host::{
+    Config, MemoryStore, NoWatcher, Progress, RunOptions, RunStage, RunWatcher, Store, Watcher,
+    run_host,
+};
+use std::io;
+use std::io::{Read, Write};
+use std::process::Abort;
+
+/// A session without a script, and another one whose script waits.
+const TWO: &str = "frames = 32
+quantum = 1
+system = \"p.img\"
+
+[[session]]
+name = \"one\"
+cpu = \"8080\"
+quota = 16
+steps = 50
+drives = [\"a.img\"]
+console = \"one.txt\"
+
+[[session]]
+name = \"two\"
+cpu = \"z80\"
+quota = 16
+steps = 50
+drives = [\"a.img\"]
+console = \"two.txt\"
+keys = \"two.keys\"
+";
+
+/// A reader and a writer that always fails.
+#[derive(Drop)]
+struct DeadLine;
+
+impl Read for DeadLine {
+    fn read(&mut self, _buf: &mut [u8]) -> io::Result<usize> {
+        Err(io::Error::other("the line is dead"))
+    }
+}
+
+impl Write for DeadLine {
+    fn write(&mut self, _buf: &[u8]) -> io::Result<usize> {
+        Err(io::Error::other("the line is dead"))
+    }
+
+    fn flush(&mut self) -> io::Result<()> {
+        Ok(())
+    }
+}
+
+/// Keeps the stages that begin.
+#[derive(Drop)]
+struct Stages {
+    begun: Vec<RunStage>,
+}
+
+impl Watcher for Stages {
+    fn is_watching(&self) -> bool {
+        true
+    }
+
+    fn see(&mut self, _progress: Progress) {}
+}
+
+impl RunWatcher for Stages {
+    fn begin(&mut self, stage: RunStage) {
+        let _ = self.begun.push(stage);
+    }
+}
+
+/// A store with the files of both sessions.
+fn filled(rt: &(impl Abort + AllocGlobal)) -> MemoryStore {
+    let mut store = MemoryStore::new(rt.alloc());
+    let blank = Image::blank(rt.alloc(), Format::Ibm3740).expect(rt, "memory");
+    let bytes = blank.into_bytes();
+    same(rt, store.write("p.img", bytes.as_slice()), Ok(()));
+    same(rt, store.write("a.img", bytes.as_slice()), Ok(()));
+    same(rt, store.write("two.keys", b"wait X^M"), Ok(()));
+    store
+}
+
+/// The configuration.
+fn config(rt: &(impl Abort + AllocGlobal)) -> Config {
+    Config::read(rt.alloc(), TWO.as_bytes()).expect(rt, "a configuration")
+}
+
+/// Fails unless a run at which one types is refused so, before it writes a file.
+fn is_refused<I: Read, W: Write, R: Write>(
+    rt: &(impl Abort + AllocGlobal),
+    input: &mut I,
+    out: &mut W,
+    lines: &mut R,
+    status: u8,
+    wanted: &str,
+) {
+    let config = config(rt);
+    let mut store = filled(rt);
+    // (one types at the first session)
+    let options = RunOptions {
+        typed: Some("one"),
+        stops_idle: false,
+        records: &[],
+    };
+    let alloc = rt.alloc();
+    match run_host(
+        alloc,
+        &config,
+        options,
+        &mut store,
+        input,
+        out,
+        lines,
+        &mut NoWatcher,
+    ) {
+        Ok(_) => panic!(rt; "run"),
+        Err(error) => {
+            same(rt, error.status(), status);
+            let text = error.to_string(alloc).expect(rt, "memory");
+            same(rt, text.as_str(), wanted);
+        }
+    }
+    assert!(rt; store.file("one.txt").is_none());
+}
+
+/// The prompt is shown before the first key is read, and a key is recorded before the machine gets it.
+#[test]
+fn a_run_names_the_stream_that_failed(rt: HostRuntime) {
+    let mut text: Vec<u8> = Vec::new(rt.alloc());
+    let mut lines: Vec<u8> = Vec::new(rt.alloc());
+    let wanted = "HO4 can't read standard input: the line is dead";
+    is_refused(&rt, &mut DeadLine, &mut text, &mut lines, 4, wanted);
+    same(&rt, text.as_slice(), b"\r\nA>".as_slice());
+    same(&rt, lines.len(), 0);
+    let mut typed: &[u8] = b"ab";
+    let wanted = "HO5 can't write to standard output: the line is dead";
+    is_refused(&rt, &mut typed, &mut DeadLine, &mut lines, 5, wanted);
+    same(&rt, lines.len(), 0);
+    same(&rt, typed.len(), 2);
+    let wanted = "HO5 can't write the record of the keys: the line is dead";
+    is_refused(&rt, &mut typed, &mut text, &mut DeadLine, 5, wanted);
+    same(&rt, typed.len(), 1);
+}
+
+/// The session that is typed at is played first, then each that waits, and at last all.
+#[test]
+fn a_watcher_is_told_what_begins(rt: HostRuntime) {
+    let config = config(&rt);
+    let mut store = filled(&rt);
+    let mut text: Vec<u8> = Vec::new(rt.alloc());
+    let mut lines: Vec<u8> = Vec::new(rt.alloc());
+    let mut typed: &[u8] = b"a";
+    let mut stages = Stages {
+        begun: Vec::new(rt.alloc()),
+    };
+    // (one types at the first session)
+    let options = RunOptions {
+        typed: Some("one"),
+        stops_idle: false,
+        records: &[],
+    };
+    let ran = run_host(
+        rt.alloc(),
+        &config,
+        options,
+        &mut store,
+        &mut typed,
+        &mut text,
+        &mut lines,
+        &mut stages,
+    );
+    assert!(rt; ran.is_ok());
+    let wanted = [RunStage::Typing, RunStage::Alone(1), RunStage::All];
+    same(&rt, stages.begun.as_slice(), wanted.as_slice());
+}
