@@ -13,6 +13,8 @@ use Rattle.cpm_config.specs.declared.config.SessionConfig.{SessionConfig}
 use Rattle.cpm_flags.specs.declared.regs.Cpu.{Cpu}
 use Rattle.cpm_geom.specs.Disk.{Disk, IsDisk}
 use Rattle.cpm_geom.specs.Geometry.{format_of_length}
+use Rattle.cpm_refusals.specs.declared.code.RefusalCode.{RefusalCode}
+use Rattle.cpm_refusals.specs.declared.code.RefusalCode.TheVariants as code
 use Rattle.cpm_script.specs.Cues.{Awaited, Counted, CueText, Pressed, all_said, cues}
 use Rattle.cpm_script.specs.Fork.{forked_cues, keys_before}
 use Rattle.cpm_script.specs.declared.fault.LineFault.{LineFault}
@@ -261,12 +263,12 @@ IsSessionRefusal files before sessions e = (e ≡ OutOfMemory) ⊎ AreFirstFault
 abbrev pub IsReadRefusal : Option StoreFiles → Config → ReadError → Type 0
 IsReadRefusal files config e = (e ≡ OutOfMemory) ⊎ IsInputFault files config e
 
--- the exit status of each
-abbrev pub status_of_reading : ReadError → ℕ
-status_of_reading (Script name line fault) = 3
-status_of_reading (File name) = 4
-status_of_reading (Image name count) = 6
-status_of_reading OutOfMemory = 8
+-- the code of each
+abbrev pub code_of_reading : ReadError → RefusalCode
+code_of_reading (Script name line fault) = code.Script
+code_of_reading (File name) = code.Unreadable
+code_of_reading (Image name count) = code.Image
+code_of_reading OutOfMemory = code.OutOfMemory
 
 -- the file couldn't be read
 abbrev pub IsFileFault : ReadError → Type 0

@@ -1,27 +1,28 @@
 //! Why reading is given up.
 ghost use Rattle.std.specs.Prelude.{◌≡◌};
-ghost use Rattle.cpm_batch.specs.Inputs.{status_of_reading};
+ghost use Rattle.cpm_batch.specs.Inputs.{code_of_reading};
 ghost use Rattle.cpm_batch.specs.declared.error.ReadError.TheVariants.{OutOfMemory};
 
 use cpm_command_line::ShownWord;
+use cpm_refusals::RefusalCode;
 use cpm_script::LineFault;
 use std::alloc::{AllocError, AllocFailed};
 use thiserror::Error;
 
-/// Why what the sessions of a configuration need can't be read. The text begins with the code, unless it is out of memory.
+/// Why what the sessions of a configuration need can't be read. Its text is shown after its code.
 #[derive(Clone, Copy, Debug, PartialEq, Eq, Drop, Error)]
 pub enum ReadError {
     /// A file can't be read, or has more than 16,777,216 bytes.
-    #[error("HO4 can't read '{0}'")]
+    #[error("can't read '{0}'")]
     File(ShownWord),
     /// A file is no image, by its length.
-    #[error("HO6 '{name}' has {length} bytes, and the image of a drive has 256256 or 2105344")]
+    #[error("'{name}' has {length} bytes, and the image of a drive has 256256 or 2105344")]
     Image {
         name: ShownWord,
         length: usize,
     },
     /// A line of a key script is wrong.
-    #[error("HO3 '{name}', line {line}: {fault}")]
+    #[error("'{name}', line {line}: {fault}")]
     Script {
         name: ShownWord,
         line: u64,
@@ -33,15 +34,15 @@ pub enum ReadError {
 }
 
 impl ReadError {
-    /// The exit status that a program gives for it.
-    pub fn status(self) -> u8
-        ensures { result ≡ status_of_reading self }
+    /// The code that it is shown with.
+    pub fn code(&self) -> RefusalCode
+        ensures { result ≡ code_of_reading self.now }
     {
         match self {
-            ReadError::Script { .. } => 3,
-            ReadError::File(_) => 4,
-            ReadError::Image { .. } => 6,
-            ReadError::OutOfMemory => 8,
+            ReadError::Script { .. } => RefusalCode::Script,
+            ReadError::File(_) => RefusalCode::Unreadable,
+            ReadError::Image { .. } => RefusalCode::Image,
+            ReadError::OutOfMemory => RefusalCode::OutOfMemory,
         }
     }
 }

@@ -1,6 +1,6 @@
 -- Checking the image of a drive: what is written, and when it is refused. All of it is own.
 use Rattle.std.specs.Prelude.{◌≡◌, ℕ, List, [], ◌∷◌, ◌++◌, length, None, Ok, Err, chars, codes}
-use Rattle.cpm_batch.specs.Inputs.{IsImage, status_of_reading}
+use Rattle.cpm_batch.specs.Inputs.{IsImage, code_of_reading}
 use Rattle.cpm_batch.specs.declared.error.ReadError.TheVariants as read
 use Rattle.cpm_command_line.specs.Shown.{shown_of}
 use Rattle.cpm_directory.specs.Directory.{entries_of}
@@ -9,6 +9,8 @@ use Rattle.cpm_disk_commands.specs.Damage.{damage_of}
 use Rattle.cpm_disk_commands.specs.declared.damage.Damage.{Damage}
 use Rattle.cpm_geom.specs.Disk.{Disk}
 use Rattle.cpm_geom.specs.Geometry.{dpb_of, format_of_length}
+use Rattle.cpm_refusals.specs.declared.code.RefusalCode.{RefusalCode}
+use Rattle.cpm_refusals.specs.declared.code.RefusalCode.TheVariants as code
 use Rattle.cpm_check.specs.declared.error.CheckError.{CheckError}
 use Rattle.cpm_check.specs.declared.error.CheckError.TheVariants.{FileRefused, ImageDamaged, OutputUnwritable}
 
@@ -39,8 +41,8 @@ IsCheckRefusal {W} name bytes (ImageDamaged shown damage) old new =
 IsCheckRefusal {W} name bytes (OutputUnwritable reason) old new = IsSoundImage bytes
 IsCheckRefusal {W} name bytes _ old new = ⊥
 
--- the number of the code that the text of a refusal begins with
-abbrev pub check_status_of : CheckError → ℕ
-check_status_of (FileRefused e) = status_of_reading e
-check_status_of (ImageDamaged name damage) = 6
-check_status_of (OutputUnwritable reason) = 5
+-- the code of each refusal
+abbrev pub code_of_check : CheckError → RefusalCode
+code_of_check (FileRefused e) = code_of_reading e
+code_of_check (ImageDamaged name damage) = code.Image
+code_of_check (OutputUnwritable reason) = code.Unwritable

@@ -1,42 +1,44 @@
 //! Why an image is not in order.
 ghost use Rattle.std.specs.Prelude.{◌≡◌};
-ghost use Rattle.cpm_check.specs.Check.{check_status_of};
+ghost use Rattle.cpm_check.specs.Check.{code_of_check};
 
 use cpm_batch::ReadError;
 use cpm_command_line::ShownWord;
 use cpm_disk_commands::Damage;
+use cpm_refusals::RefusalCode;
 use std::{fmt, io};
 use thiserror::Error;
 
-/// Why the check of an image is refused. Its text is one line that begins with its code.
+/// Why the check of an image is refused. Its text is one line, which is shown after its code.
 #[derive(Clone, Copy, Drop, Error)]
 pub enum CheckError {
     /// The file is no image, by its length.
     #[error("{0}")]
     FileRefused(ReadError),
     /// The directory of the image in a file doesn't agree with itself.
-    #[error("HO6 '{name}': {damage}")]
+    #[error("'{name}': {damage}")]
     ImageDamaged { name: ShownWord, damage: Damage },
     /// Standard output can't be written.
-    #[error("HO5 can't write to standard output: {0}")]
+    #[error("can't write to standard output: {0}")]
     OutputUnwritable(io::Error),
 }
 
 impl fmt::Debug for CheckError {
     fn fmt<W: fmt::Write>(&self, f: &mut fmt::Formatter<W>) -> fmt::Result {
-        write!(f, "{self}")
+        let code = self.code();
+        write!(f, "{code} {self}")
     }
 }
 
 impl CheckError {
-    /// The exit status: the number of the code.
-    pub fn status(&self) -> u8
-        ensures { result ≡ check_status_of self.now }
+    /// The code that it is shown with.
+    pub fn code(&self) -> RefusalCode
+        ensures { result ≡ code_of_check self.now }
     {
         match self {
-            CheckError::FileRefused(error) => error.status(),
-            CheckError::ImageDamaged { .. } => 6,
-            CheckError::OutputUnwritable(_) => 5,
+            CheckError::FileRefused(error) => error.code(),
+            CheckError::ImageDamaged { .. } => RefusalCode::Image,
+            CheckError::OutputUnwritable(_) => RefusalCode::Unwritable,
         }
     }
 }

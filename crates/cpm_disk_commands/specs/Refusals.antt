@@ -11,6 +11,8 @@ use Rattle.cpm_geom.specs.Geometry.{dpb_of, format_of_length}
 use Rattle.cpm_image_files.specs.declared.name.FileName.{FileName}
 use Rattle.cpm_image_files.specs.declared.refusal.ImageFilesError.{ImageFilesError}
 use Rattle.cpm_image_files.specs.declared.refusal.ImageFilesError.TheVariants as image_error
+use Rattle.cpm_refusals.specs.declared.code.RefusalCode.{RefusalCode}
+use Rattle.cpm_refusals.specs.declared.code.RefusalCode.TheVariants as code
 use Rattle.cpm_disk_commands.specs.Damage.{damage_of}
 use Rattle.cpm_disk_commands.specs.Names.{one_name}
 use Rattle.cpm_disk_commands.specs.declared.damage.NamedFile.{NamedFile}
@@ -18,19 +20,19 @@ use Rattle.cpm_disk_commands.specs.declared.error.DiskCommandError.{DiskCommandE
 use Rattle.cpm_disk_commands.specs.declared.error.DiskCommandError.TheVariants.{NotName, NotPattern, NotPair, PutTwice, NotImage, Damaged}
 use Rattle.cpm_disk_commands.specs.declared.error.DiskCommandError.TheVariants.{NoFile, NoHostName, Refused, OutputUnwritable, OutOfMemory}
 
--- the number of the code that the text begins with
-abbrev pub disk_command_status_of : DiskCommandError → ℕ
-disk_command_status_of (NotName text) = 1
-disk_command_status_of (NotPattern text) = 1
-disk_command_status_of (NotPair text) = 1
-disk_command_status_of (PutTwice text file) = 1
-disk_command_status_of (OutputUnwritable reason) = 5
-disk_command_status_of (NotImage image count) = 6
-disk_command_status_of (Damaged image damage) = 6
-disk_command_status_of (NoFile image pattern user) = 6
-disk_command_status_of (Refused image file refusal) = 6
-disk_command_status_of (NoHostName image file) = 6
-disk_command_status_of OutOfMemory = 8
+-- the code of each
+abbrev pub code_of_disk_command : DiskCommandError → RefusalCode
+code_of_disk_command (NotName text) = code.Usage
+code_of_disk_command (NotPattern text) = code.Usage
+code_of_disk_command (NotPair text) = code.Usage
+code_of_disk_command (PutTwice text file) = code.Usage
+code_of_disk_command (OutputUnwritable reason) = code.Unwritable
+code_of_disk_command (NotImage image count) = code.Image
+code_of_disk_command (Damaged image damage) = code.Image
+code_of_disk_command (NoFile image pattern user) = code.Image
+code_of_disk_command (Refused image file refusal) = code.Image
+code_of_disk_command (NoHostName image file) = code.Image
+code_of_disk_command OutOfMemory = code.OutOfMemory
 
 -- bytes are no image, by their number
 abbrev pub IsNotImage : (image bytes : List ℕ) → DiskCommandError → Type 0

@@ -1,68 +1,69 @@
 //! Why a command on disk images is refused.
 ghost use Rattle.std.specs.Prelude.{◌≡◌};
-ghost use Rattle.cpm_disk_commands.specs.Refusals.{disk_command_status_of};
+ghost use Rattle.cpm_disk_commands.specs.Refusals.{code_of_disk_command};
 
 use crate::damage::{Damage, NamedFile};
 use cpm_command_line::ShownWord;
 use cpm_image_files::FileRefusal;
+use cpm_refusals::RefusalCode;
 use std::io;
 use thiserror::Error;
 
-/// Why a command is refused. Its text is one line that begins with its code.
+/// Why a command is refused. Its text is one line, which is shown after its code.
 #[derive(Clone, Copy, Debug, Drop, Error)]
 pub enum DiskCommandError {
     /// The text is no name of a file.
-    #[error("HO1 '{0}' is no name of a file: 1 to 8 characters and, after a dot, up to 3 are wanted, none of them a blank or of <>.,;:=?*[]_")]
+    #[error("'{0}' is no name of a file: 1 to 8 characters and, after a dot, up to 3 are wanted, none of them a blank or of <>.,;:=?*[]_")]
     NotName(ShownWord),
     /// The text is no pattern of names.
-    #[error("HO1 '{0}' is no pattern of names: a name is wanted, where '?' stands for any character and a last '*' for all that follow")]
+    #[error("'{0}' is no pattern of names: a name is wanted, where '?' stands for any character and a last '*' for all that follow")]
     NotPattern(ShownWord),
     /// The text gives no file another name.
-    #[error("HO1 '{0}' gives no file another name: NEW.TYP=OLD.TYP is wanted")]
+    #[error("'{0}' gives no file another name: NEW.TYP=OLD.TYP is wanted")]
     NotPair(ShownWord),
     /// Two files of the host would be one file of a disk.
-    #[error("HO1 '{word}' would be {file}, as an earlier file is; give one of them another name: FILE=NAME.TYP")]
+    #[error("'{word}' would be {file}, as an earlier file is; give one of them another name: FILE=NAME.TYP")]
     PutTwice {
         word: ShownWord,
         file: NamedFile,
     },
     /// A file of the host is no image, by its length.
-    #[error("HO6 '{image}' has {length} bytes, and the image of a drive has 256256 or 2105344; 'cpmhost disk new' makes a blank one")]
+    #[error("'{image}' has {length} bytes, and the image of a drive has 256256 or 2105344; 'cpmhost disk new' makes a blank one")]
     NotImage {
         image: ShownWord,
         length: usize,
     },
     /// The directory of the image in a file of the host doesn't agree with itself.
-    #[error("HO6 '{image}': {damage}; a session can still read it")]
+    #[error("'{image}': {damage}; a session can still read it")]
     Damaged {
         image: ShownWord,
         damage: Damage,
     },
     /// No file of the user has a name that matches.
-    #[error("HO6 '{image}' has no file '{pattern}' of user {user}; 'cpmhost disk list' shows its files")]
+    #[error("'{image}' has no file '{pattern}' of user {user}; 'cpmhost disk list' shows its files")]
     NoFile {
         image: ShownWord,
         pattern: ShownWord,
         user: u8,
     },
     /// What was asked of a file of a disk is not done.
-    #[error("HO6 '{image}', {file}: {reason}; {advice}", advice = advice(*.reason))]
+    #[error("'{image}', {file}: {reason}; {advice}", advice = advice(*.reason))]
     Refused {
         image: ShownWord,
         file: NamedFile,
         reason: FileRefusal,
     },
     /// A file of a disk has a name that no file of the host gets.
-    #[error("HO6 '{image}', {file}: a file of the host can't get this name; take it alone, by a pattern, to a file with '--to FILE'")]
+    #[error("'{image}', {file}: a file of the host can't get this name; take it alone, by a pattern, to a file with '--to FILE'")]
     NoHostName {
         image: ShownWord,
         file: NamedFile,
     },
     /// Standard output can't be written.
-    #[error("HO5 can't write to standard output: {0}")]
+    #[error("can't write to standard output: {0}")]
     OutputUnwritable(io::Error),
     /// Memory was refused.
-    #[error("HO8 out of memory")]
+    #[error("out of memory")]
     OutOfMemory,
 }
 
@@ -79,22 +80,22 @@ fn advice(reason: FileRefusal) -> &'static str {
 }
 
 impl DiskCommandError {
-    /// The exit status: the number of the code.
-    pub fn status(&self) -> u8
-        ensures { result ≡ disk_command_status_of self.now }
+    /// The code that it is shown with.
+    pub fn code(&self) -> RefusalCode
+        ensures { result ≡ code_of_disk_command self.now }
     {
         match self {
             DiskCommandError::NotName(_)
             | DiskCommandError::NotPattern(_)
             | DiskCommandError::NotPair(_)
-            | DiskCommandError::PutTwice { .. } => 1,
-            DiskCommandError::OutputUnwritable(_) => 5,
+            | DiskCommandError::PutTwice { .. } => RefusalCode::Usage,
+            DiskCommandError::OutputUnwritable(_) => RefusalCode::Unwritable,
             DiskCommandError::NotImage { .. }
             | DiskCommandError::Damaged { .. }
             | DiskCommandError::NoFile { .. }
             | DiskCommandError::Refused { .. }
-            | DiskCommandError::NoHostName { .. } => 6,
-            DiskCommandError::OutOfMemory => 8,
+            | DiskCommandError::NoHostName { .. } => RefusalCode::Image,
+            DiskCommandError::OutOfMemory => RefusalCode::OutOfMemory,
         }
     }
 }

@@ -2,6 +2,6 @@ pub mod AsmLemmas
 pub mod AsmListingLemmas
 pub mod InputLemmas
 pub mod ListLemmas
-pub mod ScriptLemmas
+pub mod ProgramLemmas
 pub mod StartLemmas
 pub mod TailLemmas

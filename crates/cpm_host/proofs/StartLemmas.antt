@@ -6,7 +6,7 @@ use Rattle.cpm_machine.specs.Opening.{IsRefusal, drives_fault, fault_else, progr
 use Rattle.cpm_machine.specs.declared.opening.OpenError.{OpenError}
 use Rattle.cpm_machine.specs.declared.opening.OpenError.TheVariants as opening
 use Rattle.cpm_machine.specs.declared.opening.Opening.{Opening}
-use Rattle.cpm_host.specs.Com.{ProgramInput, IsProgramRefusal, drives_or_blank}
+use Rattle.cpm_host.specs.Program.{ProgramInput, IsProgramRefusal, drives_or_blank}
 use Rattle.cpm_host.specs.Refusals.{host_error_of_opening}
 
 some_drives : (ds : List Disk) → 4 < length (drives_or_blank ds) → 4 < length ds

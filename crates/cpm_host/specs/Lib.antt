@@ -1,8 +1,7 @@
 pub mod Asm
 pub mod AsmListing
-pub mod Com
-pub mod Cued
+pub mod Laws
 pub mod Listing
-pub mod Live
+pub mod Program
 pub mod Refusals
 pub mod Tails

@@ -1,5 +1,5 @@
--- The exit statuses, and what a refused command line becomes.
-use Rattle.std.specs.Prelude.{⊤, ℕ}
+-- The codes of refusals, and what a refused command line becomes.
+use Rattle.std.specs.Prelude.{⊤}
 use Rattle.cpm_command_line.specs.declared.fault.UsageError.{UsageError}
 use Rattle.cpm_command_line.specs.declared.fault.UsageError.TheVariants as usage
 use Rattle.cpm_host.specs.declared.error.HostError.{HostError}
@@ -7,42 +7,44 @@ use Rattle.cpm_host.specs.declared.error.HostError.TheVariants.{Usage, NotText, 
 use Rattle.cpm_host.specs.declared.error.HostError.TheVariants.{FileUnwritable, InputUnreadable, NotAFolder}
 use Rattle.cpm_host.specs.declared.error.HostError.TheVariants.{OutputUnwritable, SourceRefused, OutOfMemory, OpeningRefused}
 use Rattle.cpm_host.specs.declared.error.HostError.TheVariants.{ProgramTooLong, RecordUnwritable, RunRefused, TailRefused}
-use Rattle.cpm_check.specs.Check.{check_status_of as status_of_check}
+use Rattle.cpm_check.specs.Check.{code_of_check}
 use Rattle.cpm_check.specs.declared.error.CheckError.{CheckError}
 use Rattle.cpm_check.specs.declared.error.CheckError.TheVariants as check
 use Rattle.cpm_config.specs.declared.fault.ConfigError.{ConfigError}
 use Rattle.cpm_config.specs.declared.fault.ConfigError.TheVariants as config
 use Rattle.cpm_debug.specs.declared.error.DebugError.{DebugError}
 use Rattle.cpm_debug.specs.declared.error.DebugError.TheVariants as debug
-use Rattle.cpm_disk_commands.specs.Refusals.{disk_command_status_of as status_of_disk_command}
+use Rattle.cpm_disk_commands.specs.Refusals.{code_of_disk_command}
 use Rattle.cpm_disk_commands.specs.declared.error.DiskCommandError.{DiskCommandError}
 use Rattle.cpm_disk_commands.specs.declared.error.DiskCommandError.TheVariants as disk_error
-use Rattle.cpm_run.specs.Refusals.{run_status_of as status_of_run}
+use Rattle.cpm_run.specs.Refusals.{code_of_run}
 use Rattle.cpm_run.specs.declared.error.RunError.{RunError}
 use Rattle.cpm_run.specs.declared.error.RunError.TheVariants as run
+use Rattle.cpm_refusals.specs.declared.code.RefusalCode.{RefusalCode}
+use Rattle.cpm_refusals.specs.declared.code.RefusalCode.TheVariants as code
 use Rattle.cpm_machine.specs.declared.opening.OpenError.{OpenError}
 use Rattle.cpm_machine.specs.declared.opening.OpenError.TheVariants as opening
 use Rattle.cpm_play.specs.declared.live.LiveError.{LiveError}
 use Rattle.cpm_play.specs.declared.live.LiveError.TheVariants as live
 
--- the number of the code that the text begins with
-abbrev pub status_of : HostError → ℕ
-status_of (Usage refusal) = 1
-status_of NotText = 1
-status_of (TailRefused word) = 1
-status_of (RunRefused e) = status_of_run e
-status_of (DiskRefused e) = status_of_disk_command e
-status_of (CheckRefused e) = status_of_check e
-status_of (FileUnreadable name reason) = 4
-status_of (InputUnreadable reason) = 4
-status_of (OutputUnwritable reason) = 5
-status_of (FileUnwritable name reason) = 5
-status_of (RecordUnwritable reason) = 5
-status_of (NotAFolder name) = 5
-status_of (SourceRefused line kind found) = 7
-status_of OutOfMemory = 8
-status_of (OpeningRefused fault) = 9
-status_of (ProgramTooLong count) = 9
+-- the code of each
+abbrev pub code_of_command : HostError → RefusalCode
+code_of_command (Usage refusal) = code.Usage
+code_of_command NotText = code.Usage
+code_of_command (TailRefused word) = code.Usage
+code_of_command (RunRefused e) = code_of_run e
+code_of_command (DiskRefused e) = code_of_disk_command e
+code_of_command (CheckRefused e) = code_of_check e
+code_of_command (FileUnreadable name reason) = code.Unreadable
+code_of_command (InputUnreadable reason) = code.Unreadable
+code_of_command (OutputUnwritable reason) = code.Unwritable
+code_of_command (FileUnwritable name reason) = code.Unwritable
+code_of_command (RecordUnwritable reason) = code.Unwritable
+code_of_command (NotAFolder name) = code.Unwritable
+code_of_command (SourceRefused line kind found) = code.Source
+code_of_command OutOfMemory = code.OutOfMemory
+code_of_command (OpeningRefused fault) = code.Machine
+code_of_command (ProgramTooLong count) = code.Machine
 
 -- what a file that is not read comes to
 abbrev pub IsFileRefusal : HostError → Type 0

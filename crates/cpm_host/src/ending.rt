@@ -1,6 +1,6 @@
 //! How the run of a program ended.
 ghost use Rattle.std.specs.Prelude.{◌≡◌};
-ghost use Rattle.cpm_host.specs.Com.{ending_of};
+ghost use Rattle.cpm_host.specs.Program.{ending_of};
 ghost use Rattle.cpm_run.specs.Illegal.{illegal_of};
 
 use crate::at_pc::bytes_of_machine;

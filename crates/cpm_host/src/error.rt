@@ -1,7 +1,7 @@
 //! Why a command is refused.
 ghost use Rattle.std.specs.Prelude.{◌≡◌};
 ghost use Rattle.cpm_host.specs.declared.error.HostError.TheVariants.{OutOfMemory};
-ghost use Rattle.cpm_host.specs.Refusals.{status_of, host_error_of, host_error_of_check, host_error_of_config, host_error_of_debug};
+ghost use Rattle.cpm_host.specs.Refusals.{code_of_command, host_error_of, host_error_of_check, host_error_of_config, host_error_of_debug};
 ghost use Rattle.cpm_host.specs.Refusals.{host_error_of_disk_command, host_error_of_live, host_error_of_opening, host_error_of_run};
 
 use cpm_asm::AsmErrorKind;
@@ -12,77 +12,79 @@ use cpm_debug::DebugError;
 use cpm_disk_commands::DiskCommandError;
 use cpm_machine::OpenError;
 use cpm_play::LiveError;
+use cpm_refusals::RefusalCode;
 use cpm_run::RunError;
 use std::alloc::{AllocError, AllocFailed};
 use std::{fmt, io};
 use thiserror::Error;
 
-/// Why a command is refused. Its text is one line that begins with its code.
+/// Why a command is refused. Its text is one line, which is shown after its code.
 #[derive(Clone, Copy, Drop, Error)]
 pub enum HostError {
     /// The words of the command line name no task.
-    #[error("HO1 {0}")]
+    #[error("{0}")]
     Usage(UsageRefusal),
     /// A word of the command line is no text.
-    #[error("HO1 an argument is not UTF-8 text; try 'cpmhost --help'")]
+    #[error("an argument is not UTF-8 text; try 'cpmhost --help'")]
     NotText,
     /// A word is no part of a command's tail.
-    #[error("HO1 '{0}' is no part of a command's tail: characters from ' ' to '~' are wanted, and at most 126 in all")]
+    #[error("'{0}' is no part of a command's tail: characters from ' ' to '~' are wanted, and at most 126 in all")]
     TailRefused(ShownWord),
-    /// A run is refused, or what one has too: HO1 a name to type at, HO2 a configuration, HO3 a key script, HO4, HO5, HO6 a file, HO9 a session.
+    /// A run is refused, or what one has too: a name to type at, a configuration, a key script, a file, a session.
     #[error("{0}")]
     RunRefused(RunError),
-    /// A command on disk images is refused: HO1 a name, HO6 an image or what was asked of it.
+    /// A command on disk images is refused: a name, an image or what was asked of it.
     #[error("{0}")]
     DiskRefused(DiskCommandError),
-    /// A file that is checked is refused: HO6, it is no image or a damaged one.
+    /// A file that is checked is refused: it is no image or a damaged one.
     #[error("{0}")]
     CheckRefused(CheckError),
     /// A file can't be read.
-    #[error("HO4 can't read '{name}': {reason}")]
+    #[error("can't read '{name}': {reason}")]
     FileUnreadable {
         name: ShownWord,
         reason: io::Error,
     },
     /// Standard input can't be read.
-    #[error("HO4 can't read standard input: {0}")]
+    #[error("can't read standard input: {0}")]
     InputUnreadable(io::Error),
     /// Standard output can't be written.
-    #[error("HO5 can't write to standard output: {0}")]
+    #[error("can't write to standard output: {0}")]
     OutputUnwritable(io::Error),
     /// The record of the keys can't be written.
-    #[error("HO5 can't write the record of the keys: {0}")]
+    #[error("can't write the record of the keys: {0}")]
     RecordUnwritable(io::Error),
     /// A file can't be written.
-    #[error("HO5 can't write '{name}': {reason}")]
+    #[error("can't write '{name}': {reason}")]
     FileUnwritable {
         name: ShownWord,
         reason: io::Error,
     },
     /// Several files were to go to this file.
-    #[error("HO5 can't write several files to '{0}': it is no folder")]
+    #[error("can't write several files to '{0}': it is no folder")]
     NotAFolder(ShownWord),
     /// The source has a fault in this line, where this was found.
-    #[error("HO7 line {line}, '{found}': {reason}", reason = SourceFault {kind: *.kind, found: *.found})]
+    #[error("line {line}, '{found}': {reason}", reason = SourceFault {kind: *.kind, found: *.found})]
     SourceRefused {
         line: u64,
         kind: AsmErrorKind,
         found: ShownWord,
     },
     /// Memory was refused.
-    #[error("HO8 out of memory")]
+    #[error("out of memory")]
     OutOfMemory,
     /// The machine can't be made so.
-    #[error("HO9 {0}")]
+    #[error("{0}")]
     OpeningRefused(OpenError),
     /// The program has this many bytes, which is more than a machine takes.
-    #[error("HO9 the program has {0} bytes, and a machine takes at most 58112")]
+    #[error("the program has {0} bytes, and a machine takes at most 58112")]
     ProgramTooLong(usize),
 }
 
 impl fmt::Debug for HostError {
     fn fmt<W: fmt::Write>(&self, f: &mut fmt::Formatter<W>) -> fmt::Result {
-        write!(f, "{self}")
+        let code = self.code();
+        write!(f, "{code} {self}")
     }
 }
 
@@ -123,23 +125,27 @@ fn is_behind_word(c: char) -> bool {
 const REGISTERS: [&str; 10] = ["A", "B", "C", "D", "E", "H", "L", "M", "SP", "PSW"];
 
 impl HostError {
-    /// The exit status: the number of the code.
-    pub fn status(&self) -> u8
-        ensures { result ≡ status_of self.now }
+    /// The code that it is shown with.
+    pub fn code(&self) -> RefusalCode
+        ensures { result ≡ code_of_command self.now }
     {
         match self {
-            HostError::Usage(_) | HostError::NotText | HostError::TailRefused(_) => 1,
-            HostError::RunRefused(error) => error.status(),
-            HostError::DiskRefused(error) => error.status(),
-            HostError::CheckRefused(error) => error.status(),
-            HostError::FileUnreadable { .. } | HostError::InputUnreadable(_) => 4,
+            HostError::Usage(_) | HostError::NotText | HostError::TailRefused(_) => {
+                RefusalCode::Usage
+            }
+            HostError::RunRefused(error) => error.code(),
+            HostError::DiskRefused(error) => error.code(),
+            HostError::CheckRefused(error) => error.code(),
+            HostError::FileUnreadable { .. } | HostError::InputUnreadable(_) => {
+                RefusalCode::Unreadable
+            }
             HostError::OutputUnwritable(_)
             | HostError::RecordUnwritable(_)
             | HostError::FileUnwritable { .. }
-            | HostError::NotAFolder(_) => 5,
-            HostError::SourceRefused { .. } => 7,
-            HostError::OutOfMemory => 8,
-            HostError::OpeningRefused(_) | HostError::ProgramTooLong(_) => 9,
+            | HostError::NotAFolder(_) => RefusalCode::Unwritable,
+            HostError::SourceRefused { .. } => RefusalCode::Source,
+            HostError::OutOfMemory => RefusalCode::OutOfMemory,
+            HostError::OpeningRefused(_) | HostError::ProgramTooLong(_) => RefusalCode::Machine,
         }
     }
 }

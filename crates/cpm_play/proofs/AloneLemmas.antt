@@ -1,16 +1,14 @@
 -- The machine run alone for keys of which the last are not pressed, or after it has ended.
-use Rattle.std.proofs.Common.{◌≡◌, ℕ, zero, suc, ◌+◌, ◌<◌, ◌≤◌, ◌==◌, Bool, true, false, List, [], ◌∷◌, ◌++◌, length, refl, sym, ap, ◌∙◌, subst, arith, add-zero, add-suc, append-nil, if◌then◌else◌}
+use Rattle.std.proofs.Common.{◌≡◌, ℕ, zero, suc, ◌+◌, ◌<◌, ◌≤◌, ◌==◌, Bool, true, false, List, [], ◌∷◌, ◌++◌, length, refl, ap, ◌∙◌, arith, add-zero, add-suc, if◌then◌else◌}
 use Rattle.std.proofs.lemmas.Bool.Decides.{nat_tests}
 use Rattle.cpm_geom.specs.Disk.{Disk}
 use Rattle.cpm_script.specs.declared.script.Key.{Key}
 use Rattle.cpm_machine.specs.Alone.{Press, due, alone}
-use Rattle.cpm_machine.specs.Calls.{state_behind}
 use Rattle.cpm_machine.specs.MachineState.{MachineState}
 use Rattle.cpm_machine.specs.Step.{after, step, step_if, is_running}
-use Rattle.cpm_machine.proofs.AloneLaws.{step-behind}
 use Rattle.cpm_machine.proofs.KeyLaws.{keys_leave-step}
 use Rattle.cpm_machine.proofs.PressLaws.{alone-late}
-use Rattle.cpm_play.specs.Playing.{presses_of, IsInOrder, HasText}
+use Rattle.cpm_play.specs.Playing.{presses_of, IsInOrder}
 
 -- ---- keys and presses
 
@@ -74,23 +72,3 @@ pub after-ended : (system : Disk) (n : ℕ) (s : MachineState) → is_running s.
 after-ended system zero s ended = ended
 after-ended system (suc n) s ended =
     ap (λ (t : MachineState). is_running t.ended) (step-stays system (after system n s) (after-ended system n s ended)) ∙ after-ended system n s ended
-
--- ---- text that was shown stays
-
-first_left : (xs ys : List ℕ) → (xs ≡ [] → ⊥) → xs ++ ys ≡ [] → ⊥
-first_left [] ys some e = some refl
-first_left (x ∷ xs) ys some e = cc
-
-text-step : (system : Disk) (s : MachineState) → HasText s → HasText (step system s)
-text-step system s some =
-    let screen = s.session.console.screen in
-    let bare : MachineState = record s { session = record s.session { console = record s.session.console { screen = [] } } } in
-    let split : state_behind screen [] bare ≡ s =
-    ap (λ (xs : List ℕ). record s { session = record s.session { console = record s.session.console { screen = xs } } }) (append-nil screen) in
-    let kept : state_behind screen [] (step system bare) ≡ step system s = sym (step-behind system screen [] bare) ∙ ap (step system) split in
-    subst HasText kept (first_left screen (step system bare).session.console.screen some)
-
-pub text-alone : (system : Disk) (presses : List Press) (n k : ℕ) (start : MachineState) → HasText (alone system presses n start) → HasText (alone system presses (n + k) start)
-text-alone system presses n zero start some = subst (λ m. HasText (alone system presses m start)) (sym (add-zero n)) some
-text-alone system presses n (suc k) start some =
-    subst (λ m. HasText (alone system presses m start)) (sym (add-suc n k)) (text-step system (alone system presses (n + k) start) (text-alone system presses n k start some))

@@ -20,3 +20,4 @@ pub mod RunLemmas
 pub mod CuedLemmas
 pub mod FollowLemmas
 pub mod PlainLemmas
+pub mod WantingLemmas

@@ -1,9 +1,7 @@
 -- A session that is played: one more key, turn and take, and its end.
-use Rattle.std.proofs.Common.{◌≡◌, ℕ, ◌+◌, ◌-◌, ◌<◌, ◌≤◌, nat_le, ◌==◌, ◌&&◌, min, Bool, true, false, Option, Some, None, Result, Ok, Err, IfOk, IfErr, true≢false, ◌⊎◌, inl, inr, ⊎_elim, List, [], ◌∷◌, ◌++◌, length, take, drop, refl, sym, ap, ap₂, ◌∙◌, subst, arith, append-nil, take-append-drop, if◌then◌else◌, slice_get}
-use Rattle.std.specs.Prelude.{⊤}
+use Rattle.std.proofs.Common.{◌≡◌, ℕ, ◌+◌, ◌-◌, ◌<◌, ◌≤◌, nat_le, ◌==◌, ◌&&◌, min, Bool, true, false, Option, Some, None, ◌⊎◌, inl, inr, ⊎_elim, List, [], ◌∷◌, ◌++◌, length, take, drop, refl, sym, ap, ap₂, ◌∙◌, subst, arith, append-nil, take-append-drop, if◌then◌else◌, slice_get}
 use Rattle.std.proofs.lemmas.Bool.Decides.{nat_tests}
 use Rattle.std.proofs.lemmas.Bool.{cases_lt}
-use Rattle.std.specs.Io.KnownBytes.{Appends}
 use Rattle.std.proofs.lemmas.List.{take_more, length_push}
 use Rattle.std.proofs.lemmas.Option.{get_or_from_slice_get, slice_get_within}
 use Rattle.std.proofs.lemmas.Option.{none-some, same_Some}
@@ -15,7 +13,6 @@ use Rattle.cpm_script.specs.declared.script.Key.{Key}
 use Rattle.cpm_machine.specs.Alone.{due, alone}
 use Rattle.cpm_machine.specs.Calls.{state_behind}
 use Rattle.cpm_machine.specs.declared.reply.End.{End}
-use Rattle.cpm_machine.specs.declared.reply.KeysFull.{KeysFull}
 use Rattle.cpm_machine.specs.MachineState.{MachineState}
 use Rattle.cpm_machine.specs.Serve.{executed, keyed, taken, taken_list, takes_key}
 use Rattle.cpm_machine.specs.Step.{after, can_step, is_running}
@@ -24,11 +21,10 @@ use Rattle.cpm_machine.proofs.GrantLaws.{longest-is}
 use Rattle.cpm_machine.proofs.PressLaws.{alone-add, alone-pressed, with_keys-nil, AllCame-later, AllCame-pressed}
 use Rattle.cpm_slots.proofs.ServeLaws.{taken_from}
 use Rattle.cpm_play.specs.declared.pace.Pace.{Pace}
-use Rattle.cpm_play.specs.Pacing.{due_at, first_pace, left_in, turn_of, up_to, IsOfAll, IsOn, IsPressed, IsShown, without_list, without_text}
-use Rattle.cpm_play.specs.Playing.{presses_of, EndsAs, HasText, IsFresh, IsInOrder, IsPlayed, IsQuiet}
+use Rattle.cpm_play.specs.Pacing.{due_at, first_pace, left_in, turn_of, up_to, IsOfAll, IsOn}
+use Rattle.cpm_play.specs.Playing.{presses_of, IsFresh, IsInOrder, IsPlayed, IsQuiet}
 use Rattle.cpm_play.specs.ScriptedSlots.{console_with, list_with}
-use Rattle.cpm_play.proofs.TextLemmas.{appends_more, appends_none, keeps_all, both_empty}
-use Rattle.cpm_play.proofs.AloneLemmas.{after-ended, after-pending, alone-ended, alone-taken, keyless, keyless-ended, none-due, presses-append, presses-more, text-alone}
+use Rattle.cpm_play.proofs.AloneLemmas.{after-ended, after-pending, alone-ended, alone-taken, keyless, keyless-ended, none-due, presses-append, presses-more}
 use Rattle.cpm_play.proofs.OrderLemmas.{order-first, order-later}
 
 -- ---- the keys that are still to come
@@ -227,18 +223,6 @@ on-end system keys steps start pace console list now on quiet none =
       disks = ap (λ (s : MachineState). s.session.disks) (sym same);
     }
 
--- text that a session shows is text of the whole
-pub on-text : (system : Disk) (keys : List Key) (steps : ℕ) (start : MachineState) (pace : Pace) (console list : List ℕ) (now : MachineState) → IsOn system keys steps start pace console list now → HasText now →
-    HasText (alone system (presses_of keys) steps start)
-on-text system keys steps start pace console list now on some =
-    let same = keys-taken system keys steps start pace console list now on in
-    let screen : (alone system (presses_of keys) pace.done start).session.console.screen ≡ console ++ now.session.console.screen =
-    ap (λ (s : MachineState). s.session.console.screen) same in
-    let here : HasText (alone system (presses_of keys) pace.done start) = λ none. some (both_empty console now.session.console.screen (sym screen ∙ none)) in
-    let within = on.all.within in let most = on.all.most in
-    let total : pace.done + (steps - pace.done) ≡ steps = omega arith in
-    subst (λ n. HasText (alone system (presses_of keys) n start)) total (text-alone system (presses_of keys) pace.done (steps - pace.done) start here)
-
 -- ---- a turn of one machine
 
 -- where no key is due and steps are left, a turn has some
@@ -285,77 +269,3 @@ on-advance system keys steps k quantum start old new console list now quiet none
         let P : ℕ → Type 0 = λ n. IsOn system keys steps start (record old { done = old.done + k; until = n }) console list (after system k now) in
         ⊎_elim (λ left. subst P (sym here) (on-ended system keys steps start (record old { done = old.done + k }) console list (after system k now) (after-ended system k now (over zero_steps left)) moved))
         (λ spent. let within = on.all.within in let same : old.until ≡ old.done = omega arith in subst P same moved) (cases_lt 0 (left_in old))
-
--- all bytes that wait are taken
-on-taken : (system : Disk) (keys : List Key) (steps : ℕ) (start : MachineState) (pace : Pace) (console list : List ℕ) (now : MachineState) → IsOn system keys steps start pace console list now →
-    IsOn system keys steps start pace (console ++ now.session.console.screen) (list ++ now.session.console.printer) (without_list (without_text now))
-on-taken system keys steps start pace console list now on =
-    on-behind system keys steps start pace console list _ _ now (without_list (without_text now))
-    (ap₂ (λ (xs ys : List ℕ). record now { session = record now.session { console = record now.session.console { screen = xs; printer = ys } } })
-    (append-nil (console ++ now.session.console.screen)) (append-nil (list ++ now.session.console.printer))) on
-
-pub shown-start : (system : Disk) (keys : List Key) (steps : ℕ) (start : MachineState) (o : Option (List ℕ)) → IsFresh start → IsInOrder 0 keys → IsShown system keys steps start (first_pace steps) start o o
-shown-start system keys steps start o fresh order = record {
-  text = [];
-  list = [];
-  on = on-start system keys steps start fresh order;
-  appended = appends_none o;
-  quiet = record { screen = fresh.screen; printer = fresh.printer };
-}
-
--- a key more
-pub pressed-more : (keys : List Key) (byte : ℕ) (old pace : Pace) (now s next : MachineState) (r : Result ⊤ KeysFull) → length keys ≤ 4096 → due_at pace.done (slice_get keys pace.pressed) ≡ Some byte →
-    IfOk r (λ _. (takes_key s ≡ true) × (next ≡ keyed byte s)) → IfErr r (λ _. (takes_key s ≡ false) × (next ≡ s)) →
-    IsPressed keys old pace now s → IsPressed keys old (record pace { pressed = pace.pressed + 1 }) now next
-pressed-more keys byte old pace now s next (Ok done) few due accepted refused press =
-    let is : IsDue keys pace byte = due-key (slice_get keys pace.pressed) keys pace byte refl due in
-    record {
-      on = λ system steps start console list on.
-          let P : MachineState → Type 0 = λ t. IsOn system keys steps start (record pace { pressed = pace.pressed + 1 }) console list t in
-          subst P (sym accepted.1) (on-key system keys steps byte start pace console list s is (press.on system steps start console list on));
-      quiet = λ quiet. let before = press.quiet quiet in
-          subst IsQuiet (sym accepted.1) (record { screen = before.screen; printer = before.printer });
-    }
-pressed-more keys byte old pace now s next (Err fault) few due accepted refused press =
-    let is : IsDue keys pace byte = due-key (slice_get keys pace.pressed) keys pace byte refl due in
-    record {
-      on = λ system steps start console list on.
-          let room : takes_key s ≡ true = takes-due system keys steps byte start pace console list s few is (press.on system steps start console list on) in
-          absurd (true≢false (sym room ∙ refused.0));
-      quiet = λ quiet. subst IsQuiet (sym refused.1) (press.quiet quiet);
-    }
-
-pub shown-turn : (system : Disk) (keys : List Key) (steps k quantum : ℕ) (start : MachineState) (old pressed new : Pace) (now next turned last : MachineState) (before middle written : Option (List ℕ)) →
-    IsShown system keys steps start old now before middle → IsPressed keys old pressed now next → due_at pressed.done (slice_get keys pressed.pressed) ≡ None → 1 ≤ quantum →
-    k ≡ executed system (turn_of pressed keys quantum) next → k ≤ turn_of pressed keys quantum → turned ≡ after system k next → IsAdvanced k pressed new →
-    last ≡ without_list (without_text turned) → Appends middle written turned.session.console.screen → IsShown system keys steps start new last before written
-shown-turn system keys steps k quantum start old pressed new now next turned last before middle written shown press none some is turn state moves taken_all writes =
-    let here : IsOn system keys steps start pressed shown.text shown.list next = press.on system steps start shown.text shown.list shown.on in
-    let there : IsOn system keys steps start new shown.text shown.list (after system k next) =
-    on-advance system keys steps k quantum start pressed new shown.text shown.list next (press.quiet shown.quiet) none some is turn moves here in
-    let P : MachineState → Type 0 = λ s. IsOn system keys steps start new shown.text shown.list s in
-    let Q : MachineState → Type 0 = λ s. IsOn system keys steps start new (shown.text ++ turned.session.console.screen) (shown.list ++ turned.session.console.printer) s in
-    record {
-      text = shown.text ++ turned.session.console.screen;
-      list = shown.list ++ turned.session.console.printer;
-      on = subst Q (sym taken_all) (on-taken system keys steps start new shown.text shown.list turned (subst P (sym state) there));
-      appended = appends_more before middle written written shown.text turned.session.console.screen shown.appended writes (keeps_all written);
-      quiet = record { screen = ap (λ (s : MachineState). s.session.console.screen) taken_all; printer = ap (λ (s : MachineState). s.session.console.printer) taken_all };
-    }
-
--- text of a turn is text of the whole
-pub shown-text : (system : Disk) (keys : List Key) (steps k quantum : ℕ) (start : MachineState) (old pressed new : Pace) (now next turned : MachineState) (before middle : Option (List ℕ)) →
-    IsShown system keys steps start old now before middle → IsPressed keys old pressed now next → due_at pressed.done (slice_get keys pressed.pressed) ≡ None → 1 ≤ quantum →
-    k ≡ executed system (turn_of pressed keys quantum) next → k ≤ turn_of pressed keys quantum → turned ≡ after system k next → IsAdvanced k pressed new → HasText turned →
-    HasText (alone system (presses_of keys) steps start)
-shown-text system keys steps k quantum start old pressed new now next turned before middle shown press none some is turn state moves text =
-    let here : IsOn system keys steps start pressed shown.text shown.list next = press.on system steps start shown.text shown.list shown.on in
-    let there : IsOn system keys steps start new shown.text shown.list (after system k next) =
-    on-advance system keys steps k quantum start pressed new shown.text shown.list next (press.quiet shown.quiet) none some is turn moves here in
-    on-text system keys steps start new shown.text shown.list (after system k next) there (subst HasText state text)
-
-pub shown-end : (system : Disk) (keys : List Key) (steps : ℕ) (start : MachineState) (pace : Pace) (now : MachineState) (before written : Option (List ℕ)) → IsShown system keys steps start pace now before written → left_in pace ≡ 0 →
-    Appends before written (alone system (presses_of keys) steps start).session.console.screen × EndsAs (alone system (presses_of keys) steps start) now
-shown-end system keys steps start pace now before written shown none =
-    let played : IsPlayed system keys steps start now shown.text shown.list = on-end system keys steps start pace shown.text shown.list now shown.on shown.quiet none in
-    (subst (λ xs. Appends before written xs) played.screen shown.appended, record { count = played.count; ended = played.ended; regs = played.regs; memory = played.memory; disks = played.disks })

@@ -1,17 +1,21 @@
--- A script that never waits, whose keys all come.
-use Rattle.std.proofs.Common.{◌≡◌, ℕ, ◌+◌, ◌-◌, ◌<◌, ◌≤◌, max, Bool, true, false, true≢false, inl, inr, List, [], ◌∷◌, ◌++◌, length, map, refl, sym, ap, ◌∙◌, subst, arith, append-nil}
+-- A script that never waits: where all its keys come, and where some do not.
+use Rattle.std.proofs.Common.{◌≡◌, ℕ, ◌+◌, ◌-◌, ◌<◌, ◌≤◌, max, Bool, true, false, true≢false, ◌⊎◌, inl, inr, ⊎_elim, Option, List, [], ◌∷◌, ◌++◌, length, drop, map, refl, sym, ap, ap₂, ◌∙◌, subst, arith, append-nil, slice_get}
+use Rattle.std.specs.Option.{option_map_or}
+use Rattle.std.proofs.lemmas.Bool.{cases_lt}
 use Rattle.std.proofs.lemmas.List.{append_assoc}
 use Rattle.cpm_geom.specs.Disk.{Disk}
-use Rattle.cpm_script.specs.declared.cue.Cue.TheVariants.{Key as Timed}
+use Rattle.cpm_script.specs.Cues.{Awaited, Counted, Pressed, CueText, cue_text}
+use Rattle.cpm_script.specs.declared.cue.Cue.{Cue}
+use Rattle.cpm_script.specs.declared.cue.Cue.TheVariants.{Key as Timed, Wait, Press}
 use Rattle.cpm_script.specs.declared.script.Key.{Key}
-use Rattle.cpm_machine.specs.Alone.{alone}
+use Rattle.cpm_machine.specs.Alone.{Press as KeyPress, alone}
 use Rattle.cpm_machine.specs.MachineState.{MachineState}
 use Rattle.cpm_machine.specs.Step.{is_running}
-use Rattle.cpm_play.specs.Cued.{Comes, IsCuedFrom, runs_at, screen_at}
-use Rattle.cpm_play.specs.Laws.{PlainCuesGiveTheirKeys}
+use Rattle.cpm_play.specs.Cued.{Comes, IsCued, IsCuedFrom, runs_at, screen_at}
+use Rattle.cpm_play.specs.Laws.{PlainCuesDoAsTheirKeys, PlainCuesGiveTheirKeys}
 use Rattle.cpm_play.specs.Live.{AreBy}
-use Rattle.cpm_play.specs.Playing.{presses_of, IsInOrder}
-use Rattle.cpm_play.proofs.AloneLemmas.{alone-ended, alone-taken, keyless-ended, none-due, presses-append}
+use Rattle.cpm_play.specs.Playing.{presses_of, IsInOrder, alone_by}
+use Rattle.cpm_play.proofs.AloneLemmas.{alone-ended, alone-taken, keyless, keyless-ended, none-due, presses-append}
 
 -- it runs before keys that come later, if it does so behind them
 runs-before : (system : Disk) (start : MachineState) (steps n : ℕ) (before later : List Key) → IsInOrder n later → n ≤ steps → runs_at system start (before ++ later) steps ≡ true → runs_at system start before n ≡ true
@@ -52,3 +56,108 @@ plain-from system start steps waits_from last n mark before (k ∷ keys) given o
 
 pub plain-cues : PlainCuesGiveTheirKeys
 plain-cues system start steps waits_from last keys given order by fits runs is = plain-from system start steps waits_from last 0 0 [] keys given order by fits runs is
+
+-- ---- keys that do not come
+
+-- The keys that came are the first ones. The next one has a count past the steps, or the session has ended before it.
+record AreFirst (system : Disk) (start : MachineState) (steps : ℕ) (keys came : List Key) : Type 0 where
+  rest : List Key
+  at : ℕ
+  joined : keys ≡ came ++ rest
+  later : IsInOrder at rest
+  why : (steps ≤ at) ⊎ ((at ≤ steps) × (runs_at system start came at ≡ false))
+
+came-from : (system : Disk) (start : MachineState) (steps waits_from n mark : ℕ) (before keys came : List Key) → IsInOrder n keys →
+    IsCuedFrom system start steps waits_from before n mark (map Timed keys) came → AreFirst system start steps (before ++ keys) came
+came-from system start steps waits_from n mark before [] came order is =
+    record { rest = []; at = steps; joined = ap (λ ks. ks ++ []) (sym is); later = tt; why = inl (omega arith) }
+came-from system start steps waits_from n mark before (k ∷ keys) came order (inl come) =
+    let low : n ≤ k.count = order.0 in
+    let at : max n k.count ≡ k.count = omega arith in
+    let P : ℕ → Type 0 = λ m. IsCuedFrom system start steps waits_from (before ++ (let key : Key = record { count = m; byte = k.byte } in key) ∷ []) m (length (screen_at system start before m)) (map Timed keys) came in
+    let first = came-from system start steps waits_from k.count (length (screen_at system start before k.count)) (before ++ k ∷ []) keys came order.1 (subst P at come.1) in
+    record { rest = first.rest; at = first.at; joined = sym (append_assoc before (k ∷ []) keys) ∙ first.joined; later = first.later; why = first.why }
+came-from system start steps waits_from n mark before (k ∷ keys) came order (inr never) =
+    record {
+      rest = k ∷ keys;
+      at = k.count;
+      joined = ap (λ ks. ks ++ k ∷ keys) (sym never.1);
+      later = (omega arith, order.1);
+      why = ⊎_elim (λ within. inr (omega arith, subst (λ ks. runs_at system start ks k.count ≡ false) (sym never.1) (by_test within (runs_at system start before k.count) refl)))
+          (λ past. inl past) (cases_lt k.count steps);
+    }
+  where
+    by_test : k.count < steps → (b : Bool) → runs_at system start before k.count ≡ b → b ≡ false
+    by_test within false e = refl
+    by_test within true e =
+        let low : n ≤ k.count = order.0 in
+        let at : max n k.count ≡ k.count = omega arith in
+        absurd (never.0 (subst (λ m. Comes system start steps before m) (sym at) (within, e)))
+
+-- the others make no difference but that they are pending
+same-all : (system : Disk) (start : MachineState) (steps : ℕ) (keys came : List Key) → AreFirst system start steps keys came →
+    keyless (alone system (presses_of keys) steps start) ≡ keyless (alone system (presses_of came) steps start)
+same-all system start steps keys came first = ap (λ ps. keyless (alone system ps steps start)) split ∙ ⊎_elim late stopped first.why
+  where
+    all : List KeyPress
+    all = presses_of came ++ presses_of first.rest
+
+    split : presses_of keys ≡ all
+    split = ap presses_of first.joined ∙ presses-append came first.rest
+
+    late : steps ≤ first.at → keyless (alone system all steps start) ≡ keyless (alone system (presses_of came) steps start)
+    late past = alone-taken system (presses_of came) (presses_of first.rest) steps start (λ i below. none-due first.at i first.rest first.later (omega arith))
+
+    stopped : (first.at ≤ steps) × (runs_at system start came first.at ≡ false) → keyless (alone system all steps start) ≡ keyless (alone system (presses_of came) steps start)
+    stopped ended =
+        let fits = ended.0 in
+        let k = steps - first.at in
+        let there : first.at + k ≡ steps = omega arith in
+        let same : keyless (alone system all first.at start) ≡ keyless (alone system (presses_of came) first.at start) =
+        alone-taken system (presses_of came) (presses_of first.rest) first.at start (λ i below. none-due first.at i first.rest first.later below) in
+        let over = keyless-ended (alone system all first.at start) (alone system (presses_of came) first.at start) same ended.1 in
+        let P : ℕ → Type 0 = λ m. keyless (alone system all m start) ≡ keyless (alone system (presses_of came) m start) in
+        subst P there (alone-ended system all first.at k start over ∙ same ∙ sym (alone-ended system (presses_of came) first.at k start ended.1))
+
+-- where the session ends before its steps, these make no difference
+same-done : (system : Disk) (start : MachineState) (steps done : ℕ) (came : List Key) → done ≤ steps → (done ≡ steps) ⊎ (is_running (alone_by system came done start).ended ≡ false) →
+    keyless (alone system (presses_of came) steps start) ≡ keyless (alone system (presses_of came) done start)
+same-done system start steps done came within (inl whole) = ap (λ m. keyless (alone system (presses_of came) m start)) (sym whole)
+same-done system start steps done came within (inr ended) =
+    let there : done + (steps - done) ≡ steps = omega arith in
+    let P : ℕ → Type 0 = λ m. keyless (alone system (presses_of came) m start) ≡ keyless (alone system (presses_of came) done start) in
+    subst P there (alone-ended system (presses_of came) done (steps - done) start ended)
+
+-- the key of a cue that has a count
+abbrev key_counted : CueText → Key → Key
+key_counted (Counted key) other = key
+key_counted (Awaited text) other = other
+key_counted (Pressed byte) other = other
+
+timed-is : (cues : List Cue) (keys : List Key) → map cue_text cues ≡ map Counted keys → cues ≡ map Timed keys
+timed-is [] [] is = refl
+timed-is [] (k ∷ keys) is = cc
+timed-is (c ∷ cues) [] is = cc
+timed-is (Timed key ∷ cues) (k ∷ keys) is =
+    let first : key ≡ k = ap (λ (o : Option CueText). option_map_or (λ t. key_counted t k) o k) (ap (λ (ts : List CueText). slice_get ts 0) is) in
+    let rest : map cue_text cues ≡ map Counted keys = ap (λ (ts : List CueText). drop 1 ts) is in
+    ap₂ (λ (x : Key) (xs : List Cue). Timed x ∷ xs) first (timed-is cues keys rest)
+timed-is (Wait text ∷ cues) (k ∷ keys) is = cc
+timed-is (Press byte ∷ cues) (k ∷ keys) is = cc
+
+pub plain-runs : PlainCuesDoAsTheirKeys
+plain-runs system start steps waits_from done keys came cues said order is within ends =
+    let cued = subst (λ cs. IsCued system start steps waits_from cs came) (timed-is cues keys said) is in
+    let same : keyless (alone system (presses_of keys) steps start) ≡ keyless (alone system (presses_of came) done start) =
+    same-all system start steps keys came (came-from system start steps waits_from 0 0 [] keys came order cued) ∙ same-done system start steps done came within ends in
+    record {
+      screen = ap (λ (s : MachineState). s.session.console.screen) (sym same);
+      printer = ap (λ (s : MachineState). s.session.console.printer) (sym same);
+      ending = record {
+        count = ap (λ (s : MachineState). s.count) (sym same);
+        ended = ap (λ (s : MachineState). s.ended) (sym same);
+        regs = ap (λ (s : MachineState). s.session.regs) (sym same);
+        memory = ap (λ (s : MachineState). s.memory) (sym same);
+        disks = ap (λ (s : MachineState). s.session.disks) (sym same);
+      };
+    }

@@ -17,19 +17,10 @@ use Rattle.cpm_play.specs.Live.{HadText, HasCome}
 use Rattle.cpm_play.specs.declared.live.LiveError.{LiveError}
 use Rattle.cpm_play.specs.declared.live.LiveError.TheVariants.{Unreadable, Unwritable, Unrecorded, OutOfMemory}
 use Rattle.cpm_play.specs.Pacing.{without_list, without_text}
-use Rattle.cpm_play.specs.Playing.{HasText, alone_by}
+use Rattle.cpm_play.specs.Playing.{HasText}
+pub use Rattle.cpm_play.specs.Playing.{last_count, runs_at, screen_at, waits_at}
 
 -- ---- the machine run alone
-
--- after so many steps it waits for a key, it runs, and it has shown this
-abbrev pub waits_at : Disk → MachineState → List Key → ℕ → Bool
-waits_at system start keys n = (look_of (alone_by system keys n start)).waiting
-
-abbrev pub runs_at : Disk → MachineState → List Key → ℕ → Bool
-runs_at system start keys n = is_running (alone_by system keys n start).ended
-
-abbrev pub screen_at : Disk → MachineState → List Key → ℕ → List ℕ
-screen_at system start keys n = (alone_by system keys n start).session.console.screen
 
 -- it waits at none of the counts from one up to another
 abbrev pub HasNoWait : Disk → MachineState → List Key → (from until : ℕ) → Type 0
@@ -80,11 +71,6 @@ abbrev pub IsCued : Disk → MachineState → (steps waits_from : ℕ) → List 
 IsCued system start steps waits_from cues keys = IsCuedFrom system start steps waits_from [] 0 0 cues keys
 
 -- ---- where a session ends
-
--- the count of the last key, or this one where there is none
-abbrev pub last_count : ℕ → List Key → ℕ
-last_count n [] = n
-last_count n (k ∷ ks) = last_count k.count ks
 
 -- It ends where the machine has, and else after its steps. One that stops where it is idle ends sooner,
 -- where the machine next waits after the last key, if waits count there.

@@ -4,6 +4,7 @@ pub mod ScriptedSlots
 pub mod Laws
 pub mod Players
 pub mod Typing
+pub mod Wanting
 pub mod Live
 pub mod Cued
 pub mod Shown

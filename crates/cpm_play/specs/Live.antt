@@ -11,6 +11,7 @@ use Rattle.cpm_play.specs.declared.live.LiveError.{LiveError}
 use Rattle.cpm_play.specs.declared.live.LiveError.TheVariants.{Unreadable, Unwritable, Unrecorded, OutOfMemory}
 use Rattle.cpm_play.specs.Playing.{EndsAs, HasText, IsQuiet, alone_by}
 use Rattle.cpm_play.specs.Typing.{HasQuit, HasReadKeys}
+use Rattle.cpm_play.specs.Wanting.{AreWanted, IsKeyWanted}
 
 -- ---- the keys
 
@@ -57,9 +58,10 @@ abbrev pub AreTypedKeysRead : Option (List ℕ) → Option (List ℕ) → List K
 AreTypedKeysRead unread left keys = HasReadKeys unread left (bytes_of keys) ⊎ HasQuit unread left (bytes_of keys)
 
 -- It ends after its steps, or where the machine has ended, or where a key is wanted: when it has had as many as it may, or the input is at its end, or with ^].
-abbrev pub HasReason : (steps most : ℕ) → (unread left : Option (List ℕ)) → List Key → ℕ → MachineState → Type 0
-HasReason steps most unread left keys done now =
-    (done ≡ steps) ⊎ (is_running now.ended ≡ false) ⊎ (length keys ≡ most) ⊎ IsAtEnd left ⊎ HasQuit unread left (bytes_of keys)
+abbrev pub HasReason : Disk → MachineState → (steps most : ℕ) → (unread left : Option (List ℕ)) → List Key → ℕ → MachineState → Type 0
+HasReason system start steps most unread left keys done now =
+    (done ≡ steps) ⊎ (is_running now.ended ≡ false)
+    ⊎ (IsKeyWanted system start keys done × ((length keys ≡ most) ⊎ IsAtEnd left ⊎ HasQuit unread left (bytes_of keys)))
 
 -- ---- what is said of one that was not
 
@@ -78,19 +80,26 @@ pub record HadText (system : Disk) (steps most : ℕ) (start : MachineState) (ke
   pub given : AreGiven most done keys
   pub text : HasText (alone_by system keys done start)
 
+-- and so far a key is wanted, and each of these was
+pub record HasPaused (system : Disk) (steps most : ℕ) (start now : MachineState) (before written : Option (List ℕ)) (keys : List Key) : Type 0 where
+  pub come : HasCome system steps most start now before written keys
+  pub wants : IsKeyWanted system start keys come.done
+  pub wanted : AreWanted system start keys
+
 -- Why it was not played to its end, and what it had come to. The reader fails where a key is wanted, and all is shown and recorded; so it is where memory is
 -- refused. The writer fails where there is text, and all keys are recorded. The record fails at a key that is not pressed, and all is shown.
 abbrev pub IsCutShort : Disk → (steps most : ℕ) → (start now : MachineState)
     → (before written unrecorded record_now unread left : Option (List ℕ)) → LiveError → Type 0
 IsCutShort system steps most start now before written unrecorded record_now unread left (Unreadable e) =
-    (keys : List Key) × HasCome system steps most start now before written keys × Appends unrecorded record_now (recorded keys)
+    (keys : List Key) × HasPaused system steps most start now before written keys × Appends unrecorded record_now (recorded keys)
     × HasReadKeys unread left (bytes_of keys)
 IsCutShort system steps most start now before written unrecorded record_now unread left OutOfMemory =
-    (keys : List Key) × HasCome system steps most start now before written keys × Appends unrecorded record_now (recorded keys)
+    (keys : List Key) × HasPaused system steps most start now before written keys × Appends unrecorded record_now (recorded keys)
 IsCutShort system steps most start now before written unrecorded record_now unread left (Unwritable e) =
-    (keys : List Key) × HadText system steps most start keys × Appends unrecorded record_now (recorded keys) × HasReadKeys unread left (bytes_of keys)
+    (keys : List Key) × HadText system steps most start keys × AreWanted system start keys × Appends unrecorded record_now (recorded keys)
+    × HasReadKeys unread left (bytes_of keys)
 IsCutShort system steps most start now before written unrecorded record_now unread left (Unrecorded e) =
-    (keys : List Key) × HasCome system steps most start now before written keys
+    (keys : List Key) × HasPaused system steps most start now before written keys
 
 -- ---- the errors of its parts
 

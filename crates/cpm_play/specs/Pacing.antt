@@ -1,6 +1,5 @@
 -- Where a session stands while it is played. All of it is own.
 use Rattle.std.specs.Prelude.{◌≡◌, ℕ, ◌-◌, ◌<◌, ◌≤◌, nat_le, min, List, [], length, take, drop, slice_get, Option, Some, None, ◌⊎◌, false, if◌then◌else◌}
-use Rattle.std.specs.Io.KnownBytes.{Appends}
 use Rattle.cpm_geom.specs.Disk.{Disk}
 use Rattle.cpm_script.specs.declared.script.Key.{Key}
 use Rattle.cpm_machine.specs.Alone.{due, alone}
@@ -8,7 +7,7 @@ use Rattle.cpm_machine.specs.Calls.{state_behind}
 use Rattle.cpm_machine.specs.MachineState.{MachineState}
 use Rattle.cpm_machine.specs.Step.{is_running}
 use Rattle.cpm_play.specs.declared.pace.Pace.{Pace}
-use Rattle.cpm_play.specs.Playing.{presses_of, IsInOrder, IsQuiet}
+use Rattle.cpm_play.specs.Playing.{presses_of, IsInOrder}
 
 -- before the first turn
 abbrev pub first_pace : ℕ → Pace
@@ -52,24 +51,9 @@ pub record IsOn (system : Disk) (keys : List Key) (steps : ℕ) (start : Machine
   pub pending : length now.session.console.keys ≤ pace.pressed
   pub all : IsOfAll steps pace now
 
--- a machine and its pace, after the keys that are due
-pub record IsPressed (keys : List Key) (old new : Pace) (now next : MachineState) : Type 0 where
-  pub on : (system : Disk) (steps : ℕ) (start : MachineState) (console list : List ℕ) → IsOn system keys steps start old console list now
-      → IsOn system keys steps start new console list next
-  pub quiet : IsQuiet now → IsQuiet next
-
 -- the state with its console bytes taken, and with its list bytes taken
 abbrev pub without_text : MachineState → MachineState
 without_text s = record s { session = record s.session { console = record s.session.console { screen = [] } } }
 
 abbrev pub without_list : MachineState → MachineState
 without_list s = record s { session = record s.session { console = record s.session.console { printer = [] } } }
-
--- the same of a machine, whose console bytes a writer got and whose list bytes were dropped
-pub record IsShown (system : Disk) (keys : List Key) (steps : ℕ) (start : MachineState) (pace : Pace)
-    (now : MachineState) (before written : Option (List ℕ)) : Type 0 where
-  pub text : List ℕ
-  pub list : List ℕ
-  pub on : IsOn system keys steps start pace text list now
-  pub appended : Appends before written text
-  pub quiet : IsQuiet now

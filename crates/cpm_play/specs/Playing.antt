@@ -1,9 +1,11 @@
 -- Sessions played by their keys: what each shows and leaves, whatever its turns are. All of it is own.
-use Rattle.std.specs.Prelude.{⊤, ◌≡◌, ◌≢◌, ℕ, ◌≤◌, List, [], ◌∷◌, map}
+use Rattle.std.specs.Prelude.{⊤, ◌≡◌, ◌≢◌, ℕ, ◌≤◌, Bool, List, [], ◌∷◌, map}
 use Rattle.cpm_geom.specs.Disk.{Disk}
 use Rattle.cpm_script.specs.declared.script.Key.{Key}
 use Rattle.cpm_machine.specs.Alone.{Press, alone}
 use Rattle.cpm_machine.specs.MachineState.{MachineState}
+use Rattle.cpm_machine.specs.Serve.{look_of}
+use Rattle.cpm_machine.specs.Step.{is_running}
 
 -- the keys of a script, each with the number of steps executed before it
 abbrev pub presses_of : List Key → List Press
@@ -17,6 +19,21 @@ IsInOrder n (k ∷ ks) = (n ≤ k.count) × IsInOrder k.count ks
 -- the machine run alone for these keys and so many steps
 abbrev pub alone_by : Disk → List Key → ℕ → MachineState → MachineState
 alone_by system keys steps start = alone system (presses_of keys) steps start
+
+-- after so many steps it waits for a key, it runs, and it has shown this
+abbrev pub waits_at : Disk → MachineState → List Key → ℕ → Bool
+waits_at system start keys n = (look_of (alone_by system keys n start)).waiting
+
+abbrev pub runs_at : Disk → MachineState → List Key → ℕ → Bool
+runs_at system start keys n = is_running (alone_by system keys n start).ended
+
+abbrev pub screen_at : Disk → MachineState → List Key → ℕ → List ℕ
+screen_at system start keys n = (alone_by system keys n start).session.console.screen
+
+-- the count of the last key, or this one where there is none
+abbrev pub last_count : ℕ → List Key → ℕ
+last_count n [] = n
+last_count n (k ∷ ks) = last_count k.count ks
 
 -- A session was played: it has shown what the machine run alone for its keys and steps shows, and has come to its end, count, registers,
 -- memory and drives, whatever the turns were.

@@ -1,6 +1,6 @@
 //! Laws of key scripts, as contracts.
 
-ghost use Rattle.cpm_play.specs.Laws.{PlainCuesGiveTheirKeys, ScriptsInOrder};
+ghost use Rattle.cpm_play.specs.Laws.{PlainCuesDoAsTheirKeys, PlainCuesGiveTheirKeys, ScriptsInOrder};
 
 /// The keys of a script are in order, and at most 4,096, so that they can be played.
 pub fn scripts_in_order()
@@ -10,4 +10,10 @@ pub fn scripts_in_order()
 /// A script that never waits gives its keys, where all of them come within the steps and the machine still runs after these.
 pub fn plain_cues_give_their_keys()
     ensures { PlainCuesGiveTheirKeys }
+{}
+
+/// A machine that is played by a script that never waits, and doesn't stop where it is idle, shows what it shows run alone by all keys of the script for all
+/// steps, and ends as it does then, whether all keys come or not.
+pub fn plain_cues_do_as_their_keys()
+    ensures { PlainCuesDoAsTheirKeys }
 {}

@@ -20,7 +20,6 @@ mod watch;
 pub use cued::{CuedKeys, play_cues};
 pub use error::PlayError;
 pub use live::{LiveError, LivePlay, play_live};
-pub use machine::play_machine;
 pub use player::{Fork, Player};
 pub use progress::{NoWatcher, Progress, Watcher};
 pub use rounds::play;

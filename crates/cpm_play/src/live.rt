@@ -5,11 +5,11 @@ ghost use Rattle.std.specs.Io.KnownBytes.{Appends};
 ghost use Rattle.cpm_script.specs.Recording.{key_line, recorded};
 ghost use Rattle.cpm_machine.specs.Serve.{keyed, look_of, takes_key};
 ghost use Rattle.cpm_machine.specs.Step.{after, is_running};
-ghost use Rattle.cpm_play.specs.Cued.{waits_at};
 ghost use Rattle.cpm_play.specs.Live.{AreGiven, AreTypedKeysRead, HasReason, IsCutShort, IsNotGiven, IsUnreadable, IsUnwritable};
 ghost use Rattle.cpm_play.specs.Pacing.{without_list, without_text};
-ghost use Rattle.cpm_play.specs.Playing.{EndsAs, HasText, IsFresh, IsQuiet, alone_by};
+ghost use Rattle.cpm_play.specs.Playing.{EndsAs, HasText, IsFresh, IsQuiet, alone_by, waits_at};
 ghost use Rattle.cpm_play.specs.Typing.{HasReadKeys, IsTyped};
+ghost use Rattle.cpm_play.specs.Wanting.{AreWanted, HasNoLongWait, HasWatched, longest_turn};
 
 use crate::machine::{drop_list, move_text};
 use crate::typing::next_key;
@@ -117,8 +117,10 @@ pub(crate) fn show<W: Write>(machine: &mut Machine, out: &mut W) -> Result<(), L
 fn turn(system: &Image, machine: &mut Machine, left: u64, watch: &mut Watch) -> u64
     requires { 0 < left }
     ensures within { result ≤ left }
+    ensures few { result ≤ longest_turn }
     ensures state { machine.new ≡ after system.now result machine.old }
     ensures ended { result ≡ 0 → IsQuiet machine.old → is_running machine.old.ended ≡ false }
+    ensures watched { HasWatched watch.old watch.new result machine.new }
 {
     let most = watch.most().min(left);
     let granted = machine.grant_until(system, most, watch.address());
@@ -129,9 +131,9 @@ fn turn(system: &Image, machine: &mut Machine, left: u64, watch: &mut Watch) -> 
 /// Plays one machine for at most so many steps with keys that are typed meanwhile, at most so many, and writes its console bytes as they come. List bytes are
 /// dropped.
 ///
-/// A key is read from `input` where the machine wants one: where it waits for a key, or asks again and again whether there is one. It is pressed at the count
-/// where the machine then stands, and written to `record` as a line of a key script: by that script the machine shows and does the same again. A byte of 80h or
-/// more is no key and is passed over.
+/// A key is read from `input` where the machine wants one: where it waits for a key, or asks again and again whether there is one (`IsKeyWanted`). While it
+/// waits it is run on for one turn at most. The key is pressed at the count where the machine then stands, and written to `record` as a line of a key script:
+/// by that script the machine shows and does the same again. A byte of 80h or more is no key and is passed over.
 ///
 /// The session ends after its steps, where the machine ends, and where a key is wanted with ^], at the end of `input`, or after `most_keys` keys.
 pub fn play_live<I: Read, W: Write, S: Write>(
@@ -153,7 +155,10 @@ pub fn play_live<I: Read, W: Write, S: Write>(
     ensures record { IfOk result (λ live. Appends (S.contents record.old) (S.contents record.new) (recorded live.keys.items)) }
     ensures input { IfOk result (λ live. AreTypedKeysRead (I.remaining input.old) (I.remaining input.new) live.keys.items) }
     ensures waits { IfOk result (λ live. (look_of machine.new).waiting ≡ waits_at system.now machine.old live.keys.items live.steps) }
-    ensures ends { IfOk result (λ live. HasReason steps most_keys (I.remaining input.old) (I.remaining input.new) live.keys.items live.steps machine.new) }
+    ensures ends { IfOk result (λ live. HasReason system.now machine.old steps most_keys (I.remaining input.old) (I.remaining input.new)
+        live.keys.items live.steps machine.new) }
+    ensures wanted { IfOk result (λ live. AreWanted system.now machine.old live.keys.items) }
+    ensures brief { IfOk result (λ live. HasNoLongWait system.now machine.old live.keys.items live.steps) }
     ensures refused { IfErr result (IsCutShort system.now steps most_keys machine.old machine.new (W.contents out.old) (W.contents out.new)
         (S.contents record.old) (S.contents record.new) (I.remaining input.old) (I.remaining input.new)) }
 {

@@ -1,6 +1,7 @@
 //! When a machine that is played live wants a key.
 
-ghost use Rattle.std.specs.Prelude.{◌≡◌, ◌<◌, true};
+ghost use Rattle.std.specs.Prelude.{◌≡◌, ◌<◌, ◌≤◌, ◌==◌, ◌&&◌, ◌||◌, nat_le};
+ghost use Rattle.cpm_play.specs.Wanting.{is_poll, longest_turn, polls_enough, polls_more, polls_seen, watched_address};
 
 use crate::machine::QUANTUM;
 use cpm_flags::Regs;
@@ -29,7 +30,9 @@ const FIRST_QUANTUM: u64 = 100;
 const PAUSE: u64 = 10_000;
 
 /// Whether a call of the BDOS with these registers asks whether a key is there.
-fn is_poll(regs: &Regs) -> bool {
+fn is_poll(regs: &Regs) -> bool
+    ensures { result ≡ is_poll regs.now }
+{
     regs.c == STATUS || (regs.c == DIRECT_CONSOLE && regs.e >= ASKS)
 }
 
@@ -40,8 +43,8 @@ fn is_poll(regs: &Regs) -> bool {
 pub(crate) struct Watch {
     /// How many polls came in a row.
     polls: u32,
-    /// Before which address the next turn stops.
-    address: u16,
+    /// Whether the next turn stops before CONST, and not before the BDOS.
+    at_status: bool,
     /// Whether the next turn is the one after a poll of CONST.
     is_pause: bool,
     /// How many steps the next turn has at most where it isn't.
@@ -50,69 +53,82 @@ pub(crate) struct Watch {
 
 impl Watch {
     /// Before the first turn.
-    pub(crate) fn new() -> Watch {
+    pub(crate) fn new() -> Watch
+        ensures { result.polls ≡ 0 }
+    {
         Watch {
             polls: 0,
-            address: BDOS,
+            at_status: false,
             is_pause: false,
             quantum: FIRST_QUANTUM,
         }
     }
 
     /// Before which address the next turn stops.
-    pub(crate) fn address(&self) -> u16 {
-        self.address
+    pub(crate) fn address(&self) -> u16
+        ensures { result ≡ watched_address self.now }
+    {
+        if self.at_status { CONSOLE_STATUS } else { BDOS }
     }
 
     /// How many steps the next turn has at most.
     pub(crate) fn most(&self) -> u64
-        ensures { 0 < result }
+        ensures some { 0 < result }
+        ensures few { result ≤ longest_turn }
     {
         if self.is_pause {
             PAUSE
         } else {
-            self.quantum.max(FIRST_QUANTUM)
+            self.quantum.max(FIRST_QUANTUM).min(QUANTUM)
         }
     }
 
     /// Whether the machine, of which this is seen, wants a key: it waits for one, or it polls, and none is pending.
     pub(crate) fn wants_key(&self, look: &Look) -> bool
-        ensures { result ≡ true → look.now.keys ≡ 0 }
+        ensures { result ≡ (look.now.keys == 0 && (look.now.waiting || nat_le polls_enough self.now.polls)) }
     {
         look.keys == 0 && (look.waiting || self.polls >= POLLS)
     }
 
     /// Sees what a turn left, before its text is taken, and why it ended.
-    pub(crate) fn see(&mut self, look: &Look, why: Why) {
+    pub(crate) fn see(&mut self, look: &Look, why: Why)
+        ensures { self.new.polls ≡ polls_seen self.old look.now why }
+    {
         if look.console > 0 {
             self.polls = 0;
         }
-        if why == Why::Break {
-            self.see_call(look);
-        } else {
-            self.is_pause = false;
-            self.quantum = self.quantum.saturating_mul(2).min(QUANTUM);
-            self.address = if self.address == BDOS {
-                CONSOLE_STATUS
-            } else {
-                BDOS
-            };
+        match why {
+            Why::Break => self.see_call(look),
+            _ => self.see_none(),
         }
     }
 
     /// Sees the call before which a turn stopped.
-    fn see_call(&mut self, look: &Look) {
-        self.is_pause = self.address != BDOS;
+    fn see_call(&mut self, look: &Look)
+        ensures { self.new.polls ≡ polls_more (self.old.at_status || is_poll look.now.regs) self.old.polls }
+    {
+        self.is_pause = self.at_status;
         if self.is_pause || is_poll(&look.regs) {
             self.polls = self.polls.saturating_add(1);
         } else {
             self.polls = 0;
         }
-        self.address = BDOS;
+        self.at_status = false;
+    }
+
+    /// Sees that a turn stopped before no call.
+    fn see_none(&mut self)
+        ensures { self.new.polls ≡ self.old.polls }
+    {
+        self.is_pause = false;
+        self.quantum = self.quantum.saturating_mul(2);
+        self.at_status = !self.at_status;
     }
 
     /// A key was given.
-    pub(crate) fn give(&mut self) {
+    pub(crate) fn give(&mut self)
+        ensures { self.new.polls ≡ 0 }
+    {
         self.polls = 0;
         self.quantum = FIRST_QUANTUM;
     }

@@ -5,6 +5,7 @@ pub mod PartLemmas
 pub mod PlayLemmas
 pub mod PrepareLemmas
 pub mod RecordLemmas
+pub mod ReplayLemmas
 pub mod RunLemmas
 pub mod ScriptLemmas
 pub mod SettleLemmas

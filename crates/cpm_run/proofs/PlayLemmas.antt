@@ -1,5 +1,7 @@
 -- The players of sessions, before and after they are played.
-use Rattle.std.proofs.Common.{◌≡◌, ◌∙◌, ◌≤◌, ℕ, zero, suc, List, [], ◌∷◌, ◌++◌, Option, Some, None, length, ap, subst, sym, refl, arith, slice_get, sum_by, IfSome}
+use Rattle.std.proofs.Common.{◌≡◌, ◌≢◌, ◌∙◌, ◌≤◌, ℕ, zero, suc, List, [], ◌∷◌, ◌++◌, Option, Some, None, length, ap, subst, sym, refl, arith, slice_get, sum_by, IfSome}
+use Rattle.std.specs.Prelude.{option_map}
+use Rattle.std.proofs.lemmas.Option.{slice_get-map}
 use Rattle.std.proofs.lemmas.List.Sums.{sum_by-cons}
 use Rattle.cpm_batch.specs.Inputs.{Forks, IsOpened, Opens, StartInput}
 use Rattle.cpm_flags.specs.declared.regs.Cpu.{Cpu}
@@ -10,7 +12,7 @@ use Rattle.cpm_slots.specs.Host.{Host, SlotState}
 use Rattle.cpm_machine.specs.MachineState.{MachineState, opened_machine}
 use Rattle.cpm_machine.specs.declared.opening.OpenError.{OpenError}
 use Rattle.cpm_machine.specs.declared.opening.OpenError.TheVariants as fault
-use Rattle.cpm_play.specs.Players.{AllReady, HasPlayed, HasRoomForForks, IsForkReady, IsPlayerReady, fork_pages, forks_of, is_fork, pages_of, player_keys, player_steps, quota_of, player_slot, start_at}
+use Rattle.cpm_play.specs.Players.{AllReady, HasPlayed, HasRoomForForks, IsForkReady, IsPlayRefusal, IsPlayerReady, fork_pages, forks_of, is_fork, pages_of, player_keys, player_steps, quota_of, player_slot, start_at}
 use Rattle.cpm_play.specs.Playing.{IsInOrder, IsPlayed}
 use Rattle.cpm_play.specs.ScriptedSlots.{IsReady, script_keys}
 use Rattle.cpm_play.specs.declared.player.Fork.{Fork}
@@ -18,8 +20,12 @@ use Rattle.cpm_play.specs.declared.player.Player.{Player}
 use Rattle.cpm_play.specs.declared.player.Player.TheVariants.{Playing, Waiting}
 use Rattle.cpm_play.specs.declared.scripted_slot.ScriptedSlot.{ScriptedSlot}
 use Rattle.cpm_config.specs.declared.config.Config.{Config}
-use Rattle.cpm_run.specs.Playing.{AllEnded, ArePressable, HasEnded, HasPlayer, HasPlayerBy, HasSlot, HavePlayers, IsForkFor, IsForkPressable, IsForksRefusal, IsSessionsRefusal, IsPressableBy}
-use Rattle.cpm_run.specs.Run.{HasForkRoom, IsFirstRefused, IsShortFor, fork_of, fork_pages_in, forks_in, pages_by}
+use Rattle.cpm_config.specs.declared.config.SessionConfig.{SessionConfig}
+use Rattle.cpm_play.specs.declared.error.PlayError.TheVariants.{ForkRefused}
+use Rattle.cpm_slots.specs.declared.event.ForkError.{ForkError}
+use Rattle.cpm_slots.specs.declared.event.ForkError.TheVariants as fork
+use Rattle.cpm_run.specs.Playing.{AllEnded, ArePressable, HasEnded, HasPlayer, HasPlayerBy, HasSlot, HavePlayers, IsForkFor, IsForkPressable, IsForkRefused, IsForksRefusal, IsSessionsRefusal, IsPressableBy}
+use Rattle.cpm_run.specs.Run.{HasForkRoom, IsFirstRefused, IsForkAt, IsNamedRefusal, IsShortFor, IsShownAs, fork_of, fork_pages_in, forks_in, name_at, pages_by}
 use Rattle.cpm_run.specs.declared.error.RunError.{RunError}
 use Rattle.cpm_run.specs.declared.error.RunError.TheVariants as refusal
 use Rattle.cpm_run.specs.Settled.{SettledSession, opening_at, opening_of, start_by, starts_of}
@@ -231,16 +237,42 @@ module _ (system : Disk) (before now : List SlotState) (is : List SettledSession
 
 -- ---- refusals
 
+-- one is named of the forks for which there is no room
+pub lacks_frames : (sessions : List SessionConfig) (h : Host) (ps : List Player) (place : ℕ) (shown : List ℕ) → IsPlayRefusal h ps (ForkRefused place fork.NoFrames) → IsShownAs (name_at sessions place) shown
+    → IsForkRefused sessions h ps fault.NoFrames shown
+lacks_frames sessions h ps place shown r told = record { place = place; fork = r.0.0; there = r.0.1; short = r.1; told = told }
+
+pub lacks_slots : (sessions : List SessionConfig) (h : Host) (ps : List Player) (place : ℕ) (why : ForkError) (shown : List ℕ) → why ≢ fork.NoFrames → IsPlayRefusal h ps (ForkRefused place why)
+    → IsShownAs (name_at sessions place) shown → IsForkRefused sessions h ps fault.NoSlot shown
+lacks_slots sessions h ps place fork.NoSlot shown other r told = record { place = place; fork = r.0.0; there = r.0.1; short = r.1; told = told }
+lacks_slots sessions h ps place fork.NoFrames shown other r told = absurd (other refl)
+lacks_slots sessions h ps place _ shown other r told = absurd r.1
+
+-- a session whose player is to be forked is forked
+fork_at : (slots : List SlotState) (starts : List StartInput) (place : ℕ) (b : StartInput) (i : SettledSession) (fork : Fork) → slice_get starts place ≡ Some b → HasPlayerBy slots b i (Waiting fork)
+    → IsForkAt starts place
+fork_at slots starts place (Opens cpu quota drives) i fork there h = absurd h
+fork_at slots starts place (Forks parent at) i fork there h = record { parent = parent; at = at; there = there }
+
 -- where forks are refused, once all that are opened are open
 pub fork_refused : (config : Config) (start now : Host) (is : List SettledSession) (ps : List Player) (e : RunError) → HavePlayers now.slots is ps
-    → ((whole : List StartInput) (fault : OpenError) → IsShortFor now (forks_in whole) (fork_pages_in whole) fault → IsFirstRefused whole start (starts_of is) fault)
-    → IsForksRefusal config now (forks_of ps) (fork_pages now.slots ps) e → IsSessionsRefusal config start (starts_of is) e
-fork_refused config start now is ps e all short r =
-    by_error e (subst (λ (n : ℕ). IsForksRefusal config now (forks_in (starts_of is)) n e) (pages_are now.slots is ps all)
-    (subst (λ (n : ℕ). IsForksRefusal config now n (fork_pages now.slots ps) e) (forks_are now.slots is ps all) r))
+    → ((whole : List StartInput) (fault : OpenError) (place : ℕ) → IsForkAt whole place → IsShortFor now (forks_in whole) (fork_pages_in whole) fault → IsFirstRefused whole start 0 (starts_of is) fault place)
+    → IsForksRefusal config now ps e → IsSessionsRefusal config start (starts_of is) e
+fork_refused config start now is ps e all short r = by_error e r
   where
-    by_error : (e : RunError) → IsForksRefusal config now (forks_in (starts_of is)) (fork_pages_in (starts_of is)) e → IsSessionsRefusal config start (starts_of is) e
-    by_error (refusal.SessionRefused name fault) r = (r.0, short (starts_of is) fault r.1)
-    by_error (refusal.FramesExceeded name quotas frames) r = (r.0, r.1, short (starts_of is) fault.NoFrames r.2)
+    named : (fault : OpenError) (shown : List ℕ) → IsForkRefused config.sessions.items now ps fault shown → IsNamedRefusal config.sessions.items start (starts_of is) fault shown
+    named fault shown r =
+        let s = session_at now.slots is ps r.place (Waiting r.fork) all r.there in
+        let room = subst (λ (n : ℕ). IsShortFor now (forks_in (starts_of is)) n fault) (pages_are now.slots is ps all)
+        (subst (λ (n : ℕ). IsShortFor now n (fork_pages now.slots ps) fault) (forks_are now.slots is ps all) r.short) in
+        record {
+          place = r.place;
+          first = short (starts_of is) fault r.place (fork_at now.slots (starts_of is) r.place s.input.start s.input r.fork (slice_get-map (λ (x : SettledSession). x.start) is r.place ∙ ap (option_map (λ (x : SettledSession). x.start)) s.there) s.has) room;
+          told = r.told;
+        }
+
+    by_error : (e : RunError) → IsForksRefusal config now ps e → IsSessionsRefusal config start (starts_of is) e
+    by_error (refusal.SessionRefused name fault) r = (r.0, named fault name.bytes r.1)
+    by_error (refusal.FramesExceeded name quotas frames) r = (r.0, r.1, named fault.NoFrames name.bytes r.2)
     by_error refusal.OutOfMemory r = tt
     by_error _ r = absurd r

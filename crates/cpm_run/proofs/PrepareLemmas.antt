@@ -1,6 +1,7 @@
 -- Sessions that are prepared one after another: opened, or to be forked.
-use Rattle.std.proofs.Common.{◌≡◌, ◌∙◌, Bool, inl, inr, ◌<◌, ◌+◌, ℕ, List, [], ◌∷◌, ◌++◌, Some, map, ap, refl, subst, sym, arith, append_assoc}
-use Rattle.std.specs.Prelude.{⊤}
+use Rattle.std.proofs.Common.{◌≡◌, ◌∙◌, Bool, inl, inr, ◌<◌, ◌+◌, ℕ, List, [], ◌∷◌, ◌++◌, Some, length, map, ap, refl, subst, sym, arith, append_assoc}
+use Rattle.std.specs.Prelude.{⊤, string_bytes}
+use Rattle.std.proofs.lemmas.List.{length-append}
 use Rattle.cpm_batch.specs.Inputs.{Forks, Opens, StartInput, start_view}
 use Rattle.cpm_run.specs.declared.settled.SettledInput.{SettledInput}
 use Rattle.cpm_batch.specs.declared.input.Start.{Start}
@@ -23,7 +24,8 @@ use Rattle.cpm_play.specs.declared.scripted_slot.ScriptedSlot.{ScriptedSlot}
 use Rattle.cpm_run.specs.Playing.{HasPlayer, HasPlayerBy, HasSlot, HavePlayers, IsForkFor, IsOpeningRefusal, IsPrepared, IsPreparedBy, IsSlotRefusal, IsStartRefusal, OpensSlot}
 use Rattle.cpm_run.specs.declared.error.RunError.{RunError}
 use Rattle.cpm_run.specs.declared.error.RunError.TheVariants as refusal
-use Rattle.cpm_run.specs.Run.{AllAccepted, IsFirstRefused, IsOpening}
+use Rattle.cpm_run.specs.Run.{AllAccepted, IsFirstRefused, IsOpening, IsShownAs, name_at}
+use Rattle.cpm_store.specs.Files.{StoreName}
 use Rattle.cpm_run.specs.Settled.{SettledSession, settled_view, starts_of}
 
 -- ---- numbers of slots
@@ -96,8 +98,9 @@ opens_slot x o old new slot is h =
     subst (λ (b : Start). IsPreparedBy (start_view b) (settled_view x) old new (Playing slot)) (sym is) (o, record { cpu = refl; quota = refl; drives = refl }, h)
 
 -- where it was refused
-pub start_refused : (x : SettledInput) (o : Opening) (h : Host) (e : RunError) → x.start ≡ start.Opened o.cpu o.quota o.drives → IsOpeningRefusal h o e → IsStartRefusal h (settled_view x).start e
-start_refused x o h e is r = subst (λ (b : Start). IsStartRefusal h (start_view b) e) (sym is) (o, record { cpu = refl; quota = refl; drives = refl }, r)
+pub start_refused : (x : SettledInput) (o : Opening) (h : Host) (e : RunError) → x.start ≡ start.Opened o.cpu o.quota o.drives → IsOpeningRefusal h o (string_bytes x.session.now.name) e
+    → IsStartRefusal h (settled_view x).start (string_bytes x.session.now.name) e
+start_refused x o h e is r = subst (λ (b : Start). IsStartRefusal h (start_view b) (string_bytes x.session.now.name) e) (sym is) (o, record { cpu = refl; quota = refl; drives = refl }, r)
 
 -- where it is to be forked
 pub waits : (x : SettledInput) (fork : Fork) (h : Host) → x.start ≡ start.Forked fork.parent fork.at → IsForkFor (settled_view x) fork.parent fork.at fork → IsPrepared (settled_view x) h h (Waiting fork)
@@ -114,8 +117,16 @@ pub record IsPreparedTo (start now : Host) (all rest : List SettledSession) (ps 
   pub numbered : AllNumbered now.openings (ids_of ps)
   pub differ : AllDiffer ps
   pub system : now.system ≡ start.system
-  pub refused : (whole : List StartInput) (fault : OpenError) → IsFirstRefused whole now (starts_of rest) fault → IsFirstRefused whole start (starts_of all) fault
+  pub refused : (whole : List StartInput) (fault : OpenError) (place : ℕ) → IsFirstRefused whole now (length done) (starts_of rest) fault place → IsFirstRefused whole start 0 (starts_of all) fault place
   pub accepted : (whole : List StartInput) → AllAccepted whole now (starts_of rest) → AllAccepted whole start (starts_of all)
+
+one_longer : (done : List SettledSession) (i : SettledSession) → length (done ++ i ∷ []) ≡ length done + 1
+one_longer done i = let more = length-append done (i ∷ []) in omega (arith, more)
+
+-- the session after these has this name
+name_after : (done rest : List SettledSession) (i : SettledSession) → name_at (map (λ s. s.session) (done ++ i ∷ rest)) (length done) ≡ string_bytes i.session.name
+name_after [] rest i = refl
+name_after (s ∷ done) rest i = name_after done rest i
 
 abbrev input_of : SessionConfig → StartInput → List Key → (before steps : ℕ) → Bool → SettledSession
 input_of session b keys before steps idle = record { session = session; start = b; keys = keys; before = before; steps = steps; is_idle = idle }
@@ -147,7 +158,7 @@ opened_more start now new all rest session cpu quota drives keys before steps id
       numbered = subst (λ (xs : List ℕ). AllNumbered (n + 1) xs) (sym ids) (numbered_more n (ids_of ps) h.numbered);
       differ = subst AreDifferent (sym ids) (differ_more n (ids_of ps) h.numbered h.differ);
       system = h.system;
-      refused = λ whole fault f. h.refused whole fault (o, is, inr (open_slot.accepted, f));
+      refused = λ whole fault place f. h.refused whole fault place (o, is, inr (open_slot.accepted, subst (λ (n : ℕ). IsFirstRefused whole next n (starts_of rest) fault place) (one_longer h.done i) f));
       accepted = λ whole more. h.accepted whole (o, is, open_slot.accepted, more);
     } in
     subst (λ (host : Host). IsPreparedTo start host all rest (ps ++ Playing p ∷ [])) (sym open_slot.host) made
@@ -167,7 +178,7 @@ forked_more start now new all rest session parent at keys before steps idle ps f
       numbered = subst (λ (xs : List ℕ). AllNumbered now.openings xs) (sym ids) h.numbered;
       differ = subst AreDifferent (sym ids) h.differ;
       system = h.system;
-      refused = h.refused;
+      refused = λ whole fault place f. h.refused whole fault place (subst (λ (n : ℕ). IsFirstRefused whole now n (starts_of rest) fault place) (one_longer h.done i) f);
       accepted = h.accepted;
     } in
     subst (λ (host : Host). IsPreparedTo start host all rest (ps ++ Waiting fork ∷ [])) (sym same) made
@@ -185,14 +196,22 @@ pub prepared_more : (start now new : Host) (all rest : List SettledSession) (i :
 prepared_more start now new all rest i ps more p h r pushed =
     subst (λ (qs : List Player). IsPreparedTo start new all rest qs) (sym pushed) (more_by start now new all rest i.session i.start i.keys i.before i.steps i.is_idle ps p h r)
 
-refused_by : (start now : Host) (all rest : List SettledSession) (session : SessionConfig) (b : StartInput) (keys : List Key) (before steps : ℕ) (idle : Bool) (ps : List Player) (e : RunError) (whole : List StartInput)
-    → IsPreparedTo start now all (input_of session b keys before steps idle ∷ rest) ps → IsStartRefusal now b e → IsSlotRefusal whole start (starts_of all) e
-refused_by start now all rest session (Opens cpu quota drives) keys before steps idle ps (refusal.SessionRefused name fault) whole h r = h.refused whole fault (r.0, r.1, inl r.2)
-refused_by start now all rest session (Opens cpu quota drives) keys before steps idle ps refusal.OutOfMemory whole h r = tt
-refused_by start now all rest session (Opens cpu quota drives) keys before steps idle ps _ whole h r = absurd r.2
-refused_by start now all rest session (Forks parent at) keys before steps idle ps e whole h r = absurd r
+refused_by : (start now : Host) (all rest : List SettledSession) (session : SessionConfig) (b : StartInput) (keys : List Key) (before steps : ℕ) (idle : Bool) (ps : List Player) (e : RunError)
+    → IsPreparedTo start now all (input_of session b keys before steps idle ∷ rest) ps → IsStartRefusal now b (string_bytes session.name) e → IsSlotRefusal (map (λ s. s.session) all) start (starts_of all) e
+refused_by start now all rest session (Opens cpu quota drives) keys before steps idle ps (refusal.SessionRefused name fault) h r =
+    let i = input_of session (Opens cpu quota drives) keys before steps idle in
+    let named : name_at (map (λ s. s.session) all) (length h.done) ≡ string_bytes session.name =
+    ap (λ (ss : List SettledSession). name_at (map (λ s. s.session) ss) (length h.done)) (sym h.parts) ∙ name_after h.done rest i in
+    record {
+      place = length h.done;
+      first = h.refused (starts_of all) fault (length h.done) (r.0, r.1, inl (r.2.0, refl));
+      told = subst (λ (n : StoreName). IsShownAs n name.bytes) (sym named) r.2.1;
+    }
+refused_by start now all rest session (Opens cpu quota drives) keys before steps idle ps refusal.OutOfMemory h r = tt
+refused_by start now all rest session (Opens cpu quota drives) keys before steps idle ps _ h r = absurd r.2
+refused_by start now all rest session (Forks parent at) keys before steps idle ps e h r = absurd r
 
 -- an opening that is refused
 pub prepare_refused : (start now : Host) (all rest : List SettledSession) (i : SettledSession) (ps : List Player) (e : RunError) → IsPreparedTo start now all (i ∷ rest) ps
-    → IsStartRefusal now i.start e → (whole : List StartInput) → IsSlotRefusal whole start (starts_of all) e
-prepare_refused start now all rest i ps e h r whole = refused_by start now all rest i.session i.start i.keys i.before i.steps i.is_idle ps e whole h r
+    → IsStartRefusal now i.start (string_bytes i.session.name) e → IsSlotRefusal (map (λ s. s.session) all) start (starts_of all) e
+prepare_refused start now all rest i ps e h r = refused_by start now all rest i.session i.start i.keys i.before i.steps i.is_idle ps e h r

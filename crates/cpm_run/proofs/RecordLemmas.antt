@@ -1,7 +1,6 @@
 -- The lines of keys, and the records of all sessions.
-use Rattle.std.proofs.Common.{◌≡◌, ◌∙◌, ◌<◌, ◌≤◌, ◌+◌, ℕ, zero, suc, Bool, true, false, List, [], ◌∷◌, ◌++◌, Option, Some, None, length, map, refl, sym, subst, ap, arith, slice_get, get_or, take, drop, append-nil, append_assoc}
+use Rattle.std.proofs.Common.{◌≡◌, ◌∙◌, ◌<◌, ◌≤◌, ◌+◌, ℕ, Bool, List, [], ◌∷◌, ◌++◌, Option, Some, length, map, refl, sym, subst, ap, slice_get, get_or, drop, append-nil, append_assoc}
 use Rattle.std.specs.Prelude.{IfSome, option_map}
-use Rattle.std.specs.List.{All}
 use Rattle.std.proofs.lemmas.List.{at_drop_all, drop_more}
 use Rattle.std.proofs.lemmas.List.Elements.{All-drop}
 use Rattle.std.proofs.lemmas.Option.{slice_get-get_or, slice_get-map}
@@ -9,7 +8,7 @@ use Rattle.cpm_script.specs.Recording.{key_line, recorded}
 use Rattle.cpm_script.specs.declared.script.Key.{Key}
 use Rattle.cpm_store.specs.Writes.{NamedBytes}
 use Rattle.cpm_run.specs.Playing.{IsPressableBy}
-use Rattle.cpm_run.specs.Run.{record_of, record_outputs}
+use Rattle.cpm_run.specs.Run.{GivesItsKeysAgain, record_of, record_outputs}
 use Rattle.cpm_run.specs.Settled.{SettledSession, settled_view}
 use Rattle.cpm_run.specs.Settling.{AreBelow80h, AreSound}
 use Rattle.cpm_run.specs.declared.options.RecordFile.{RecordFile}
@@ -61,7 +60,7 @@ records-more rs ss i d e own outputs more there too at own_is is all =
 pub own-below : (ss : List SettledInput) (i : ℕ) (e : SettledInput) (own : List Key) → AreSound (map settled_view ss) → i < length ss → e ≡ get_or ss i e → own ≡ drop e.before e.keys.items → AreBelow80h own
 own-below ss i e own sound within at is =
     let there : slice_get (map settled_view ss) i ≡ Some (settled_view (get_or ss i e)) = slice_get-map settled_view ss i ∙ ap (option_map settled_view) (slice_get-get_or ss i e within) in
-    let both = subst (λ (o : Option SettledSession). IfSome o (λ s. IsPressableBy (map settled_view ss) s.start s × AreBelow80h s.keys)) there (sound i) in
+    let both = subst (λ (o : Option SettledSession). IfSome o (λ s. IsPressableBy (map settled_view ss) s.start s × AreBelow80h s.keys × GivesItsKeysAgain s)) there (sound i) in
     subst AreBelow80h (sym (is ∙ ap (λ (x : SettledInput). drop x.before x.keys.items) at)) (All-drop (λ k. k.byte < 128) (get_or ss i e).before (get_or ss i e).keys.items both.1)
 
 -- ---- where sessions stopped idle

@@ -1,5 +1,5 @@
 -- The calls that a run has made of a store, and how it is refused.
-use Rattle.std.proofs.Common.{◌≡◌, ◌≢◌, ◌∙◌, ◌⊎◌, ◌≤◌, ◌<◌, ◌+◌, ⊎_elim, inl, inr, ap, refl, subst, sym, arith, None, Some, Option, ℕ, zero, suc, List, [], ◌∷◌, ◌++◌, length, map, get_or, slice_get, Bool, true, false}
+use Rattle.std.proofs.Common.{◌≡◌, ◌∙◌, ◌≤◌, ◌<◌, ◌+◌, ⊎_elim, inl, inr, ap, refl, subst, sym, arith, None, Some, Option, ℕ, zero, suc, List, [], ◌∷◌, ◌++◌, length, map, get_or, slice_get, Bool, true, false}
 use Rattle.std.specs.Prelude.{IfSome, if◌then◌else◌, nat_lt, ◌||◌, chars, option_map}
 use Rattle.std.proofs.lemmas.Bool.Decides.{nat_tests}
 use Rattle.std.proofs.lemmas.Option.{slice_get-get_or, slice_get-map}
@@ -17,17 +17,16 @@ use Rattle.cpm_machine.specs.Opening.{drives_fault, fault_else, opening_fault}
 use Rattle.cpm_machine.specs.declared.opening.OpenError.{OpenError}
 use Rattle.cpm_machine.specs.declared.opening.OpenError.TheVariants as opening
 use Rattle.cpm_machine.specs.declared.opening.Opening.{Opening}
-use Rattle.cpm_play.specs.Players.{HasRoomForForks}
 use Rattle.cpm_slots.specs.Host.{Host, lacks_slot, new_host, quotas_of, refusal_of, room_fault, with_added, with_opened}
 use Rattle.cpm_store.specs.Files.{StoreFiles, WhereTold}
-use Rattle.cpm_store.specs.Log.{StoreAccess, AreNoWrites, AreWrites, LogLeadsBy, StopsAfter, Then}
+use Rattle.cpm_store.specs.Log.{StoreAccess, AreNoWrites, LogLeadsBy, StopsAfter}
 use Rattle.cpm_store.specs.Writes.{NamedBytes, StopsAt, named_output}
 use Rattle.cpm_store.specs.declared.writes.Output.{Output}
 use Rattle.cpm_store.proofs.LogLemmas.{ran_then}
 use Rattle.cpm_run.specs.Playing.{ArePressable, IsPressableBy, IsSessionsRefusal}
 use Rattle.cpm_run.specs.Refusals.{run_error_of_reading}
-use Rattle.cpm_run.specs.Refusing.{FailsAtWrite, IsOutputAt, IsPlaceRefusal, IsRefusedAfterReading, IsRunRefusal, IsSettleRefusal, IsStoppedRun, IsWriteRefusal, LeavesAll, StopsWriting}
-use Rattle.cpm_run.specs.Run.{AllAccepted, AreParts, IsFirstRefused, IsOpening, IsShortFor, RunParts, config_fault, outputs_by, outputs_of, starts_read}
+use Rattle.cpm_run.specs.Refusing.{FailsAtWrite, IsOutputAt, IsPlaceRefusal, IsRefusedAfterReading, IsRunRefusal, IsSettleRefusal, IsStoppedRun, IsWriteRefusal, LeavesAll, StopsAfterReading, StopsWriting}
+use Rattle.cpm_run.specs.Run.{AllAccepted, AreParts, GivesItsKeysAgain, IsFirstRefused, IsNamedRefusal, IsOpening, RunParts, config_fault, outputs_by, outputs_of, starts_read}
 use Rattle.cpm_run.specs.Settled.{AreSettled, AreUntouched, SettledSession, Streams, TypedSession, starts_of}
 use Rattle.cpm_run.specs.Settling.{AreBelow80h, AreSettledBy, AreSound}
 use Rattle.cpm_run.specs.declared.error.RunError.{RunError}
@@ -55,7 +54,7 @@ settled_sessions system idle typed sessions before (i ∷ is) (s ∷ ss) h =
 pub sound_pressable : (ss : List SettledSession) → AreSound ss → ArePressable ss
 sound_pressable ss sound = λ place. by_session (slice_get ss place) (sound place)
   where
-    by_session : (o : Option SettledSession) → IfSome o (λ s. IsPressableBy ss s.start s × AreBelow80h s.keys) → IfSome o (λ s. IsPressableBy ss s.start s)
+    by_session : (o : Option SettledSession) → IfSome o (λ s. IsPressableBy ss s.start s × AreBelow80h s.keys × GivesItsKeysAgain s) → IfSome o (λ s. IsPressableBy ss s.start s)
     by_session None h = tt
     by_session (Some s) h = h.0
 
@@ -91,21 +90,21 @@ numbered h o none low =
     by_test : (n : ℕ) → lacks_slot h ≡ false → h.openings + 1 ≤ 18446744073709551615
     by_test n has = grind (arith, nat_tests)
 
-never_both : (all starts : List StartInput) (h : Host) (fault : OpenError) → h.openings ≤ 18446744073709551615 → AllAccepted all h starts → IsFirstRefused all h starts fault → ⊥
-never_both all [] h opening.NoSlot low room short =
-    ⊎_elim (λ slots. let s = room.slots in omega (arith, s, slots)) (λ numbers. by_forks _ room.numbers numbers) short
+never_both : (all starts : List StartInput) (h : Host) (from : ℕ) (fault : OpenError) (place : ℕ) → h.openings ≤ 18446744073709551615 → AllAccepted all h starts → IsFirstRefused all h from starts fault place → ⊥
+never_both all [] h from opening.NoSlot place low room short =
+    ⊎_elim (λ slots. let s = room.slots in omega (arith, s, slots)) (λ numbers. by_forks _ room.numbers numbers) short.1
   where
     by_forks : (n : ℕ) → (0 < n → h.openings + n ≤ 18446744073709551615) → 18446744073709551615 < h.openings + n → ⊥
     by_forks zero has over = omega (arith, low, over)
     by_forks (suc n) has over = let r = has (omega arith) in omega (arith, r, over)
-never_both all [] h opening.NoFrames low room short = let f = room.frames in omega (arith, f, short)
-never_both all [] h _ low room short = absurd short
-never_both all (Opens cpu quota drives ∷ starts) h fault low was isn =
+never_both all [] h from opening.NoFrames place low room short = let f = room.frames in let s = short.1 in omega (arith, f, s)
+never_both all [] h from _ place low room short = absurd short.1
+never_both all (Opens cpu quota drives ∷ starts) h from fault place low was isn =
     let same : refusal_of h was.0 ≡ refusal_of h isn.0 = refusal_is h cpu quota drives was.0 was.1 ∙ sym (refusal_is h cpu quota drives isn.0 isn.1) in
     let next : with_opened h isn.0 ≡ with_opened h was.0 = host_is h cpu quota drives isn.0 isn.1 ∙ sym (host_is h cpu quota drives was.0 was.1) in
-    ⊎_elim (λ refused. let bad : None ≡ Some fault = sym was.2 ∙ (same ∙ refused) in cc)
-    (λ later. never_both all starts (with_opened h was.0) fault (numbered h was.0 was.2 low) was.3 (subst (λ (x : Host). IsFirstRefused all x starts fault) next later.1)) isn.2
-never_both all (Forks parent at ∷ starts) h fault low was isn = never_both all starts h fault low was isn
+    ⊎_elim (λ refused. let bad : None ≡ Some fault = sym was.2 ∙ (same ∙ refused.0) in cc)
+    (λ later. never_both all starts (with_opened h was.0) (from + 1) fault place (numbered h was.0 was.2 low) was.3 (subst (λ (x : Host). IsFirstRefused all x (from + 1) starts fault place) next later.1)) isn.2
+never_both all (Forks parent at ∷ starts) h from fault place low was isn = never_both all starts h (from + 1) fault place low was isn
 
 -- ---- refusals
 
@@ -115,7 +114,7 @@ pub reading_refused : (config : Config) (options : RunOptions) (io : Streams) (o
 reading_refused config options io old new (reading.File name) faultless h same = (faultless, ⊎_elim (λ m. absurd (cc)) (λ f. f) h, same)
 reading_refused config options io old new (reading.Image name count) faultless h same = (faultless, ⊎_elim (λ m. absurd (cc)) (λ f. f) h, same)
 reading_refused config options io old new (reading.Script name line fault) faultless h same = (faultless, ⊎_elim (λ m. absurd (cc)) (λ f. f) h, same)
-reading_refused config options io old new reading.OutOfMemory faultless h same = inl same.same
+reading_refused config options io old new reading.OutOfMemory faultless h same = (faultless, inl same.same)
 
 -- no session of that name can be typed at
 pub place_refused : (config : Config) (options : RunOptions) (io : Streams) (old new : Option StoreFiles) (e : RunError) → config_fault config ≡ None → IsPlaceRefusal config options e → LeavesAll io old new
@@ -124,11 +123,11 @@ place_refused config options io old new (refusal.NoSession shown) faultless h sa
 place_refused config options io old new (refusal.NotOpened shown) faultless h same = (faultless, h, same)
 place_refused config options io old new _ faultless h same = absurd h
 
-pub place_stopped : {S : Type 0} → (does : S → StoreAccess → S → Type 0) (config : Config) (options : RunOptions) (io : Streams) (s : S) (e : RunError) → LogLeadsBy does AreNoWrites s s → IsPlaceRefusal config options e
+pub place_stopped : {S : Type 0} → (does : S → StoreAccess → S → Type 0) (config : Config) (options : RunOptions) (io : Streams) (s : S) (e : RunError) → IsPlaceRefusal config options e
     → IsStoppedRun does config options io s s e
-place_stopped does config options io s (refusal.NoSession shown) calls h = calls
-place_stopped does config options io s (refusal.NotOpened shown) calls h = calls
-place_stopped does config options io s _ calls h = absurd h
+place_stopped does config options io s (refusal.NoSession shown) h = refl
+place_stopped does config options io s (refusal.NotOpened shown) h = refl
+place_stopped does config options io s _ h = absurd h
 
 -- settling is refused
 pub settle_refused : (config : Config) (options : RunOptions) (io : Streams) (system : Disk) (inputs : List SessionInput) (old new : Option StoreFiles) (e : RunError) → config_fault config ≡ None
@@ -145,15 +144,26 @@ settle_refused config options io system inputs old new e faultless read same r =
     by_error (refusal.OutputUnwritable reason) r = (after (refusal.OutputUnwritable reason) r, same)
     by_error (refusal.RecordUnwritable reason) r = (after (refusal.RecordUnwritable reason) r, same)
     by_error (refusal.TooManyKeys shown) r = (after (refusal.TooManyKeys shown) r, same)
-    by_error refusal.OutOfMemory r = inl same
+    by_error refusal.OutOfMemory r = (faultless, inl same)
     by_error _ r = absurd r
 
 pub settle_stopped : {S : Type 0} → (does : S → StoreAccess → S → Type 0) (config : Config) (options : RunOptions) (io : Streams) (system : Disk) (inputs : List SessionInput) (old new : S) (e : RunError)
-    → LogLeadsBy does AreNoWrites old new → IsSettleRefusal config options io system inputs e → IsStoppedRun does config options io old new e
-settle_stopped does config options io system inputs old new (refusal.WriteFault name) calls r = absurd r
-settle_stopped does config options io system inputs old new (refusal.FileRefused e) calls r = absurd r
-settle_stopped does config options io system inputs old new refusal.OutOfMemory calls r = inl calls
-settle_stopped does config options io system inputs old new _ calls r = calls
+    → config_fault config ≡ None → LogLeadsBy does AreNoWrites old new → LogLeadsBy does (AreRead config system inputs) old new → IsSettleRefusal config options io system inputs e
+    → IsStoppedRun does config options io old new e
+settle_stopped {S} does config options io system inputs old new e faultless unwritten calls r = by_error e r
+  where
+    after : (e : RunError) → IsSettleRefusal config options io system inputs e → StopsAfterReading does config options io old new e
+    after e r = record { faultless = faultless; system = system; inputs = inputs; calls = calls; refused = r }
+
+    by_error : (e : RunError) → IsSettleRefusal config options io system inputs e → IsStoppedRun does config options io old new e
+    by_error (refusal.SessionRefused name fault) r = after (refusal.SessionRefused name fault) r
+    by_error (refusal.FramesExceeded name quotas frames) r = after (refusal.FramesExceeded name quotas frames) r
+    by_error (refusal.InputUnreadable reason) r = after (refusal.InputUnreadable reason) r
+    by_error (refusal.OutputUnwritable reason) r = after (refusal.OutputUnwritable reason) r
+    by_error (refusal.RecordUnwritable reason) r = after (refusal.RecordUnwritable reason) r
+    by_error (refusal.TooManyKeys shown) r = after (refusal.TooManyKeys shown) r
+    by_error refusal.OutOfMemory r = inl unwritten
+    by_error _ r = absurd r
 
 -- playing is refused: that is the same, since what was accepted isn't refused
 pub play_settled : (config : Config) (options : RunOptions) (io : Streams) (system : Disk) (inputs : List SessionInput) (settled : List SettledSession) (e : RunError)
@@ -162,12 +172,13 @@ play_settled config options io system inputs settled e h r =
     by_error e (subst (λ (bs : List StartInput). IsSessionsRefusal config (new_host system config.frames) bs e)
     (settled_starts system options.stops_idle h.typed config.sessions.items [] inputs settled h.keys) r)
   where
-    untouched : (fault : OpenError) → IsFirstRefused (starts_read inputs) (new_host system config.frames) (starts_read inputs) fault → AreUntouched io
-    untouched fault isn = ⊎_elim (λ was. absurd (never_both (starts_read inputs) (starts_read inputs) (new_host system config.frames) fault (omega arith) was isn)) (λ same. same) h.judged
+    untouched : (fault : OpenError) (shown : List ℕ) → IsNamedRefusal config.sessions.items (new_host system config.frames) (starts_read inputs) fault shown → AreUntouched io
+    untouched fault shown isn =
+        ⊎_elim (λ was. absurd (never_both (starts_read inputs) (starts_read inputs) (new_host system config.frames) 0 fault isn.place (omega arith) was isn.first)) (λ same. same) h.judged
 
     by_error : (e : RunError) → IsSessionsRefusal config (new_host system config.frames) (starts_read inputs) e → IsSettleRefusal config options io system inputs e
-    by_error (refusal.SessionRefused name fault) r = (r.0, r.1, untouched fault r.1)
-    by_error (refusal.FramesExceeded name quotas frames) r = (r.0, r.1, r.2, untouched opening.NoFrames r.2)
+    by_error (refusal.SessionRefused name fault) r = (r.0, r.1, untouched fault name.bytes r.1)
+    by_error (refusal.FramesExceeded name quotas frames) r = (r.0, r.1, r.2, untouched opening.NoFrames name.bytes r.2)
     by_error refusal.OutOfMemory r = tt
     by_error _ r = absurd r
 
@@ -209,14 +220,15 @@ are_parts config options io system inputs settled h accepted = record {
 }
 
 -- where a write is refused
-pub write_refused : (config : Config) (options : RunOptions) (io : Streams) (parts : RunParts) (old new : Option StoreFiles) (ps : List NamedBytes) (place : ℕ) (e : RunError) → AreInputs old config parts.system parts.inputs
-    → AreParts config options io parts → ps ≡ outputs_by options parts → IsWriteRefusal ps place e → WhereTold old new (StopsAt ps place) → IsRunRefusal config options io old new e
-write_refused config options io parts old new ps place e read played are why stopped = by_error e why
+pub write_refused : (config : Config) (options : RunOptions) (io : Streams) (parts : RunParts) (old new : Option StoreFiles) (ps : List NamedBytes) (place : ℕ) (e : RunError) → config_fault config ≡ None
+    → AreInputs old config parts.system parts.inputs → AreParts config options io parts → ps ≡ outputs_by options parts → IsWriteRefusal ps place e → WhereTold old new (StopsAt ps place) → IsRunRefusal config options io old new e
+write_refused config options io parts old new ps place e faultless read played are why stopped = by_error e why
   where
     stops : (e : RunError) → IsWriteRefusal ps place e → StopsWriting config options io old new e
     stops e why = record {
       parts = parts;
       read = read;
+      faultless = faultless;
       played = played;
       place = place;
       stopped = subst (λ (qs : List NamedBytes). WhereTold old new (StopsAt qs place)) are stopped;
@@ -225,17 +237,18 @@ write_refused config options io parts old new ps place e read played are why sto
 
     by_error : (e : RunError) → IsWriteRefusal ps place e → IsRunRefusal config options io old new e
     by_error (refusal.WriteFault name) why = stops (refusal.WriteFault name) why
-    by_error refusal.OutOfMemory why = inr (stops refusal.OutOfMemory why)
+    by_error refusal.OutOfMemory why = (faultless, inr (stops refusal.OutOfMemory why))
     by_error _ why = absurd why
 
 pub write_stopped : {S : Type 0} → (does : S → StoreAccess → S → Type 0) (config : Config) (options : RunOptions) (io : Streams) (parts : RunParts) (start between end : S) (ps : List NamedBytes) (place : ℕ) (e : RunError)
-    → AreParts config options io parts → ps ≡ outputs_by options parts → IsWriteRefusal ps place e → LogLeadsBy does (AreRead config parts.system parts.inputs) start between
+    → config_fault config ≡ None → AreParts config options io parts → ps ≡ outputs_by options parts → IsWriteRefusal ps place e → LogLeadsBy does (AreRead config parts.system parts.inputs) start between
     → LogLeadsBy does (StopsAfter ps place) between end → IsStoppedRun does config options io start end e
-write_stopped {S} does config options io parts start between end ps place e played are why reads writes = by_error e why
+write_stopped {S} does config options io parts start between end ps place e faultless played are why reads writes = by_error e why
   where
     fails : (e : RunError) → IsWriteRefusal ps place e → FailsAtWrite does config options io start end e
     fails e why = record {
       parts = parts;
+      faultless = faultless;
       played = played;
       place = place;
       calls = ran_then does (AreRead config parts.system parts.inputs) (StopsAfter (outputs_by options parts) place) start between end reads

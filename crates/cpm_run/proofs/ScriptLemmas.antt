@@ -1,5 +1,5 @@
 -- What the scripts of sessions say can be pressed.
-use Rattle.std.proofs.Common.{◌≡◌, ◌∙◌, ◌≤◌, ◌+◌, ℕ, zero, suc, Bool, true, false, List, [], ◌∷◌, ◌++◌, Option, Some, None, Ok, length, map, ap, refl, subst, sym, arith, slice_get, if◌then◌else◌}
+use Rattle.std.proofs.Common.{◌≡◌, ◌∙◌, ◌≤◌, ◌+◌, ℕ, zero, suc, Bool, true, false, List, [], ◌∷◌, ◌++◌, Option, Some, None, map, ap, refl, subst, sym, arith, slice_get, if◌then◌else◌}
 use Rattle.std.specs.List.{All}
 use Rattle.std.specs.Prelude.{String, Result, IfOk, option_map, pos, int_le, string_bytes}
 use Rattle.std.specs.declared.alloc.Global.{Global}
@@ -18,8 +18,7 @@ use Rattle.cpm_config.specs.declared.config.SessionConfig.{SessionConfig}
 use Rattle.cpm_config.specs.declared.field.Field.TheVariants as field
 use Rattle.cpm_config.proofs.FaultLemmas.{neither}
 use Rattle.cpm_flags.specs.declared.regs.Cpu.{Cpu}
-use Rattle.cpm_script.specs.Cues.{CueText, cues}
-use Rattle.cpm_script.specs.Fork.{forked_cues}
+use Rattle.cpm_script.specs.Cues.{CueText}
 use Rattle.cpm_script.specs.Laws.{AreInOrder, AreOwn, CountsRise}
 use Rattle.cpm_script.specs.declared.fault.LineFault.{LineFault}
 use Rattle.cpm_script.proofs.CueLaws.{cues-ordered}

@@ -1,5 +1,5 @@
 -- What settling sessions rests on.
-use Rattle.std.proofs.Common.{◌≡◌, ◌∙◌, ◌<◌, ◌≤◌, ◌+◌, ⊎_elim, inl, inr, ℕ, zero, suc, Bool, true, false, ◌&&◌, List, [], ◌∷◌, ◌++◌, length, drop, get_or, map, Option, Some, None, refl, sym, ap, subst, arith, append_assoc, append-nil}
+use Rattle.std.proofs.Common.{◌≡◌, ◌∙◌, ◌<◌, ◌≤◌, ◌^◌, ◌+◌, ⊎_elim, inl, inr, ℕ, zero, suc, Bool, true, false, ◌&&◌, List, [], ◌∷◌, ◌++◌, length, drop, get_or, map, Option, Some, None, refl, sym, ap, subst, arith, append_assoc, append-nil}
 use Rattle.std.specs.Prelude.{Vec, IfSome, IsSome, max, nat_lt, option_map, slice_get}
 use Rattle.std.specs.List.{All}
 use Rattle.std.specs.declared.alloc.Global.{Global}
@@ -28,15 +28,16 @@ use Rattle.cpm_script.specs.declared.script.Key.{Key}
 use Rattle.cpm_script.proofs.CueLemmas.{ascii-append, counted-keys, keys_in-append}
 use Rattle.cpm_script.proofs.ForkLemmas.{length-keys_before}
 use Rattle.cpm_run.specs.Playing.{IsForkPressable, IsPressableBy}
-use Rattle.cpm_run.specs.Run.{starts_read}
+use Rattle.cpm_run.specs.Run.{GivesItsKeysAgain, starts_read}
 use Rattle.cpm_run.specs.Settled.{AreSettled, HasPlayedKeys, IsSettled, SessionPart, SettledSession, TypedSession}
 use Rattle.cpm_run.specs.Settled.{before_in, forked_at, keys_if_settled, opened_by, part_of, said_at, settled_steps, settled_view, starts_of, steps_at}
-use Rattle.cpm_run.specs.Settling.{AreBelow80h, AreFitInputs, AreOpenable, AreReady, AreSound, AreSoundKeys, HasParent, IsFitInput, IsFitPart, IsOpenable}
+use Rattle.cpm_run.specs.Settling.{AreBelow80h, AreCounts, AreFitInputs, AreOpenable, AreReady, AreSound, AreSoundKeys, HasParent, IsFitInput, IsFitPart, IsOpenable}
 use Rattle.cpm_run.specs.Settling.{IsPartReady, IsPartRefusal, IsSettlingRefusal, IsSoundAfter}
 use Rattle.cpm_run.specs.declared.settled.SettledInput.{SettledInput}
 use Rattle.cpm_run.specs.declared.error.RunError.{RunError}
 use Rattle.cpm_run.proofs.OrderLemmas.{own_from}
 use Rattle.cpm_run.proofs.PartLemmas.{joined_said}
+use Rattle.cpm_run.proofs.ReplayLemmas.{counts_typed, gives_again}
 
 -- ---- keys below 80h
 
@@ -141,6 +142,7 @@ came_sound system start p own cues came keys done steps said fit are by given jo
       joined = joined;
       order = subst (λ (ks : List Key). IsInOrder p.at (drop (length p.before) ks)) (sym r.1) r.2;
       ascii = All-drop (λ (k : Key). k.byte < 128) (length p.before) came (below_typed 0 came given.typed);
+      counts = All-drop (λ (k : Key). k.count < 2 ^ 64) (length p.before) came (counts_typed 0 came given.typed);
       few = omega (arith, n, few, most, long, left, all);
       within = late;
     }
@@ -164,8 +166,8 @@ counted_order : (n : ℕ) (keys : List Key) → CountsRise n (map Counted keys) 
 counted_order n [] rise = tt
 counted_order n (k ∷ ks) rise = (rise.0, counted_order k.count ks rise.1)
 
-pub written_sound : (p : SessionPart) (own keys : List Key) → IsFitPart p → timed_keys p.said ≡ Some own → keys ≡ p.before ++ own → AreSoundKeys p keys p.limit
-written_sound p own keys fit timed joined =
+pub written_sound : (p : SessionPart) (own keys : List Key) → IsFitPart p → timed_keys p.said ≡ Some own → keys ≡ p.before ++ own → AreCounts own → AreSoundKeys p keys p.limit
+written_sound p own keys fit timed joined counts =
     let said = timed_said p.said own timed in
     let n = ap cued_key_count said in
     let m = counted-keys own in
@@ -177,17 +179,19 @@ written_sound p own keys fit timed joined =
       joined = joined;
       order = counted_order p.at own (subst (λ (cs : List CueText). CountsRise p.at cs) said fit.counts);
       ascii = below_counted own (subst KeysAreAscii said fit.ascii);
+      counts = counts;
       few = omega (arith, n, m, few, long, all);
       within = fit.within;
     }
 
 pub written_part : (p : SessionPart) (cues now : List Cue) (read : Option (Vec Key Global)) (own : Vec Key Global) (first last keys : List Key) → IsFitPart p → now ≡ cues
     → option_map (λ (v : Vec Key Global). v.items) read ≡ timed_keys (map cue_text now) → read ≡ Some own → first ≡ p.before → last ≡ own.items → keys ≡ first ++ last → p.said ≡ map cue_text cues
-    → AreSoundKeys p keys p.limit
-written_part p cues now read own first last keys fit same timed some before are joined said =
+    → IfSome read (λ (v : Vec Key Global). AreCounts v.items) → AreSoundKeys p keys p.limit
+written_part p cues now read own first last keys fit same timed some before are joined said counts =
     let is : timed_keys p.said ≡ Some own.items =
     ap timed_keys said ∙ ap (λ (cs : List Cue). timed_keys (map cue_text cs)) (sym same) ∙ sym timed ∙ ap (λ (o : Option (Vec Key Global)). option_map (λ (v : Vec Key Global). v.items) o) some in
     written_sound p own.items keys fit is (joined ∙ ap (λ (ks : List Key). ks ++ last) before ∙ ap (λ (ks : List Key). p.before ++ ks) are)
+    (subst (λ (o : Option (Vec Key Global)). IfSome o (λ (v : Vec Key Global). AreCounts v.items)) some counts)
 
 -- ---- a session after those before it
 
@@ -196,7 +200,7 @@ few_pressable ss (Opens cpu quota drives) s h = h.1
 few_pressable ss (Forks parent at) s h = h.few
 
 abbrev pub IsSoundIn : List SettledSession → SettledSession → Type 0
-IsSoundIn ss s = IsPressableBy ss s.start s × AreBelow80h s.keys
+IsSoundIn ss s = IsPressableBy ss s.start s × AreBelow80h s.keys × GivesItsKeysAgain s
 
 few_if : (ss : List SettledSession) (at : ℕ) (o : Option SettledSession) → IfSome o (IsSoundIn ss) → length (keys_before at (keys_if_settled o)) ≤ most_keys
 few_if ss at None h = omega arith
@@ -252,8 +256,8 @@ pressable ss (Forks parent at) s own h joined order few within =
     fork_sound ss parent at h.0 own s (slice_get ss parent) refl (sym (slice_get-map (λ (x : SettledSession). x.start) ss parent) ∙ h.1) h.2 joined order few within
 
 pub session_sound : (typed : Option TypedSession) (sessions : List SessionConfig) (ss : List SettledSession) (i : SessionInput) (p : SessionPart) (s : SettledSession) → p ≡ part_of typed sessions ss i → AreSound ss
-    → HasParent (starts_of ss) i.start → s.start ≡ i.start → AreSoundKeys p s.keys s.steps → IsSoundAfter ss s
-session_sound typed sessions ss i p s is sound parent begins keys =
+    → HasParent (starts_of ss) i.start → s.start ≡ i.start → s.before ≡ length p.before → AreSoundKeys p s.keys s.steps → IsSoundAfter ss s
+session_sound typed sessions ss i p s is sound parent begins first keys =
     let before : p.before ≡ before_in ss i.start = ap (λ (q : SessionPart). q.before) is in
     let at : p.at ≡ forked_at i.start = ap (λ (q : SessionPart). q.at) is in
     let joined : s.keys ≡ before_in ss i.start ++ keys.own = keys.joined ∙ ap (λ (ks : List Key). ks ++ keys.own) before in
@@ -262,6 +266,7 @@ session_sound typed sessions ss i p s is sound parent begins keys =
       pressable = subst (λ (b : StartInput). IsPressableBy ss b s) (sym begins)
           (pressable ss i.start s keys.own parent joined (subst (λ (n : ℕ). IsInOrder n keys.own) at keys.order) keys.few (omega (arith, late, at)));
       ascii = subst AreBelow80h (sym joined) (All-append (λ (k : Key). k.byte < 128) (before_in ss i.start) keys.own (below_before ss i.start sound) keys.ascii);
+      replays = gives_again p s first keys;
     }
 
 -- ---- one after another
@@ -311,11 +316,11 @@ still_pressable ss s (Forks parent at) x h = record {
 
 still_sound : (ss : List SettledSession) (s : SettledSession) (o : Option SettledSession) → IfSome o (IsSoundIn ss) → IfSome o (IsSoundIn (ss ++ s ∷ []))
 still_sound ss s None h = tt
-still_sound ss s (Some x) h = (still_pressable ss s x.start x h.0, h.1)
+still_sound ss s (Some x) h = (still_pressable ss s x.start x h.0, h.1, h.2)
 
 sound_more : (ss : List SettledSession) (s : SettledSession) → AreSound ss → IsSoundAfter ss s → AreSound (ss ++ s ∷ [])
 sound_more ss s all one =
-    sound_there (IsSoundIn (ss ++ s ∷ [])) ss s (λ (place : ℕ). still_sound ss s (slice_get ss place) (all place)) (still_pressable ss s s.start s one.pressable, one.ascii)
+    sound_there (IsSoundIn (ss ++ s ∷ [])) ss s (λ (place : ℕ). still_sound ss s (slice_get ss place) (all place)) (still_pressable ss s s.start s one.pressable, one.ascii, one.replays)
 
 keys_more : (system : Disk) (stops_idle : Bool) (typed : Option TypedSession) (sessions : List SessionConfig) (before : List SettledSession) (is : List SessionInput) (ss : List SettledSession) (i : SessionInput) (s : SettledSession)
     → AreSettled system stops_idle typed sessions before is ss → IsSettled system stops_idle (part_of typed sessions (before ++ ss) i) i s

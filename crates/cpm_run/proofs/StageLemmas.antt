@@ -1,11 +1,10 @@
 -- From what was read of a run to what its sessions are played by.
-use Rattle.std.proofs.Common.{◌≡◌, ◌∙◌, ◌<◌, ◌≤◌, ◌+◌, ◌⊎◌, inl, inr, ℕ, zero, suc, Bool, true, false, List, [], ◌∷◌, ◌++◌, Option, Some, None, length, map, refl, sym, subst, ap, arith, slice_get, get_or, take, drop, if◌then◌else◌, ◌==◌, ◌||◌}
-use Rattle.std.specs.Prelude.{IsSome, is_some, not, nat_lt, option_map, string_bytes}
+use Rattle.std.proofs.Common.{◌≡◌, ◌∙◌, ◌<◌, ◌≤◌, ◌+◌, ◌⊎◌, ℕ, suc, Bool, true, false, List, [], ◌∷◌, ◌++◌, Option, Some, None, length, map, refl, sym, subst, ap, arith, slice_get, get_or, take, drop, if◌then◌else◌, ◌==◌, ◌||◌}
+use Rattle.std.specs.Prelude.{IsSome, is_some, not, nat_lt, option_map}
 use Rattle.std.specs.List.{All}
 use Rattle.std.proofs.lemmas.Bool.Decides.{nat_tests}
 use Rattle.std.proofs.lemmas.List.{at_drop_all, drop_more, length-append, map_more}
-use Rattle.std.proofs.lemmas.List.Elements.{All-cons, All-get_or, All-nil, All-push, All-same}
-use Rattle.std.proofs.lemmas.Option.{get_or_from_slice_get, slice_get-get_or, slice_get-map, slice_get_within}
+use Rattle.std.proofs.lemmas.List.Elements.{All-cons, All-nil, All-push, All-same}
 use Rattle.cpm_batch.specs.Inputs.{Forks, IsOpened, Opens, SessionInput, StartInput, given, timed_keys}
 use Rattle.cpm_batch.specs.declared.input.Input.{Input}
 use Rattle.cpm_config.specs.declared.config.Config.{Config}
@@ -16,7 +15,7 @@ use Rattle.cpm_machine.specs.Opening.{drives_fault, fault_else, opening_fault}
 use Rattle.cpm_machine.specs.declared.opening.OpenError.{OpenError}
 use Rattle.cpm_machine.specs.declared.opening.OpenError.TheVariants.{BadQuota}
 use Rattle.cpm_machine.specs.declared.opening.Opening.{Opening}
-use Rattle.cpm_script.specs.Cues.{Counted, CueText, cue_text, cued_key_count}
+use Rattle.cpm_script.specs.Cues.{Counted, cue_text, cued_key_count}
 use Rattle.cpm_script.specs.Laws.{AreInOrder, CountsRise, KeysAreAscii, PressesFollow}
 use Rattle.cpm_script.specs.Recording.{AreTyped}
 use Rattle.cpm_script.specs.declared.cue.Cue.{Cue}

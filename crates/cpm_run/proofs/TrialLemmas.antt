@@ -1,5 +1,5 @@
 -- Sessions that are tried are accepted and refused as those that are played.
-use Rattle.std.proofs.Common.{false, append_assoc, ◌≡◌, ◌∙◌, ◌<◌, ◌≤◌, ◌+◌, ◌⊎◌, ⊎_elim, inl, inr, ℕ, zero, suc, get_or, take, List, [], ◌∷◌, ◌++◌, Option, Some, None, length, map, refl, sym, subst, ap, arith, sum_by, slice_get, IfSome}
+use Rattle.std.proofs.Common.{false, append_assoc, ◌≡◌, ◌∙◌, ◌<◌, ◌+◌, ⊎_elim, inl, inr, ℕ, zero, suc, get_or, take, List, [], ◌∷◌, ◌++◌, Option, Some, None, length, map, refl, sym, subst, ap, arith, sum_by, slice_get, IfSome}
 use Rattle.std.specs.Prelude.{Vec, option_map}
 use Rattle.std.specs.declared.alloc.Global.{Global}
 use Rattle.std.proofs.lemmas.List.{map-append, map_more}
@@ -17,7 +17,7 @@ use Rattle.cpm_play.specs.Players.{HasRoomForForks}
 use Rattle.cpm_script.specs.declared.script.Key.{Key}
 use Rattle.cpm_slots.specs.Host.{Host}
 use Rattle.cpm_run.specs.Playing.{ArePressable, IsForkPressable, IsPressableBy, IsSessionsRefusal}
-use Rattle.cpm_run.specs.Run.{AllAccepted, HasForkRoom, IsFirstRefused, IsRefusedOr, IsShortFor, fork_of, fork_pages_in, forks_in, pages_by, starts_read}
+use Rattle.cpm_run.specs.Run.{AllAccepted, IsFirstRefused, IsForkAt, IsNamedRefusal, IsShortFor, fork_of, fork_pages_in, forks_in, pages_by, starts_read}
 use Rattle.cpm_run.specs.Settled.{SettledSession, opening_at, opening_of, settled_view, starts_of}
 use Rattle.cpm_run.specs.Settling.{AreFitStarts, HasParent, trial_of, trial_start}
 use Rattle.cpm_run.specs.declared.settled.SettledInput.{SettledInput}
@@ -76,10 +76,21 @@ short_as : (all : List StartInput) (h : Host) (fault : OpenError) → IsShortFor
 short_as all h fault short =
     subst (λ (n : ℕ). IsShortFor h (forks_in all) n fault) (pages_tried all) (subst (λ (n : ℕ). IsShortFor h n (fork_pages_in (map trial_start all)) fault) (forks_tried all) short)
 
-refused_from : (all starts : List StartInput) (h : Host) (fault : OpenError) → IsFirstRefused (map trial_start all) h (map trial_start starts) fault → IsFirstRefused all h starts fault
-refused_from all [] h fault short = short_as all h fault short
-refused_from all (Opens cpu quota drives ∷ starts) h fault r = (r.0, r.1, ⊎_elim (λ this. inl this) (λ later. inr (later.0, refused_from all starts _ fault later.1)) r.2)
-refused_from all (Forks parent at ∷ starts) h fault r = refused_from all starts h fault r
+tried_fork : (all : List StartInput) (place parent at : ℕ) → slice_get (map trial_start all) place ≡ Some (Forks parent at) → IsForkAt all place
+tried_fork [] place parent at there = absurd (cc)
+tried_fork (Opens cpu quota drives ∷ all) zero parent at there = absurd (cc)
+tried_fork (Forks p n ∷ all) zero parent at there = record { parent = p; at = n; there = refl }
+tried_fork (b ∷ all) (suc place) parent at there = let more = tried_fork all place parent at there in record { parent = more.parent; at = more.at; there = more.there }
+
+refused_from : (all starts : List StartInput) (h : Host) (from : ℕ) (fault : OpenError) (place : ℕ) → IsFirstRefused (map trial_start all) h from (map trial_start starts) fault place
+    → IsFirstRefused all h from starts fault place
+refused_from all [] h from fault place r = (tried_fork all place r.0.parent r.0.at r.0.there, short_as all h fault r.1)
+refused_from all (Opens cpu quota drives ∷ starts) h from fault place r =
+    (r.0, r.1, ⊎_elim (λ this. inl this) (λ later. inr (later.0, refused_from all starts _ (from + 1) fault place later.1)) r.2)
+refused_from all (Forks parent at ∷ starts) h from fault place r = refused_from all starts h (from + 1) fault place r
+
+named_tried : (sessions : List SessionConfig) (all : List StartInput) (h : Host) (fault : OpenError) (shown : List ℕ) → IsNamedRefusal sessions h (map trial_start all) fault shown → IsNamedRefusal sessions h all fault shown
+named_tried sessions all h fault shown r = record { place = r.place; first = refused_from all all h 0 fault r.place r.first; told = r.told }
 
 starts_tried : (is : List SessionInput) → starts_of (map trial_of is) ≡ map trial_start (starts_read is)
 starts_tried [] = refl
@@ -94,8 +105,8 @@ pub tried_refused : (config : Config) (is : List SessionInput) (trial : List Set
 tried_refused config is trial h e same r = by_error e (subst (λ (bs : List StartInput). IsSessionsRefusal config h bs e) (ap starts_of same ∙ starts_tried is) r)
   where
     by_error : (e : RunError) → IsSessionsRefusal config h (map trial_start (starts_read is)) e → IsSessionsRefusal config h (starts_read is) e
-    by_error (refusal.SessionRefused name fault) r = (r.0, refused_from (starts_read is) (starts_read is) h fault r.1)
-    by_error (refusal.FramesExceeded name quotas frames) r = (r.0, r.1, refused_from (starts_read is) (starts_read is) h NoFrames r.2)
+    by_error (refusal.SessionRefused name fault) r = (r.0, named_tried config.sessions.items (starts_read is) h fault name.bytes r.1)
+    by_error (refusal.FramesExceeded name quotas frames) r = (r.0, r.1, named_tried config.sessions.items (starts_read is) h NoFrames name.bytes r.2)
     by_error refusal.OutOfMemory r = tt
     by_error _ r = absurd r
 

@@ -13,15 +13,19 @@ use Rattle.cpm_slots.specs.Host.{Host, SlotState, refusal_of, slot_at, with_open
 use Rattle.cpm_machine.specs.MachineState.{MachineState, opened_machine}
 use Rattle.cpm_machine.specs.Serve.{look_of}
 use Rattle.cpm_machine.specs.declared.opening.Opening.{Opening}
+use Rattle.cpm_machine.specs.declared.opening.OpenError.{OpenError}
 use Rattle.cpm_machine.specs.declared.opening.OpenError.TheVariants.{NoFrames}
 use Rattle.cpm_machine.specs.declared.reply.Closed.{Closed}
+use Rattle.cpm_play.specs.Players.{fork_pages, forks_of}
 use Rattle.cpm_play.specs.Playing.{IsInOrder, IsPlayed}
 use Rattle.cpm_play.specs.ScriptedSlots.{IsNew, script_keys, steps_of}
 use Rattle.cpm_play.specs.declared.player.Fork.{Fork}
 use Rattle.cpm_play.specs.declared.player.Player.{Player}
 use Rattle.cpm_play.specs.declared.player.Player.TheVariants.{Playing, Waiting}
 use Rattle.cpm_play.specs.declared.scripted_slot.ScriptedSlot.{ScriptedSlot}
-use Rattle.cpm_run.specs.Run.{IsFirstRefused, IsOpening, IsShortFor, ReportEntry, files_left, pages_of_config, report_view, reports_of, start_of}
+use Rattle.cpm_run.specs.Run.{IsNamedRefusal, IsOpening, IsShortFor, IsShownAs, ReportEntry, files_left, name_at, pages_of_config, report_view}
+use Rattle.cpm_run.specs.Run.{reports_of, start_of}
+use Rattle.cpm_store.specs.Files.{StoreName}
 use Rattle.cpm_run.specs.Illegal.{bytes_at_pc}
 use Rattle.cpm_run.specs.declared.report.SessionReport.{SessionReport}
 use Rattle.cpm_run.specs.declared.error.RunError.{RunError}
@@ -102,36 +106,46 @@ ArePressable inputs = (place : ℕ) → IfSome (slice_get inputs place) (λ i. I
 
 -- ---- refusals
 
--- how an opening is refused
-abbrev pub IsOpeningRefusal : Host → Opening → RunError → Type 0
-IsOpeningRefusal h o (refusal.SessionRefused name fault) = refusal_of h o ≡ Some fault
-IsOpeningRefusal h o refusal.OutOfMemory = ⊤
-IsOpeningRefusal h o _ = ⊥
+-- how an opening of the session of this name is refused
+abbrev pub IsOpeningRefusal : Host → Opening → StoreName → RunError → Type 0
+IsOpeningRefusal h o name (refusal.SessionRefused shown fault) = (refusal_of h o ≡ Some fault) × IsShownAs name shown.bytes
+IsOpeningRefusal h o name refusal.OutOfMemory = ⊤
+IsOpeningRefusal h o name _ = ⊥
 
--- how a session that begins so is refused
-abbrev pub IsStartRefusal : Host → StartInput → RunError → Type 0
-IsStartRefusal h (Opens cpu quota drives) e = (o : Opening) × IsOpening cpu quota drives o × IsOpeningRefusal h o e
-IsStartRefusal h (Forks parent at) e = ⊥
+-- how a session of this name that begins so is refused
+abbrev pub IsStartRefusal : Host → StartInput → StoreName → RunError → Type 0
+IsStartRefusal h (Opens cpu quota drives) name e = (o : Opening) × IsOpening cpu quota drives o × IsOpeningRefusal h o name e
+IsStartRefusal h (Forks parent at) name e = ⊥
 
 -- how opening sessions one after another is refused
-abbrev pub IsSlotRefusal : (all : List StartInput) → Host → List StartInput → RunError → Type 0
-IsSlotRefusal all h starts (refusal.SessionRefused name fault) = IsFirstRefused all h starts fault
-IsSlotRefusal all h starts refusal.OutOfMemory = ⊤
-IsSlotRefusal all h starts _ = ⊥
+abbrev pub IsSlotRefusal : List SessionConfig → Host → List StartInput → RunError → Type 0
+IsSlotRefusal sessions h starts (refusal.SessionRefused name fault) = IsNamedRefusal sessions h starts fault name.bytes
+IsSlotRefusal sessions h starts refusal.OutOfMemory = ⊤
+IsSlotRefusal sessions h starts _ = ⊥
 
--- how so many forks, which may write so many pages, are refused in a host
-abbrev pub IsForksRefusal : Config → Host → (forks pages : ℕ) → RunError → Type 0
-IsForksRefusal config h forks pages (refusal.SessionRefused name fault) = (fault ≢ NoFrames) × IsShortFor h forks pages fault
-IsForksRefusal config h forks pages (refusal.FramesExceeded name quotas frames) =
-    (quotas ≡ pages_of_config config) × (frames ≡ config.frames) × IsShortFor h forks pages NoFrames
-IsForksRefusal config h forks pages refusal.OutOfMemory = ⊤
-IsForksRefusal config h forks pages _ = ⊥
+-- players of these sessions are to be forked for which a host lacks room, and the name of one of them is shown
+pub record IsForkRefused (sessions : List SessionConfig) (h : Host) (players : List Player) (fault : OpenError) (shown : List ℕ) : Type 0 where
+  pub place : ℕ
+  pub fork : Fork
+  pub there : slice_get players place ≡ Some (Waiting fork)
+  pub short : IsShortFor h (forks_of players) (fork_pages h.slots players) fault
+  pub told : IsShownAs (name_at sessions place) shown
+
+-- how forks are refused in a host
+abbrev pub IsForksRefusal : Config → Host → List Player → RunError → Type 0
+IsForksRefusal config h players (refusal.SessionRefused name fault) =
+    (fault ≢ NoFrames) × IsForkRefused config.sessions.items h players fault name.bytes
+IsForksRefusal config h players (refusal.FramesExceeded name quotas frames) =
+    (quotas ≡ pages_of_config config) × (frames ≡ config.frames) × IsForkRefused config.sessions.items h players NoFrames name.bytes
+IsForksRefusal config h players refusal.OutOfMemory = ⊤
+IsForksRefusal config h players _ = ⊥
 
 -- how playing all sessions of a configuration is refused
 abbrev pub IsSessionsRefusal : Config → Host → List StartInput → RunError → Type 0
-IsSessionsRefusal config h starts (refusal.SessionRefused name fault) = (fault ≢ NoFrames) × IsFirstRefused starts h starts fault
+IsSessionsRefusal config h starts (refusal.SessionRefused name fault) =
+    (fault ≢ NoFrames) × IsNamedRefusal config.sessions.items h starts fault name.bytes
 IsSessionsRefusal config h starts (refusal.FramesExceeded name quotas frames) =
-    (quotas ≡ pages_of_config config) × (frames ≡ config.frames) × IsFirstRefused starts h starts NoFrames
+    (quotas ≡ pages_of_config config) × (frames ≡ config.frames) × IsNamedRefusal config.sessions.items h starts NoFrames name.bytes
 IsSessionsRefusal config h starts refusal.OutOfMemory = ⊤
 IsSessionsRefusal config h starts _ = ⊥
 

@@ -1,28 +1,29 @@
--- The exit statuses of a run that is refused, and what refused files and configurations become. All of it is own.
-use Rattle.std.specs.Prelude.{ℕ}
-use Rattle.cpm_batch.specs.Inputs.{status_of_reading}
+-- The codes of a run that is refused, and what refused files and configurations become. All of it is own.
+use Rattle.cpm_batch.specs.Inputs.{code_of_reading}
 use Rattle.cpm_batch.specs.declared.error.ReadError.{ReadError}
 use Rattle.cpm_batch.specs.declared.error.ReadError.TheVariants as read
+use Rattle.cpm_refusals.specs.declared.code.RefusalCode.{RefusalCode}
+use Rattle.cpm_refusals.specs.declared.code.RefusalCode.TheVariants as code
 use Rattle.cpm_run.specs.declared.error.RunError.{RunError}
 use Rattle.cpm_run.specs.declared.error.RunError.TheVariants.{ConfigRefused, FileRefused, FramesExceeded, InputUnreadable, NoSession, NotOpened, OutOfMemory}
 use Rattle.cpm_run.specs.declared.error.RunError.TheVariants.{OutputUnwritable, RecordUnwritable, SessionRefused, TooManyKeys, WriteFault}
 use Rattle.cpm_play.specs.declared.live.LiveError.{LiveError}
 use Rattle.cpm_play.specs.declared.live.LiveError.TheVariants as live
 
--- the number of the code that the text begins with
-abbrev pub run_status_of : RunError → ℕ
-run_status_of (NoSession name) = 1
-run_status_of (NotOpened name) = 1
-run_status_of (ConfigRefused fault) = 2
-run_status_of (TooManyKeys name) = 3
-run_status_of (FileRefused e) = status_of_reading e
-run_status_of (InputUnreadable reason) = 4
-run_status_of (OutputUnwritable reason) = 5
-run_status_of (RecordUnwritable reason) = 5
-run_status_of (WriteFault name) = 5
-run_status_of OutOfMemory = 8
-run_status_of (SessionRefused name fault) = 9
-run_status_of (FramesExceeded name quotas frames) = 9
+-- the code of each
+abbrev pub code_of_run : RunError → RefusalCode
+code_of_run (NoSession name) = code.Usage
+code_of_run (NotOpened name) = code.Usage
+code_of_run (ConfigRefused fault) = code.Configuration
+code_of_run (TooManyKeys name) = code.Script
+code_of_run (FileRefused e) = code_of_reading e
+code_of_run (InputUnreadable reason) = code.Unreadable
+code_of_run (OutputUnwritable reason) = code.Unwritable
+code_of_run (RecordUnwritable reason) = code.Unwritable
+code_of_run (WriteFault name) = code.Unwritable
+code_of_run OutOfMemory = code.OutOfMemory
+code_of_run (SessionRefused name fault) = code.Machine
+code_of_run (FramesExceeded name quotas frames) = code.Machine
 
 -- what a refused file of a run comes to
 abbrev pub run_error_of_reading : ReadError → RunError

@@ -1,10 +1,9 @@
 -- When a run is refused, and what it leaves then. All of it is own.
-use Rattle.std.specs.Prelude.{⊤, Bool, ◌≡◌, ◌≢◌, ◌⊎◌, ◌<◌, ◌+◌, ℕ, List, [], ◌∷◌, ◌++◌, length, map, chars, slice_get}
+use Rattle.std.specs.Prelude.{⊤, Bool, ◌≡◌, ◌≢◌, ◌⊎◌, ◌<◌, ◌+◌, ℕ, List, [], ◌∷◌, ◌++◌, length, map, slice_get}
 use Rattle.std.specs.Prelude.{Option, Some, None, option_map, string_bytes}
 use Rattle.cpm_batch.specs.Inputs.{AreInputs, IsInputFault, IsOpened, SessionInput, StartInput}
 use Rattle.cpm_batch.specs.Reads.{AreRead, StopsAtInput}
 use Rattle.cpm_batch.specs.declared.error.ReadError.TheVariants as reading
-use Rattle.cpm_command_line.specs.Shown.{shown_of}
 use Rattle.cpm_config.specs.Rules.{place_of, session_view}
 use Rattle.cpm_config.specs.declared.config.Config.{Config}
 use Rattle.cpm_config.specs.declared.config.Origin.{Origin}
@@ -13,7 +12,6 @@ use Rattle.cpm_config.specs.declared.config.SessionConfig.{SessionConfig}
 use Rattle.cpm_config.specs.declared.fault.ConfigError.TheVariants.{Range}
 use Rattle.cpm_geom.specs.Disk.{Disk}
 use Rattle.cpm_machine.specs.MachineState.{MachineState}
-use Rattle.cpm_machine.specs.declared.opening.OpenError.{OpenError}
 use Rattle.cpm_machine.specs.declared.opening.OpenError.TheVariants.{NoFrames}
 use Rattle.cpm_play.specs.Live.{IsCutShort}
 use Rattle.cpm_play.specs.declared.live.LiveError.{LiveError}
@@ -24,15 +22,11 @@ use Rattle.cpm_slots.specs.Host.{new_host}
 use Rattle.cpm_store.specs.Files.{StoreFiles, StoreName, WhereTold}
 use Rattle.cpm_store.specs.Log.{StoreAccess, AreNoWrites, LogLeadsBy, StopsAfter, Then}
 use Rattle.cpm_store.specs.Writes.{NamedBytes, StopsAt}
-use Rattle.cpm_run.specs.Run.{AllAccepted, AreParts, IsFirstRefused, RunParts, config_fault, outputs_by, pages_of_config, starts_read}
+use Rattle.cpm_run.specs.Run.{AllAccepted, AreParts, IsNamedRefusal, IsShownAs, RunParts, config_fault, outputs_by, pages_of_config, starts_read}
 use Rattle.cpm_run.specs.Settled.{AreSettled, AreUntouched, IsTypedIfAny, SessionPart, SettledSession, Streams, TypedSession, most_steps, opening_of, part_of}
 use Rattle.cpm_run.specs.declared.error.RunError.{RunError}
 use Rattle.cpm_run.specs.declared.error.RunError.TheVariants as refusal
 use Rattle.cpm_run.specs.declared.options.RunOptions.{RunOptions}
-
--- a name stands so in a refusal
-abbrev pub IsShownAs : StoreName → List ℕ → Type 0
-IsShownAs name shown = shown ≡ shown_of (chars name)
 
 -- ---- before sessions are played
 
@@ -118,10 +112,10 @@ pub record HasTooManyKeys (config : Config) (options : RunOptions) (io : Streams
 -- then while one types, or for a session with too many keys; or if out of memory.
 abbrev pub IsSettleRefusal : Config → RunOptions → Streams → Disk → List SessionInput → RunError → Type 0
 IsSettleRefusal config options io system inputs (refusal.SessionRefused name fault) =
-    (fault ≢ NoFrames) × IsFirstRefused (starts_read inputs) (new_host system config.frames) (starts_read inputs) fault × AreUntouched io
+    (fault ≢ NoFrames) × IsNamedRefusal config.sessions.items (new_host system config.frames) (starts_read inputs) fault name.bytes × AreUntouched io
 IsSettleRefusal config options io system inputs (refusal.FramesExceeded name quotas frames) =
     (quotas ≡ pages_of_config config) × (frames ≡ config.frames)
-    × IsFirstRefused (starts_read inputs) (new_host system config.frames) (starts_read inputs) NoFrames × AreUntouched io
+    × IsNamedRefusal config.sessions.items (new_host system config.frames) (starts_read inputs) NoFrames name.bytes × AreUntouched io
 IsSettleRefusal config options io system inputs (refusal.InputUnreadable reason) =
     IsTypingCut config options io system inputs (refusal.InputUnreadable reason)
 IsSettleRefusal config options io system inputs (refusal.OutputUnwritable reason) =
@@ -158,6 +152,7 @@ IsWriteRefusal outputs place _ = ⊥
 pub record StopsWriting (config : Config) (options : RunOptions) (io : Streams) (old new : Option StoreFiles) (e : RunError) : Type 0 where
   pub parts : RunParts
   pub read : AreInputs old config parts.system parts.inputs
+  pub faultless : config_fault config ≡ None
   pub played : AreParts config options io parts
   pub place : ℕ
   pub stopped : WhereTold old new (StopsAt (outputs_by options parts) place)
@@ -181,26 +176,40 @@ IsRunRefusal config options io old new (refusal.NotOpened name) =
     (config_fault config ≡ None) × IsForkedSession config options name.bytes × LeavesAll io old new
 IsRunRefusal config options io old new (refusal.FileRefused e) = (config_fault config ≡ None) × IsInputFault old config e × LeavesAll io old new
 IsRunRefusal config options io old new (refusal.WriteFault name) = StopsWriting config options io old new (refusal.WriteFault name)
-IsRunRefusal config options io old new refusal.OutOfMemory = (new ≡ old) ⊎ StopsWriting config options io old new refusal.OutOfMemory
+IsRunRefusal config options io old new refusal.OutOfMemory =
+    (config_fault config ≡ None) × ((new ≡ old) ⊎ StopsWriting config options io old new refusal.OutOfMemory)
 IsRunRefusal config options io old new e = IsRefusedAfterReading config options io old e × (new ≡ old)
 
 -- Over any store: what is needed was read, then those before one of the files were written, writing that one failed, and no other call was made.
 pub record FailsAtWrite {S : Type 0} (does : S → StoreAccess → S → Type 0) (config : Config) (options : RunOptions) (io : Streams) (old new : S)
     (e : RunError) : Type 0 where
   pub parts : RunParts
+  pub faultless : config_fault config ≡ None
   pub played : AreParts config options io parts
   pub place : ℕ
   pub calls : LogLeadsBy does (Then (AreRead config parts.system parts.inputs) (StopsAfter (outputs_by options parts) place)) old new
   pub why : IsWriteRefusal (outputs_by options parts) place e
 
--- what calls a run that is refused has made of any store: where it was not at its writes, none that writes;
--- and where a file is refused, the reads up to it and no others
+-- Over any store: what is needed was read, no other call was made, and by what was read the run is refused so.
+pub record StopsAfterReading {S : Type 0} (does : S → StoreAccess → S → Type 0) (config : Config) (options : RunOptions) (io : Streams) (old new : S)
+    (e : RunError) : Type 0 where
+  pub faultless : config_fault config ≡ None
+  pub system : Disk
+  pub inputs : List SessionInput
+  pub calls : LogLeadsBy does (AreRead config system inputs) old new
+  pub refused : IsSettleRefusal config options io system inputs e
+
+-- What calls a run that is refused has made of any store: none, where the configuration is refused or no session can be typed at; the reads up to the file
+-- that is refused; all reads and the writes up to the one that failed; and else all reads. Where memory was refused before the writes, none that writes.
 abbrev pub IsStoppedRun : {S : Type 0} → (S → StoreAccess → S → Type 0) → Config → RunOptions → Streams → S → S → RunError → Type 0
+IsStoppedRun {S} does config options io old new (refusal.ConfigRefused e) = new ≡ old
+IsStoppedRun {S} does config options io old new (refusal.NoSession name) = new ≡ old
+IsStoppedRun {S} does config options io old new (refusal.NotOpened name) = new ≡ old
 IsStoppedRun {S} does config options io old new (refusal.FileRefused e) = LogLeadsBy does (StopsAtInput config e) old new
 IsStoppedRun {S} does config options io old new (refusal.WriteFault name) = FailsAtWrite does config options io old new (refusal.WriteFault name)
 IsStoppedRun {S} does config options io old new refusal.OutOfMemory =
     LogLeadsBy does AreNoWrites old new ⊎ FailsAtWrite does config options io old new refusal.OutOfMemory
-IsStoppedRun {S} does config options io old new _ = LogLeadsBy does AreNoWrites old new
+IsStoppedRun {S} does config options io old new e = StopsAfterReading does config options io old new e
 
 -- a device failed
 abbrev pub IsDeviceFault : RunError → Type 0

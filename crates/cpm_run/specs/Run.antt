@@ -1,9 +1,11 @@
 -- What running the sessions of a configuration writes and reports, and when it is refused. All of it is own.
-use Rattle.std.specs.Prelude.{⊤, ◌≡◌, ◌⊎◌, ℕ, sum_by, ◌==◌, ◌&&◌, not, nat_le, List, [], ◌∷◌, ◌++◌, length, drop}
-use Rattle.std.specs.Prelude.{map, slice_get, Option, Some, None, option_and_then, option_map, string_bytes, if◌then◌else◌}
+use Rattle.std.specs.Prelude.{◌≡◌, ◌⊎◌, ◌+◌, ℕ, sum_by, ◌==◌, ◌&&◌, not, nat_le, List, [], ◌∷◌, ◌++◌, length, drop}
+use Rattle.std.specs.Prelude.{map, slice_get, Option, Some, None, option_and_then, option_map, string_bytes, chars, Ok, if◌then◌else◌}
+use Rattle.std.specs.List.{All}
 use Rattle.cpm_batch.specs.Inputs.{AreInputs, Forks, Opens, SessionInput, StartInput}
 use Rattle.cpm_batch.specs.Outputs.{SessionOutput, files_of_all}
 use Rattle.cpm_batch.specs.Reads.{AreRead}
+use Rattle.cpm_command_line.specs.Shown.{shown_of}
 use Rattle.cpm_config.specs.Rules.{config_view, fault_or, forks_fault, place_of, session_view}
 use Rattle.cpm_config.specs.declared.config.Config.{Config}
 use Rattle.cpm_config.specs.declared.config.Origin.{Origin}
@@ -35,6 +37,7 @@ use Rattle.cpm_run.specs.declared.options.RunOptions.{RunOptions}
 use Rattle.cpm_run.specs.declared.report.Report.{Report}
 use Rattle.cpm_run.specs.declared.report.SessionReport.{SessionReport}
 use Rattle.cpm_script.specs.Recording.{recorded}
+use Rattle.cpm_script.specs.Script.{script}
 use Rattle.cpm_script.specs.declared.script.Key.{Key}
 use Rattle.cpm_run.specs.Settled.{AreSettled, IsTypedIfAny, SettledSession, Streams, TypedSession, opening_at, start_by, starts_of}
 
@@ -89,14 +92,23 @@ reports_of system inputs = map (λ i. reported_of i.session (run_of system input
 abbrev pub files_left : Disk → List SettledSession → List SessionOutput
 files_left system inputs = map (λ i. session_output i.session (run_of system inputs i)) inputs
 
+-- a session's own keys: those that come after the keys that the session that it is forked from had before
+abbrev pub own_keys : SettledSession → List Key
+own_keys s = drop s.before s.keys
+
+-- their lines are a script with just these keys
+abbrev pub GivesItsKeysAgain : SettledSession → Type 0
+GivesItsKeysAgain s = script (recorded (own_keys s)) ≡ Ok (own_keys s)
+
 -- the lines of a session's own keys, where a file is named for them, unless that wants a key and there is none
 abbrev pub record_of : RecordFile → (own : List Key) → List NamedBytes
 record_of r own = if r.needs_key && (length own == 0) then [] else (r.name.now, recorded own) ∷ []
 
+-- one record for each session, in their order. Sessions beyond the records have none, and records beyond the sessions are not written
 abbrev pub record_outputs : List RecordFile → List SettledSession → List NamedBytes
 record_outputs [] ss = []
 record_outputs (r ∷ rs) [] = []
-record_outputs (r ∷ rs) (s ∷ ss) = record_of r (drop s.before s.keys) ++ record_outputs rs ss
+record_outputs (r ∷ rs) (s ∷ ss) = record_of r (own_keys s) ++ record_outputs rs ss
 
 -- all that is written, in order: what the sessions leave, and then the records of their keys
 abbrev pub outputs_of : Disk → List RecordFile → List SettledSession → List NamedBytes
@@ -185,6 +197,8 @@ pub record HasRun (config : Config) (options : RunOptions) (report : Report) (io
   -- no refusal is due: the numbers at the top are in range, and each fork stands
   pub faultless : config_fault config ≡ None
   pub played : AreParts config options io parts
+  -- the record of each session is a script of its own keys
+  pub replays : All GivesItsKeysAgain parts.settled
   pub written : WhereTold old new (WritesAll (outputs_by options parts))
   pub reported : AreReportedOf parts.system parts.settled report
 
@@ -193,7 +207,9 @@ pub record HasRun (config : Config) (options : RunOptions) (report : Report) (io
 pub record HasAccessed {S : Type 0} (does : S → StoreAccess → S → Type 0) (config : Config) (options : RunOptions) (report : Report)
     (io : Streams) (old new : S) : Type 0 where
   pub parts : RunParts
+  pub faultless : config_fault config ≡ None
   pub played : AreParts config options io parts
+  pub replays : All GivesItsKeysAgain parts.settled
   pub calls : LogLeadsBy does (Then (AreRead config parts.system parts.inputs) (AreWrites (outputs_by options parts))) old new
   pub reported : AreReportedOf parts.system parts.settled report
 
@@ -205,16 +221,41 @@ IsShortFor h forks pages NoSlot = IsLackFor h forks pages fork.NoSlot
 IsShortFor h forks pages NoFrames = IsLackFor h forks pages fork.NoFrames
 IsShortFor h forks pages _ = ⊥
 
--- a session that begins so is refused for this reason, or it is not and what follows holds of the host with it
-abbrev pub IsRefusedOr : Host → StartInput → OpenError → (Host → Type 0) → Type 0
-IsRefusedOr h (Opens cpu quota drives) fault next =
-    (o : Opening) × IsOpening cpu quota drives o × ((refusal_of h o ≡ Some fault) ⊎ ((refusal_of h o ≡ None) × next (with_opened h o)))
-IsRefusedOr h (Forks parent at) fault next = next h
+-- a session that begins so is refused for this reason, and `here` holds; or it is not, and what follows holds of the host with it
+abbrev pub IsRefusedOr : Host → StartInput → OpenError → (here : Type 0) → (Host → Type 0) → Type 0
+IsRefusedOr h (Opens cpu quota drives) fault here next =
+    (o : Opening) × IsOpening cpu quota drives o × (((refusal_of h o ≡ Some fault) × here) ⊎ ((refusal_of h o ≡ None) × next (with_opened h o)))
+IsRefusedOr h (Forks parent at) fault here next = next h
 
--- of those that are opened one after another the first whose opening is refused is refused for this reason; or all are accepted, and the forks lack it
-abbrev pub IsFirstRefused : (all : List StartInput) → Host → List StartInput → OpenError → Type 0
-IsFirstRefused all h [] fault = IsShortFor h (forks_in all) (fork_pages_in all) fault
-IsFirstRefused all h (b ∷ bs) fault = IsRefusedOr h b fault (λ next. IsFirstRefused all next bs fault)
+-- the one at this place is forked
+pub record IsForkAt (starts : List StartInput) (place : ℕ) : Type 0 where
+  pub parent : ℕ
+  pub at : ℕ
+  pub there : slice_get starts place ≡ Some (Forks parent at)
+
+-- Of those that are opened one after another, the first of which stands at `from`, the first whose opening is refused is refused for this reason, and it
+-- stands at the place. Or all are accepted, the forks lack it, and one of those that are forked stands there.
+abbrev pub IsFirstRefused : (all : List StartInput) → Host → (from : ℕ) → List StartInput → OpenError → (place : ℕ) → Type 0
+IsFirstRefused all h from [] fault place = IsForkAt all place × IsShortFor h (forks_in all) (fork_pages_in all) fault
+IsFirstRefused all h from (b ∷ bs) fault place = IsRefusedOr h b fault (place ≡ from) (λ next. IsFirstRefused all next (from + 1) bs fault place)
+
+-- a name stands so in a refusal
+abbrev pub IsShownAs : StoreName → List ℕ → Type 0
+IsShownAs name shown = shown ≡ shown_of (chars name)
+
+-- the name of the session at a place; where none is, no byte
+abbrev pub name_if_any : Option SessionConfig → StoreName
+name_if_any None = []
+name_if_any (Some s) = string_bytes s.name
+
+abbrev pub name_at : List SessionConfig → ℕ → StoreName
+name_at sessions place = name_if_any (slice_get sessions place)
+
+-- a host refuses one of the sessions that begin so for this reason, and that one's name is shown
+pub record IsNamedRefusal (sessions : List SessionConfig) (h : Host) (starts : List StartInput) (fault : OpenError) (shown : List ℕ) : Type 0 where
+  pub place : ℕ
+  pub first : IsFirstRefused starts h 0 starts fault place
+  pub told : IsShownAs (name_at sessions place) shown
 
 -- the pages that an opened session may write
 abbrev pub own_quota : Origin → ℕ

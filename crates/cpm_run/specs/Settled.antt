@@ -15,6 +15,7 @@ use Rattle.cpm_machine.specs.MachineState.{MachineState, opened_machine}
 use Rattle.cpm_play.specs.Cued.{HasEndedCued, IsCued, waits_at}
 use Rattle.cpm_play.specs.Live.{AreGiven, AreTypedKeysRead, HasReason}
 use Rattle.cpm_play.specs.Playing.{alone_by}
+use Rattle.cpm_play.specs.Wanting.{AreWanted, HasNoLongWait}
 use Rattle.cpm_script.specs.Cues.{Counted, CueText, cue_text}
 use Rattle.cpm_script.specs.Fork.{keys_before}
 use Rattle.cpm_script.specs.Recording.{recorded}
@@ -213,7 +214,9 @@ pub record IsTypedBy (system : Disk) (sessions : List SessionConfig) (name : Lis
   pub read : AreTypedKeysRead io.unread io.left keys
   pub text : Appends io.before io.written (alone_by system keys done (opening_of start)).session.console.screen
   pub lines : Appends io.unrecorded io.record_now (recorded keys)
-  pub ends : HasReason most_steps most_keys io.unread io.left keys done (alone_by system keys done (opening_of start))
+  pub ends : HasReason system (opening_of start) most_steps most_keys io.unread io.left keys done (alone_by system keys done (opening_of start))
+  pub wanted : AreWanted system (opening_of start) keys
+  pub brief : HasNoLongWait system (opening_of start) keys done
   pub long : steps ≡ max done (last_fork name sessions)
 
 -- so it was with the session of this name, which is opened

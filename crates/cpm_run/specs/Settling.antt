@@ -1,5 +1,5 @@
 -- What settling the sessions of a run rests on, and how it is refused. All of it is own.
-use Rattle.std.specs.Prelude.{⊤, ◌≡◌, ◌≤◌, ◌<◌, ◌⊎◌, ◌+◌, ◌++◌, ◌∷◌, ℕ, Bool, true, false, List, [], length, map, slice_get}
+use Rattle.std.specs.Prelude.{⊤, ◌≡◌, ◌≤◌, ◌<◌, ◌⊎◌, ◌^◌, ◌+◌, ◌++◌, ◌∷◌, ℕ, Bool, true, false, List, [], length, map, slice_get}
 use Rattle.std.specs.Prelude.{Option, Some, None, option_map, IfSome, IsSome}
 use Rattle.std.specs.List.{All}
 use Rattle.cpm_batch.specs.Inputs.{Forks, IsOpened, Opens, SessionInput, StartInput, start_view, timed_keys}
@@ -17,7 +17,7 @@ use Rattle.cpm_script.specs.declared.script.Key.{Key}
 use Rattle.cpm_run.specs.Playing.{IsPressableBy}
 use Rattle.cpm_run.specs.Refusing.{IsOverfull}
 use Rattle.cpm_slots.specs.Host.{new_host}
-use Rattle.cpm_run.specs.Run.{AllAccepted, IsOpening, starts_read}
+use Rattle.cpm_run.specs.Run.{AllAccepted, GivesItsKeysAgain, IsOpening, starts_read}
 use Rattle.cpm_run.specs.Settled.{AreSettled, AreUntouched, IsTypedIfAny, SessionPart, SettledSession, Streams, TypedSession}
 use Rattle.cpm_run.specs.Settled.{forked_at, opening_of, part_of, said_at, steps_at}
 use Rattle.cpm_run.specs.declared.options.RunOptions.{RunOptions}
@@ -41,6 +41,10 @@ IsOpenable b = (o : Opening) → IsOpeningOf b o → opening_fault o ≡ None
 abbrev pub AreBelow80h : List Key → Type 0
 AreBelow80h = All (λ k. k.byte < 128)
 
+-- each count has 64 bits
+abbrev pub AreCounts : List Key → Type 0
+AreCounts = All (λ k. k.count < 2 ^ 64)
+
 -- the code's value
 abbrev pub part_view : Part → SessionPart
 part_view p = record {
@@ -61,12 +65,13 @@ pub record IsFitPart (p : SessionPart) : Type 0 where
   pub few : length p.before + cued_key_count p.said ≤ most_keys
   pub within : p.at ≤ p.limit
 
--- its keys are then those from before and own ones, which come at the fork or later, in order, not too many in all
+-- its keys are then those from before and own ones, which come at the fork or later, in order, not too many in all; and they can be written as a script
 pub record AreSoundKeys (p : SessionPart) (keys : List Key) (steps : ℕ) : Type 0 where
   pub own : List Key
   pub joined : keys ≡ p.before ++ own
   pub order : IsInOrder p.at own
   pub ascii : AreBelow80h own
+  pub counts : AreCounts own
   pub few : length keys ≤ most_keys
   pub within : p.at ≤ steps
 
@@ -76,14 +81,15 @@ IsPartReady stops_idle said opened = ((stops_idle ≡ false) × IsSome (timed_ke
 
 -- ---- all sessions
 
--- each that was settled can be pressed in the run, and has keys below 80h
+-- each that was settled can be pressed in the run, has keys below 80h, and has own keys that their lines give again
 abbrev pub AreSound : List SettledSession → Type 0
-AreSound ss = (place : ℕ) → IfSome (slice_get ss place) (λ s. IsPressableBy ss s.start s × AreBelow80h s.keys)
+AreSound ss = (place : ℕ) → IfSome (slice_get ss place) (λ s. IsPressableBy ss s.start s × AreBelow80h s.keys × GivesItsKeysAgain s)
 
 -- one that comes after them, too
 pub record IsSoundAfter (ss : List SettledSession) (s : SettledSession) : Type 0 where
   pub pressable : IsPressableBy ss s.start s
   pub ascii : AreBelow80h s.keys
+  pub replays : GivesItsKeysAgain s
 
 -- the one that a session is forked from stands among those that begin so, and is opened
 abbrev pub HasParent : List StartInput → StartInput → Type 0

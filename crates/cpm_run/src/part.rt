@@ -1,11 +1,11 @@
 //! What there is to play a session of a run by, before it is settled.
-ghost use Rattle.std.specs.Prelude.{◌≡◌, Some, IfOk, map, option_map};
+ghost use Rattle.std.specs.Prelude.{◌≡◌, Some, IfOk, IfSome, map, option_map};
 ghost use Rattle.cpm_batch.specs.Inputs.{IsOpened, given, start_view, timed_keys};
 ghost use Rattle.cpm_play.specs.Cued.{key_count};
 ghost use Rattle.cpm_script.specs.Cues.{all_said, cue_text};
 ghost use Rattle.cpm_run.specs.Settled.{before_in, fork_count, forked_at, last_fork, opened_by, part_of, said_at};
 ghost use Rattle.cpm_run.specs.Settled.{settled_view, starts_of, steps_at, typed_view};
-ghost use Rattle.cpm_run.specs.Settling.{HasParent, part_view};
+ghost use Rattle.cpm_run.specs.Settling.{AreCounts, HasParent, part_view};
 
 use crate::alone::after_keys;
 use crate::settled::SettledInput;
@@ -48,13 +48,17 @@ pub(crate) fn key_count(cues: &[Cue]) -> usize
 
 /// The keys of a script, each with its count; none where one of its lines waits.
 pub(crate) fn timed_keys(alloc: Global, cues: &[Cue]) -> Result<Option<Vec<Key>>, AllocError>
-    ensures { IfOk result (λ keys. option_map (λ v. v.items) keys ≡ timed_keys (map cue_text cues.now)) }
+    ensures keys { IfOk result (λ keys. option_map (λ v. v.items) keys ≡ timed_keys (map cue_text cues.now)) }
+    ensures counts { IfOk result (λ keys. IfSome keys (λ v. AreCounts v.items)) }
 {
     let mut keys = Vec::new(alloc);
     for cue in cues {
         let Cue::Key(key) = cue else {
             return Ok(None);
         };
+        // (its type says so; by that its line can be read again)
+        let count = key.count;
+        prove!(count <= u64::MAX);
         keys.push(*key)?;
     }
     Ok(Some(keys))

@@ -1,5 +1,5 @@
 //! Playing the sessions of a configuration in a host.
-ghost use Rattle.std.specs.Prelude.{◌≡◌, ◌≤◌, ◌∷◌, [], IfErr, IfOk, List, OnErr, OnOk, Some, map};
+ghost use Rattle.std.specs.Prelude.{◌≡◌, ◌≤◌, ◌∷◌, [], ℕ, IfErr, IfOk, List, OnErr, OnOk, Some, map, string_bytes};
 ghost use Rattle.std.specs.Vec.Iter.{into_iter_items};
 ghost use Rattle.cpm_batch.specs.Inputs.{StartInput};
 ghost use Rattle.cpm_batch.specs.Outputs.{left_by};
@@ -8,15 +8,15 @@ ghost use Rattle.cpm_machine.specs.MachineState.{MachineState};
 ghost use Rattle.cpm_machine.specs.Opening.{IsRefusal};
 ghost use Rattle.cpm_machine.specs.declared.opening.OpenError.{OpenError as OpenErrorValue};
 ghost use Rattle.cpm_machine.specs.declared.opening.Opening.{Opening as OpeningValue};
-ghost use Rattle.cpm_play.specs.Players.{AllDiffer, IsPlayRefusal as IsForking, fork_pages, forks_of};
+ghost use Rattle.cpm_play.specs.Players.{AllDiffer, IsPlayRefusal as IsForking};
 ghost use Rattle.cpm_play.specs.declared.player.Player.TheVariants.{Playing};
 ghost use Rattle.cpm_play.specs.declared.player.Player.{Player as PlayerValue};
 ghost use Rattle.cpm_play.specs.declared.scripted_slot.ScriptedSlot.{ScriptedSlot};
 ghost use Rattle.cpm_run.specs.Playing.{HavePlayers, AreFinished, ArePressable, HasReported, IsClosed, IsForksRefusal, IsOpeningRefusal};
 ghost use Rattle.cpm_run.specs.Playing.{IsSessionsRefusal, IsPrepared, IsSlotRefusal, IsStartRefusal, OpensSlot, files_by, report_by};
 ghost use Rattle.cpm_run.specs.Settled.{settled_view, starts_of};
-ghost use Rattle.cpm_run.specs.Run.{AllAccepted, HasForkRoom, IsFirstRefused, IsShortFor};
-ghost use Rattle.cpm_run.specs.Run.{files_left, fork_pages_in, forks_in, report_view, reports_of};
+ghost use Rattle.cpm_run.specs.Run.{AllAccepted, HasForkRoom, IsFirstRefused, IsForkAt, IsShortFor, IsShownAs};
+ghost use Rattle.cpm_run.specs.Run.{files_left, fork_pages_in, forks_in, name_at, report_view, reports_of};
 
 use crate::at_pc::bytes_of_slot;
 use crate::error::RunError;
@@ -42,7 +42,7 @@ pub(crate) struct RunResults<'a> {
 
 /// Why a session has no slot, if its opening is refused so.
 fn refused(session: &SessionConfig, fault: OpenError) -> RunError
-    ensures { (h : HostValue) (o : OpeningValue) → IsRefusal (refusal_of h o) fault → IsOpeningRefusal h o result }
+    ensures { (h : HostValue) (o : OpeningValue) → IsRefusal (refusal_of h o) fault → IsOpeningRefusal h o (string_bytes session.now.name) result }
 {
     match fault {
         OpenError::OutOfMemory => RunError::OutOfMemory,
@@ -63,7 +63,7 @@ fn open_slot(
     steps: u64,
 ) -> Result<ScriptedSlot, RunError>
     ensures opened { IfOk result (OpensSlot opening keys.items steps host.old.host host.new.host) }
-    ensures refusal { IfErr result (IsOpeningRefusal host.old.host opening) }
+    ensures refusal { IfErr result (IsOpeningRefusal host.old.host opening (string_bytes session.now.name)) }
     ensures unchanged { OnErr result (host.new.host ≡ host.old.host) }
 {
     match host.open(alloc, opening) {
@@ -75,7 +75,7 @@ fn open_slot(
 /// The player of a session: one whose slot is opened now, or one that is to be forked.
 fn prepare(alloc: Global, host: &mut Host, input: SettledInput<'_>) -> Result<Player, RunError>
     ensures prepared { IfOk result (IsPrepared (settled_view input.entry) host.old.host host.new.host) }
-    ensures refusal { IfErr result (IsStartRefusal host.old.host (settled_view input.entry).start) }
+    ensures refusal { IfErr result (IsStartRefusal host.old.host (settled_view input.entry).start (string_bytes input.entry.session.now.name)) }
     ensures unchanged { OnErr result (host.new.host ≡ host.old.host) }
 {
     let SettledInput {
@@ -102,7 +102,8 @@ fn prepare(alloc: Global, host: &mut Host, input: SettledInput<'_>) -> Result<Pl
 
 /// Why the sessions of a configuration have no slots, if opening them is refused so: where the quotas exceed the frames, with both numbers.
 fn play_refusal(config: &Config, refusal: RunError) -> RunError
-    ensures { (h : HostValue) (starts : List StartInput) → IsSlotRefusal starts h starts refusal → IsSessionsRefusal config.now h starts result }
+    ensures { (h : HostValue) (starts : List StartInput) → IsSlotRefusal config.now.sessions.items h starts refusal
+        → IsSessionsRefusal config.now h starts result }
 {
     match refusal {
         RunError::SessionRefused { name, fault } => match fault {
@@ -118,7 +119,9 @@ fn play_refusal(config: &Config, refusal: RunError) -> RunError
 }
 
 /// The name of the session at a place.
-fn name_at(config: &Config, place: usize) -> ShownWord {
+fn name_at(config: &Config, place: usize) -> ShownWord
+    ensures { IsShownAs (name_at config.now.sessions.items place) result.bytes }
+{
     match config.sessions.get(place) {
         Some(session) => shown(session.name.as_str()),
         None => shown(""),
@@ -128,7 +131,7 @@ fn name_at(config: &Config, place: usize) -> ShownWord {
 /// Why the sessions of a configuration are not played to their end, if one is not forked so.
 fn fork_refusal(config: &Config, error: PlayError) -> RunError
     ensures { (h : HostValue) (players : List PlayerValue) → IsForking h players error
-        → IsForksRefusal config.now h (forks_of players) (fork_pages h.slots players) result }
+        → IsForksRefusal config.now h players result }
 {
     match error {
         PlayError::ForkRefused { place, fault } => match fault {
@@ -156,11 +159,13 @@ fn prepare_all(
     ensures prepared { IfOk result (λ players. HavePlayers host.new.host.slots (map settled_view inputs.entry.items) players.items) }
     ensures accepted { OnOk result ((all : List StartInput) → HasForkRoom all host.new.host
         → AllAccepted all host.old.host (starts_of (map settled_view inputs.entry.items))) }
-    ensures short { OnOk result ((all : List StartInput) (fault : OpenErrorValue) → IsShortFor host.new.host (forks_in all) (fork_pages_in all) fault
-        → IsFirstRefused all host.old.host (starts_of (map settled_view inputs.entry.items)) fault) }
+    ensures short { OnOk result ((all : List StartInput) (fault : OpenErrorValue) (place : ℕ)
+        → IsForkAt all place → IsShortFor host.new.host (forks_in all) (fork_pages_in all) fault
+        → IsFirstRefused all host.old.host 0 (starts_of (map settled_view inputs.entry.items)) fault place) }
     ensures differ { IfOk result (λ players. AllDiffer players.items) }
     ensures system { host.new.host.system ≡ host.old.host.system }
-    ensures refusal { IfErr result (λ e. (all : List StartInput) → IsSlotRefusal all host.old.host (starts_of (map settled_view inputs.entry.items)) e) }
+    ensures refusal { IfErr result (IsSlotRefusal (map (λ i. i.session) (map settled_view inputs.entry.items)) host.old.host
+        (starts_of (map settled_view inputs.entry.items))) }
 {
     let mut players = Vec::new(alloc);
     let mut rest = inputs.into_iter();
@@ -270,11 +275,13 @@ fn prepare_host(
 ) -> Result<(Host, Vec<Player>), RunError>
     requires least { LEAST_FRAMES ≤ config.now.frames }
     requires most { config.now.frames ≤ MOST_FRAMES }
+    requires sessions { map (λ i. i.session) (map settled_view inputs.sessions.items) ≡ config.now.sessions.items }
     ensures prepared { IfOk result (λ p. HavePlayers p.0.host.slots (map settled_view inputs.entry.sessions.items) p.1.items) }
     ensures accepted { IfOk result (λ p. (all : List StartInput) → HasForkRoom all p.0.host
         → AllAccepted all (new_host inputs.entry.system config.entry.now.frames) (starts_of (map settled_view inputs.entry.sessions.items))) }
-    ensures short { IfOk result (λ p. (all : List StartInput) (fault : OpenErrorValue) → IsShortFor p.0.host (forks_in all) (fork_pages_in all) fault
-        → IsFirstRefused all (new_host inputs.entry.system config.entry.now.frames) (starts_of (map settled_view inputs.entry.sessions.items)) fault) }
+    ensures short { IfOk result (λ p. (all : List StartInput) (fault : OpenErrorValue) (place : ℕ)
+        → IsForkAt all place → IsShortFor p.0.host (forks_in all) (fork_pages_in all) fault
+        → IsFirstRefused all (new_host inputs.entry.system config.entry.now.frames) 0 (starts_of (map settled_view inputs.entry.sessions.items)) fault place) }
     ensures differ { IfOk result (λ p. AllDiffer p.1.items) }
     ensures system { IfOk result (λ p. p.0.host.system ≡ inputs.entry.system) }
     ensures refusal { IfErr result (IsSessionsRefusal config.entry.now (new_host inputs.entry.system config.entry.now.frames)

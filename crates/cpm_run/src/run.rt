@@ -60,6 +60,7 @@ fn write_files<S: Store>(outputs: &[Output<'_>], store: &mut S) -> Result<(), Ru
     ensures log { OnOk result (LogLeadsBy S.does (AreWrites (map named_output outputs.now)) store.old store.new) }
     ensures device { IfErr result (λ e. IsDeviceFault e → CountsFailure (S.failed store.old) (S.failed store.new)) }
     ensures memory { IfErr result (λ e. e ≡ RunError.OutOfMemory → S.failed store.new ≡ S.failed store.old) }
+    ensures uncounted { OnOk result (S.failed store.new ≡ S.failed store.old) }
     ensures counted { S.failed store.old ≤ S.failed store.new }
 {
     match write_all(outputs, store) {
@@ -140,6 +141,7 @@ pub fn run_host<'a, S: Store, I: Read, W: Write, R: Write, T: RunWatcher>(
         store.old store.new) }
     ensures device { IfErr result (λ e. IsDeviceFault e → CountsFailure (S.failed store.old) (S.failed store.new)) }
     ensures memory { IfErr result (λ e. e ≡ RunError.OutOfMemory → S.failed store.new ≡ S.failed store.old) }
+    ensures uncounted { OnOk result (S.failed store.new ≡ S.failed store.old) }
     ensures counted { S.failed store.old ≤ S.failed store.new }
 {
     if let Some(place) = config_fault(config) {

@@ -7,8 +7,8 @@ use crate::output::{Outputs, PERMISSIONS, PLAIN_PERMISSIONS};
 use crate::patient::{PatientError, StandardError};
 use crate::refused::{CommandRefusal, PathLine, RefusalDetail};
 use cpm_host::{HostError, ShownWord, shown};
-use std::io;
 use std::rt::Files;
+use std::{io, mem};
 
 /// How a file takes its name.
 #[derive(Clone, Copy, Debug, Drop)]
@@ -183,17 +183,13 @@ impl Batch {
 
     /// Gives all their names, if those that they replace are still what they were when they were read; else none gets its name. One that can't have its
     /// name then stays beside it, which is said of each.
-    pub fn take_names(self, rt: &impl LockableFiles) -> Result<(), CommandRefusal> {
+    pub fn take_names(&mut self, rt: &impl LockableFiles) -> Result<(), CommandRefusal> {
         if let Err(error) = self.check(rt) {
             return Err(self.give_up(rt, error));
         }
-        let Batch {
-            all,
-            keeps_played,
-            ..
-        } = self;
+        let keeps_played = self.keeps_played;
         let mut taken = Ok(());
-        for whole in all {
+        for whole in mem::replace(&mut self.all, Vec::new(rt.alloc())) {
             if let Err(refused) = whole.take_name(rt, keeps_played) {
                 if let Err(before) = &taken {
                     let _ = eprintln!(PatientError::new(rt); "cpmhost: {before}");
@@ -205,16 +201,15 @@ impl Batch {
     }
 
     /// What is said where none gets its name. What was played stays beside; the others go, since they lack the change and can be made again.
-    fn give_up(self, rt: &impl LockableFiles, error: HostError) -> CommandRefusal {
-        let mut batch = self;
-        if !batch.keeps_played {
-            batch.remove(rt);
+    fn give_up(&mut self, rt: &impl LockableFiles, error: HostError) -> CommandRefusal {
+        if !self.keeps_played {
+            self.remove(rt);
             return CommandRefusal {
                 error,
                 behind: RefusalDetail::RunAgain,
             };
         }
-        for whole in batch.all {
+        for whole in mem::replace(&mut self.all, Vec::new(rt.alloc())) {
             whole.keep(rt);
         }
         CommandRefusal::from(error)

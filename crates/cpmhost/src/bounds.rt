@@ -4,10 +4,10 @@ ghost use Rattle.std.specs.Prelude.{◌≡◌};
 
 use crate::files::unreadable;
 use crate::output::{is_open_already, target_of};
-use crate::place::script_paths;
 use crate::refused::{CommandRefusal, RefusalDetail};
 use crate::stream::real_path;
-use cpm_host::{Config, HostError, Origin, ReadError, RunError, RunTask, SessionConfig, shown};
+use cpm_commands::{FilePlan, FileRole, PlannedFile};
+use cpm_host::{HostError, ReadError, RunError, shown};
 use std::alloc::{AllocError, Global};
 use std::io::ErrorKind;
 use std::path::{Path, PathBuf};
@@ -37,42 +37,17 @@ pub struct Bounds {
     folders: Vec<PathBuf>,
 }
 
-/// A name that is checked, and whether its file is written.
-#[derive(Clone, Copy, Drop)]
-struct CheckedName<'a> {
-    name: &'a str,
-    is_output: bool,
-}
-
-impl<'a> CheckedName<'a> {
-    /// That of a file that is read.
-    fn input(name: &'a str) -> CheckedName<'a> {
-        CheckedName {
-            name,
-            is_output: false,
-        }
-    }
-
-    /// That of a file that is written.
-    fn output(name: &'a str) -> CheckedName<'a> {
-        CheckedName {
-            name,
-            is_output: true,
-        }
-    }
-
-    /// The refusal of the file, with what is said of it.
-    fn refused(&self, behind: RefusalDetail) -> CommandRefusal {
-        let name = shown(self.name);
-        let error = if self.is_output {
-            RunError::WriteFault(name)
-        } else {
-            RunError::FileRefused(ReadError::File(name))
-        };
-        CommandRefusal {
-            error: HostError::from(error),
-            behind,
-        }
+/// The refusal of a file, with what is said of it.
+fn refused(name: &str, is_output: bool, behind: RefusalDetail) -> CommandRefusal {
+    let name = shown(name);
+    let error = if is_output {
+        RunError::WriteFault(name)
+    } else {
+        RunError::FileRefused(ReadError::File(name))
+    };
+    CommandRefusal {
+        error: HostError::from(error),
+        behind,
     }
 }
 
@@ -87,6 +62,13 @@ fn folder_at(rt: &(impl Files + AllocGlobal), name: &str) -> io::Result<PathBuf>
 }
 
 impl Bounds {
+    /// None: the files may lie anywhere.
+    pub fn none(alloc: Global) -> Bounds {
+        Bounds {
+            folders: Vec::new(alloc),
+        }
+    }
+
     /// Those of the folders of these names; where there is no name there are none.
     fn new(rt: &(impl Files + AllocGlobal), names: &[&str]) -> Result<Bounds, CommandRefusal> {
         let mut folders = Vec::new(rt.alloc());
@@ -174,41 +156,37 @@ impl Bounds {
     fn check(
         &self,
         rt: &(impl Files + AllocGlobal),
-        named: CheckedName<'_>,
+        name: &str,
+        is_output: bool,
     ) -> Result<(), CommandRefusal> {
-        match self.locate(rt, named.name)? {
-            Location::Inside => Ok(()),
-            Location::Outside => Err(named.refused(RefusalDetail::Outside)),
-            Location::NotRegular => Err(named.refused(RefusalDetail::NotRegular)),
-            Location::Lost(reason) => Err(named.refused(RefusalDetail::Reason(reason))),
-        }
+        let behind = match self.locate(rt, name)? {
+            Location::Inside => return Ok(()),
+            Location::Outside => RefusalDetail::Outside,
+            Location::NotRegular => RefusalDetail::NotRegular,
+            Location::Lost(reason) => RefusalDetail::Reason(reason),
+        };
+        Err(refused(name, is_output, behind))
     }
 
-    /// Refuses a run with a file that doesn't lie in one of the folders.
-    fn check_run(
+    /// Refuses an output that doesn't lie in one of the folders.
+    pub fn check_output(
         &self,
         rt: &(impl Files + AllocGlobal),
-        config: &Config,
-        task: &RunTask<'_>,
+        name: &str,
     ) -> Result<(), CommandRefusal> {
-        for named in &inputs_of(rt.alloc(), config)? {
-            self.check(rt, *named)?;
-        }
-        for named in &outputs_of(rt.alloc(), config, task.record)? {
-            self.check(rt, *named)?;
-        }
-        self.check_scripts(rt, config, task.scripts)
+        self.check(rt, name, true)
     }
 
-    /// Refuses a run that would write a script of a session outside of the folders.
-    pub fn check_scripts(
+    /// Refuses inputs of which one doesn't lie in one of the folders. The configuration may lie anywhere.
+    pub fn check_inputs(
         &self,
         rt: &(impl Files + AllocGlobal),
-        config: &Config,
-        folder: Option<&str>,
+        inputs: &[PlannedFile<'_>],
     ) -> Result<(), CommandRefusal> {
-        for script in &script_paths(rt.alloc(), config, folder)? {
-            self.check(rt, CheckedName::output(script.as_str()))?;
+        for file in inputs {
+            if file.role != FileRole::Configuration {
+                self.check(rt, file.name, false)?;
+            }
         }
         Ok(())
     }
@@ -225,65 +203,6 @@ impl Bounds {
     }
 }
 
-/// Adds the files that a session reads.
-fn add_inputs<'a>(
-    all: &mut Vec<CheckedName<'a>>,
-    session: &'a SessionConfig,
-) -> Result<(), AllocError> {
-    if let Origin::Opened { drives, .. } = &session.origin {
-        for drive in drives {
-            all.push(CheckedName::input(drive.as_str()))?;
-        }
-    }
-    if let Some(keys) = &session.keys {
-        all.push(CheckedName::input(keys.as_str()))?;
-    }
-    Ok(())
-}
-
-/// The files that a run reads.
-fn inputs_of(alloc: Global, config: &Config) -> Result<Vec<CheckedName<'_>>, AllocError> {
-    let mut all = Vec::new(alloc);
-    all.push(CheckedName::input(config.system.as_str()))?;
-    for session in &config.sessions {
-        add_inputs(&mut all, session)?;
-    }
-    Ok(all)
-}
-
-/// Adds the files that a session writes.
-fn add_outputs<'a>(
-    all: &mut Vec<CheckedName<'a>>,
-    session: &'a SessionConfig,
-) -> Result<(), AllocError> {
-    all.push(CheckedName::output(session.console.as_str()))?;
-    if let Some(list) = &session.list {
-        all.push(CheckedName::output(list.as_str()))?;
-    }
-    if let Some(images) = &session.out {
-        for image in images {
-            all.push(CheckedName::output(image.as_str()))?;
-        }
-    }
-    Ok(())
-}
-
-/// The files that a run writes, but for the scripts of all sessions.
-fn outputs_of<'a>(
-    alloc: Global,
-    config: &'a Config,
-    record: Option<&'a str>,
-) -> Result<Vec<CheckedName<'a>>, AllocError> {
-    let mut all = Vec::new(alloc);
-    for session in &config.sessions {
-        add_outputs(&mut all, session)?;
-    }
-    if let Some(record) = record {
-        all.push(CheckedName::output(record))?;
-    }
-    Ok(all)
-}
-
 /// Whether a name is of a file in the current folder, none that is hidden, and not the one that an archive has there, in capitals either.
 fn is_plain(name: &str) -> bool {
     !name.is_empty()
@@ -292,31 +211,65 @@ fn is_plain(name: &str) -> bool {
         && !name.eq_ignore_ascii_case(REPORT)
 }
 
-/// Refuses a run that would write by a name that is not plain, or its scripts to another folder than the current one.
-fn check_plain(alloc: Global, config: &Config, task: &RunTask<'_>) -> Result<(), CommandRefusal> {
-    for named in &outputs_of(alloc, config, task.record)? {
-        if !is_plain(named.name) {
-            return Err(named.refused(RefusalDetail::NotPlain));
-        }
-    }
-    match task.scripts {
-        Some(folder) if folder != "." => Err(CheckedName::output(folder).refused(
-            RefusalDetail::NotPlain,
-        )),
-        _ => Ok(()),
-    }
+/// Where the files of a command may lie, as its words say.
+#[derive(Clone, Copy, Debug, Drop)]
+pub struct FileRules<'a> {
+    /// The folders that they may lie in, all where there is none.
+    pub folders: &'a [&'a str],
+    /// Whether the names of outputs are plain names of files in the current folder.
+    pub has_outputs_here: bool,
+    /// The folder that the scripts of sessions go to.
+    pub scripts: Option<&'a str>,
 }
 
-/// The bounds of a run, which is refused where a name of its configuration breaks them. No file is read or written before.
-pub fn check_bounds(
-    rt: &(impl Files + AllocGlobal),
-    config: &Config,
-    task: &RunTask<'_>,
-) -> Result<Bounds, CommandRefusal> {
-    if task.has_outputs_here {
-        check_plain(rt.alloc(), config, task)?;
+impl FileRules<'_> {
+    /// None: the files may lie anywhere.
+    pub fn none() -> FileRules<'static> {
+        FileRules {
+            folders: &[],
+            has_outputs_here: false,
+            scripts: None,
+        }
     }
-    let bounds = Bounds::new(rt, &task.folders)?;
-    bounds.check_run(rt, config, task)?;
-    Ok(bounds)
+
+    /// Refuses outputs of which one has a name that is not plain, or scripts that would go to another folder than the current one.
+    fn check_plain(self, outputs: &[PlannedFile<'_>]) -> Result<(), CommandRefusal> {
+        if !self.has_outputs_here {
+            return Ok(());
+        }
+        for file in outputs {
+            if file.role != FileRole::Script && !is_plain(file.name) {
+                return Err(refused(file.name, true, RefusalDetail::NotPlain));
+            }
+        }
+        match self.scripts {
+            Some(folder) if folder != "." => Err(refused(folder, true, RefusalDetail::NotPlain)),
+            _ => Ok(()),
+        }
+    }
+
+    /// Refuses scripts that would go to a folder with no name.
+    fn check_scripts(self) -> Result<(), HostError> {
+        if self.scripts != Some("") {
+            return Ok(());
+        }
+        Err(HostError::FileUnwritable {
+            name: shown(""),
+            reason: io::Error::new(
+                ErrorKind::InvalidInput,
+                "no folder has an empty name; the current one is '.'",
+            ),
+        })
+    }
+
+    /// The folders in which the files of a plan may lie, of which an output has a name that breaks no rule. No file is looked at.
+    pub fn bounds(
+        self,
+        rt: &(impl Files + AllocGlobal),
+        plan: &FilePlan<'_>,
+    ) -> Result<Bounds, CommandRefusal> {
+        self.check_plain(&plan.outputs)?;
+        self.check_scripts()?;
+        Bounds::new(rt, self.folders)
+    }
 }

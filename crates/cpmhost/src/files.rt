@@ -4,16 +4,18 @@ ghost use Rattle.cpm_host.specs.Refusals.{IsFileRefusal, IsOutRefusal};
 ghost use Rattle.cpm_store.specs.Files.{CountsFailure};
 
 use crate::batch::{Batch, NamingRule};
-use crate::guard::Guard;
-use crate::held::{HeldFiles, LockableFiles};
+use crate::beside::is_missing;
+use crate::bounds::FileRules;
+use crate::held::LockableFiles;
 use crate::output::Outputs;
-use crate::place::script_paths;
+use crate::plan::SeenFiles;
 use crate::refused::{CommandRefusal, RefusalDetail};
-use cpm_host::{
-    Config, HostError, MOST_FILE, RunError, SessionConfig, Store, StoreError, read_whole, shown,
-};
+use crate::screen::{is_own_terminal, write_shown};
+use cpm_commands::{CommandFiles, FilePlan, OutputNaming};
+use cpm_host::{HostError, MOST_FILE, Store, StoreError, read_whole, shown};
 use std::alloc::Global;
 use std::io::ErrorKind;
+use std::path::Path;
 use std::rt::Files;
 use std::{fs, io};
 
@@ -23,15 +25,6 @@ pub fn whole_file(rt: &impl Files, alloc: Global, name: &str) -> io::Result<Vec<
 {
     let mut file = fs::open(rt, name)?;
     read_whole(alloc, &mut file)
-}
-
-/// All bytes of a file. It fails where the file can't be read, or has more than 16,777,216 bytes, and
-/// if out of memory.
-pub fn read_file(rt: &(impl Files + AllocGlobal), name: &str) -> Result<Vec<u8>, HostError>
-    ensures small { IfOk result (λ bytes. vec_len bytes ≤ MOST_FILE) }
-    ensures refusal { IfErr result IsFileRefusal }
-{
-    whole_file(rt, rt.alloc(), name).map_err(|reason| unreadable(name, reason))
 }
 
 /// What was found at the name of a file that is read. It fails where the file couldn't be looked at. But nothing was found of one that can't be opened
@@ -50,48 +43,6 @@ pub fn found_of_input<T: Drop>(
     }
 }
 
-/// Makes a file of these bytes in a batch: they replace all that the file of the name held.
-pub fn add_file(
-    rt: &impl LockableFiles,
-    batch: &mut Batch,
-    name: &str,
-    bytes: &[u8],
-) -> Result<(), HostError>
-    ensures refusal { IfErr result (λ e. IsOutRefusal e ⊎ (e ≡ HostError.OutOfMemory)) }
-{
-    batch
-        .add(rt, name, NamingRule::Replacing(None), bytes)
-        .map_err(|reason| unwritable(name, reason))
-}
-
-/// Makes a file of these bytes in a batch, as `add_file` does. Where the file of the name is held, it must still be what it was when it was read.
-pub fn add_held(
-    rt: &impl LockableFiles,
-    batch: &mut Batch,
-    held: &HeldFiles,
-    name: &str,
-    bytes: &[u8],
-) -> Result<(), HostError>
-    ensures refusal { IfErr result (λ e. IsOutRefusal e ⊎ (e ≡ HostError.OutOfMemory)) }
-{
-    batch
-        .add(rt, name, NamingRule::Replacing(held.mark_of(name)), bytes)
-        .map_err(|reason| unwritable(name, reason))
-}
-
-/// Makes the image of a file that is held hold these bytes, which replace all that it held. It must still be what it was when it was read.
-pub fn write_held(
-    rt: &impl LockableFiles,
-    outputs: Outputs,
-    held: &HeldFiles,
-    name: &str,
-    bytes: &[u8],
-) -> Result<(), CommandRefusal> {
-    let mut batch = Batch::new(rt, outputs);
-    add_held(rt, &mut batch, held, name, bytes)?;
-    batch.take_names(rt)
-}
-
 /// Fails where a file of this name can't be written.
 pub fn check_file(rt: &impl LockableFiles, outputs: Outputs, name: &str) -> Result<(), HostError>
     ensures refusal { IfErr result (λ e. IsOutRefusal e ⊎ (e ≡ HostError.OutOfMemory)) }
@@ -99,83 +50,6 @@ pub fn check_file(rt: &impl LockableFiles, outputs: Outputs, name: &str) -> Resu
     outputs
         .check(rt, name)
         .map_err(|reason| unwritable(name, reason))
-}
-
-/// Fails where one of the files that a run is to write can't be written, before it reads anything: the first of them, in the order in
-/// which they are written.
-pub fn check_outputs(
-    rt: &impl LockableFiles,
-    outputs: Outputs,
-    config: &Config,
-) -> Result<(), HostError>
-    ensures refusal { IfErr result (λ e. IsOutRefusal e ⊎ (e ≡ HostError.OutOfMemory)) }
-{
-    for session in &config.sessions {
-        check_session(rt, outputs, session)?;
-    }
-    Ok(())
-}
-
-/// Fails where one of the files that a session is to write can't be written.
-fn check_session(
-    rt: &impl LockableFiles,
-    outputs: Outputs,
-    session: &SessionConfig,
-) -> Result<(), HostError>
-    ensures refusal { IfErr result (λ e. IsOutRefusal e ⊎ (e ≡ HostError.OutOfMemory)) }
-{
-    check_file(rt, outputs, session.console.as_str())?;
-    if let Some(list) = &session.list {
-        check_file(rt, outputs, list.as_str())?;
-    }
-    match &session.out {
-        Some(images) => check_files(rt, outputs, images),
-        None => Ok(()),
-    }
-}
-
-/// Fails where one of the files of these names can't be written.
-fn check_files(rt: &impl LockableFiles, outputs: Outputs, names: &[String]) -> Result<(), HostError>
-    ensures refusal { IfErr result (λ e. IsOutRefusal e ⊎ (e ≡ HostError.OutOfMemory)) }
-{
-    for name in names {
-        check_file(rt, outputs, name.as_str())?;
-    }
-    Ok(())
-}
-
-/// Fails where the record of typed keys can't be written, if there is to be one.
-pub fn check_record(
-    rt: &impl LockableFiles,
-    outputs: Outputs,
-    record: Option<&str>,
-) -> Result<(), HostError>
-    ensures refusal { IfErr result (λ e. IsOutRefusal e ⊎ (e ≡ HostError.OutOfMemory)) }
-{
-    match record {
-        Some(name) => check_file(rt, outputs, name),
-        None => Ok(()),
-    }
-}
-
-/// Fails where one of the scripts that a run is to write to a folder can't be written.
-pub fn check_scripts(
-    rt: &impl LockableFiles,
-    outputs: Outputs,
-    config: &Config,
-    folder: Option<&str>,
-) -> Result<(), HostError> {
-    if folder == Some("") {
-        return Err(HostError::FileUnwritable {
-            name: shown(""),
-            reason: io::Error::new(
-                ErrorKind::InvalidInput,
-                "no folder has an empty name; the current one is '.'",
-            ),
-        });
-    }
-    let scripts = script_paths(rt.alloc(), config, folder)?;
-    check_files(rt, outputs, &scripts)
 }
 
 /// Why a file was not written.
@@ -206,47 +80,79 @@ pub fn unreadable(name: &str, reason: io::Error) -> HostError
     }
 }
 
-/// The files of the machine as a store. It doesn't tell what they hold, since others can write them. What is written has its name once the batch of it has
-/// taken its names.
+/// The files of the machine as those of a command. They don't tell what they hold, since others can write them. What is written has its name once all have
+/// taken theirs.
 #[derive(Drop)]
 pub struct MachineFiles<'a, R: LockableFiles> {
     rt: &'a R,
+    outputs: Outputs,
+    rules: FileRules<'a>,
+    /// Whether the terminal gets control bytes as text.
+    shows_controls: bool,
+    seen: SeenFiles,
     batch: Batch,
-    guard: Guard<'a>,
     failures: u64,
-    reason: Option<io::Error>,
+    /// What is said of the last call that failed.
+    detail: RefusalDetail,
 }
 
 impl<'a, R: LockableFiles> MachineFiles<'a, R> {
-    /// The files, of which no call has failed yet.
-    pub fn new(rt: &'a R, outputs: Outputs, guard: Guard<'a>) -> MachineFiles<'a, R>
+    /// The files, of which no call has failed yet, with those that are written so.
+    pub fn new(
+        rt: &'a R,
+        outputs: Outputs,
+        rules: FileRules<'a>,
+        shows_controls: bool,
+        batch: Batch,
+    ) -> MachineFiles<'a, R>
         ensures { result.failures ≡ 0 }
     {
         MachineFiles {
             rt,
-            batch: Batch::of_played(rt, outputs),
-            guard,
+            outputs,
+            rules,
+            shows_controls,
+            seen: SeenFiles::none(rt),
+            batch,
             failures: 0,
-            reason: None,
+            detail: RefusalDetail::Nothing,
         }
     }
 
-    /// What was written.
-    pub fn into_batch(self) -> Batch {
-        self.batch
+    /// The files of a command that plays nothing.
+    pub fn plain(rt: &'a R, outputs: Outputs) -> MachineFiles<'a, R> {
+        let batch = Batch::new(rt, outputs);
+        MachineFiles::new(rt, outputs, FileRules::none(), false, batch)
     }
 
-    /// The refusal of a run that ended so, and why the last call failed, if it did. Nothing is left of what was made: a run may end after some of its files
-    /// were, where memory is refused between two of them.
-    pub fn refuse(&mut self, error: RunError) -> CommandRefusal {
-        self.batch.remove(self.rt);
-        CommandRefusal {
-            error: HostError::from(error),
-            behind: match self.reason {
-                Some(reason) => RefusalDetail::Reason(reason),
-                None => RefusalDetail::Nothing,
-            },
+    /// What is said of a command that ended so. Nothing is left then of what was made and has no name: a command may end after some of its files were, where
+    /// memory is refused between two of them.
+    pub fn end<T: Drop>(self, ended: Result<T, HostError>) -> Result<T, CommandRefusal> {
+        let MachineFiles {
+            rt,
+            mut batch,
+            detail,
+            ..
+        } = self;
+        match ended {
+            Ok(done) => Ok(done),
+            Err(error) => {
+                batch.remove(rt);
+                Err(CommandRefusal {
+                    error,
+                    behind: detail,
+                })
+            }
         }
+    }
+
+    /// Keeps what is said of a refusal, which is its error.
+    fn keep(&mut self, refused: CommandRefusal) -> HostError
+        ensures { self.new.failures ≡ self.old.failures }
+    {
+        let CommandRefusal { error, behind } = refused;
+        self.detail = behind;
+        error
     }
 
     /// What a call answers that failed so. That is counted unless it is out of memory.
@@ -259,8 +165,35 @@ impl<'a, R: LockableFiles> MachineFiles<'a, R> {
             return StoreError::OutOfMemory;
         }
         self.failures = self.failures.saturating_add(1);
-        self.reason = Some(reason);
+        self.detail = RefusalDetail::Reason(reason);
         StoreError::Device
+    }
+
+    /// All bytes of a file, which is looked at once more, as its links may have changed since it was seen to.
+    fn read_seen(&self, alloc: Global, name: &str) -> io::Result<Vec<u8>> {
+        self.seen.bounds.admit(self.rt, name)?;
+        whole_file(self.rt, alloc, name)
+    }
+
+    /// Makes a file of these bytes, whose name is looked at once more. The terminal gets control bytes as text, if that is asked.
+    fn write_seen(&mut self, name: &str, bytes: &[u8]) -> io::Result<()>
+        ensures { self.new.failures ≡ self.old.failures }
+    {
+        self.seen.bounds.admit(self.rt, name)?;
+        if self.shows_controls && is_own_terminal(self.rt, name) {
+            return write_shown(self.rt, name, bytes);
+        }
+        let rule = self.rule_of(name);
+        self.batch.add(self.rt, name, rule, bytes)
+    }
+
+    /// How the file of a name takes it.
+    fn rule_of(&self, name: &str) -> NamingRule {
+        match self.seen.naming {
+            OutputNaming::Replaces => NamingRule::Replacing(self.seen.held.mark_of(name)),
+            OutputNaming::ReplacesPlain => NamingRule::ReplacingPlain,
+            OutputNaming::New => NamingRule::New,
+        }
     }
 }
 
@@ -269,18 +202,18 @@ impl<R: LockableFiles> Store for MachineFiles<'_, R> {
 
     ghost failed = { λ s. s.failures };
 
-    // Nothing can be said of what a file of the machine holds. What was read and written is said by the log of whoever calls.
+    // Nothing can be said of what a file of the machine holds. What was read and written is said by the calls of whoever calls.
     ghost does = { λ _ _ _. ⊤ };
 
     fn read(&mut self, alloc: Global, name: &str) -> Result<Vec<u8>, StoreError> {
-        match self.guard.read(self.rt, alloc, name) {
+        match self.read_seen(alloc, name) {
             Ok(bytes) => Ok(bytes),
             Err(reason) => Err(self.fault(reason)),
         }
     }
 
     fn write(&mut self, name: &str, bytes: &[u8]) -> Result<(), StoreError> {
-        match self.guard.write(self.rt, &mut self.batch, name, bytes) {
+        match self.write_seen(name, bytes) {
             Ok(()) => Ok(()),
             Err(reason) => Err(self.fault(reason)),
         }
@@ -288,5 +221,36 @@ impl<R: LockableFiles> Store for MachineFiles<'_, R> {
 
     fn failures(&self) -> u64 {
         self.failures
+    }
+}
+
+impl<R: LockableFiles> CommandFiles for MachineFiles<'_, R> {
+    ghost sees_to = { λ _ _ _ _. ⊤ };
+
+    ghost gives_names = { λ _ _ _. ⊤ };
+
+    fn see_to(&mut self, plan: &FilePlan<'_>) -> Result<(), HostError> {
+        match SeenFiles::of(self.rt, self.outputs, self.rules, plan) {
+            Ok(seen) => {
+                self.seen = seen;
+                Ok(())
+            }
+            Err(refused) => Err(self.keep(refused)),
+        }
+    }
+
+    fn has(&self, name: &str) -> bool {
+        !is_missing(fs::symlink_metadata(self.rt, name))
+    }
+
+    fn is_folder(&self, name: &str) -> bool {
+        Path::new(name).is_dir(self.rt)
+    }
+
+    fn give_names(&mut self) -> Result<(), HostError> {
+        match self.batch.take_names(self.rt) {
+            Ok(()) => Ok(()),
+            Err(refused) => Err(self.keep(refused)),
+        }
     }
 }

@@ -1,12 +1,13 @@
 //! Files that are read and then replaced. A command holds such a file from its reading to its replacement, so that of two commands that change one file
 //! each has what the other one did; and it replaces the file only where that still is what it was when it was read.
 
-use crate::files::{found_of_input, unreadable, unwritable};
+use crate::files::{found_of_input, unwritable};
 use crate::output::{is_open_already, target_of};
 use crate::patient::StandardError;
 use crate::refused::CommandRefusal;
-use cpm_host::{Config, HostError, Origin, ShownWord, shown};
-use std::alloc::AllocError;
+use cpm_commands::{FilePlan, FileRole, PlannedFile};
+use cpm_host::{HostError, ShownWord, shown};
+use std::alloc::{AllocError, Global};
 use std::fs::{File, Metadata, OpenOptions, TryLockError};
 use std::io::ErrorKind;
 use std::os::unix::fs::MetadataExt;
@@ -77,6 +78,13 @@ pub struct HeldFiles {
 }
 
 impl HeldFiles {
+    /// None.
+    pub fn none(alloc: Global) -> HeldFiles {
+        HeldFiles {
+            all: Vec::new(alloc),
+        }
+    }
+
     /// What the file of a name was when it was read, if it is held.
     pub fn mark_of(&self, name: &str) -> Option<Mark> {
         let found = self.all.iter().find(|held| held.name.as_str() == name)?;
@@ -102,7 +110,7 @@ enum Attempt {
 
 /// Holds those of the files that are written that are also read, and waits for them where others hold them. It holds all or none of them, so that no two
 /// commands wait for each other.
-pub fn hold(
+fn hold(
     rt: &impl LockableFiles,
     reads: &[&str],
     outs: &[&str],
@@ -127,28 +135,25 @@ pub fn hold(
     }
 }
 
-/// Holds the images that a run of a configuration reads and writes.
-pub fn hold_images(rt: &impl LockableFiles, config: &Config) -> Result<HeldFiles, CommandRefusal> {
-    let mut reads = Vec::new(rt.alloc());
-    let mut outs = Vec::new(rt.alloc());
-    reads.push(config.system.as_str())?;
-    for session in &config.sessions {
-        if let Origin::Opened { drives, .. } = &session.origin {
-            add_names(&mut reads, drives)?;
-        }
-        if let Some(images) = &session.out {
-            add_names(&mut outs, images)?;
-        }
-    }
+/// Holds the images that a plan reads and writes.
+pub fn hold_images(
+    rt: &impl LockableFiles,
+    plan: &FilePlan<'_>,
+) -> Result<HeldFiles, CommandRefusal> {
+    let reads = images_of(rt.alloc(), &plan.inputs)?;
+    let outs = images_of(rt.alloc(), &plan.outputs)?;
     hold(rt, &reads, &outs)
 }
 
-/// Adds names to a list.
-fn add_names<'a>(all: &mut Vec<&'a str>, names: &'a [String]) -> Result<(), AllocError> {
-    for name in names {
-        all.push(name.as_str())?;
+/// The names of those of the files that are images.
+fn images_of<'a>(alloc: Global, files: &[PlannedFile<'a>]) -> Result<Vec<&'a str>, AllocError> {
+    let mut names = Vec::new(alloc);
+    for file in files {
+        if file.role == FileRole::Image {
+            names.push(file.name)?;
+        }
     }
-    Ok(())
+    Ok(names)
 }
 
 /// Holds all of the files that are read and written, or none where another command holds one of them.
@@ -163,8 +168,9 @@ fn try_hold(
             continue;
         };
         match held_at(rt, name)? {
-            Some(held) => all.push(held)?,
-            None => return Ok(Attempt::Busy(shown(name))),
+            FileAttempt::Held(held) => all.push(held)?,
+            FileAttempt::Busy => return Ok(Attempt::Busy(shown(name))),
+            FileAttempt::Unopened => {}
         }
     }
     Ok(Attempt::Held(all))
@@ -252,17 +258,28 @@ fn spot_at(rt: &(impl Files + AllocGlobal), name: &str) -> io::Result<Option<Spo
     Ok(Some(Spot { path, device, node }))
 }
 
-/// The file of a name, held; none where another command holds it, or has just replaced it.
-fn held_at(rt: &impl LockableFiles, name: &str) -> Result<Option<HeldFile>, CommandRefusal> {
+/// The outcome of an attempt to hold one file.
+#[derive(Drop)]
+enum FileAttempt {
+    Held(HeldFile),
+    /// Another command holds it, or has just replaced it.
+    Busy,
+    /// It can't be opened, which is refused where it is read.
+    Unopened,
+}
+
+/// The outcome of an attempt to hold the file of a name.
+fn held_at(rt: &impl LockableFiles, name: &str) -> Result<FileAttempt, AllocError> {
     match locked(rt, name) {
-        Ok(Some((mark, lock))) => Ok(Some(HeldFile {
+        Ok(Some((mark, lock))) => Ok(FileAttempt::Held(HeldFile {
             name: String::from_str(rt.alloc(), name)?,
             mark,
             lock,
         })),
-        Ok(None) => Ok(None),
-        Err(error) if error.kind() == ErrorKind::NotFound => Ok(None),
-        Err(error) => Err(CommandRefusal::from(unreadable(name, error))),
+        Ok(None) => Ok(FileAttempt::Busy),
+        Err(error) if error.kind() == ErrorKind::NotFound => Ok(FileAttempt::Busy),
+        Err(error) if error.kind() == ErrorKind::OutOfMemory => Err(AllocError),
+        Err(_) => Ok(FileAttempt::Unopened),
     }
 }
 

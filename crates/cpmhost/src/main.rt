@@ -5,19 +5,17 @@ ghost use Rattle.std.specs.Prelude.{IfErr};
 ghost use Rattle.cpm_command_line.specs.Line.{HasUsers};
 ghost use Rattle.cpm_host.specs.Refusals.{IsWordRefusal};
 
-mod asm;
 mod batch;
 mod beside;
 mod bounds;
 mod com;
 mod disk;
 mod files;
-mod get;
-mod guard;
 mod held;
 mod output;
 mod patient;
 mod place;
+mod plan;
 mod progress;
 mod record;
 mod refused;
@@ -26,20 +24,18 @@ mod sessions;
 mod stream;
 mod typing;
 
-use asm::asm;
 use com::com;
+use cpm_commands::{assemble_file, check_image, debug_program, list_program};
 use cpm_flags::Cpu;
-use cpm_host::{
-    HostError, Task, VERSION, asks_version, command, page_text, run_check, run_debug, run_list,
-};
+use cpm_host::{HostError, Task, VERSION, asks_version, command, page_text};
 use disk::do_disk;
-use files::read_file;
+use files::MachineFiles;
 use held::LockableFiles;
 use output::Outputs;
 use patient::{PatientError, PatientInput, PatientOutput};
 use refused::CommandRefusal;
 use screen::Screen;
-use sessions::run_sessions;
+use sessions::run;
 use std::env::Env;
 use std::fs::{File, OpenOptions};
 use std::io::{BufReader, BufWriter, ErrorKind, IsTerminal, Write};
@@ -66,52 +62,67 @@ fn arguments(rt: &(impl Env + AllocGlobal)) -> Result<Vec<String>, HostError>
 
 /// Prints the program in a file as instructions of a processor.
 #[inline(never)]
-fn list(rt: &impl LockableFiles, file: &str, cpu: Cpu) -> Result<(), HostError> {
-    let program = read_file(rt, file)?;
-    match BufWriter::new(rt.alloc(), PatientOutput::new(rt)) {
-        Ok(mut out) => run_list(cpu, program.as_slice(), &mut out),
-        Err(_) => Err(HostError::OutOfMemory),
-    }
+fn list(
+    rt: &impl LockableFiles,
+    outputs: Outputs,
+    file: &str,
+    cpu: Cpu,
+) -> Result<(), CommandRefusal> {
+    let mut files = MachineFiles::plain(rt, outputs);
+    let Ok(mut out) = BufWriter::new(rt.alloc(), PatientOutput::new(rt)) else {
+        return Err(CommandRefusal::from(HostError::OutOfMemory));
+    };
+    let listed = list_program(rt.alloc(), file, cpu, &mut files, &mut out);
+    files.end(listed)
 }
 
 /// Prints that the image in a file is in order.
 #[inline(never)]
-fn check(rt: &impl LockableFiles, file: &str) -> Result<(), HostError> {
-    let bytes = read_file(rt, file)?;
-    run_check(file, bytes, &mut PatientOutput::new(rt))?;
-    Ok(())
+fn check(rt: &impl LockableFiles, outputs: Outputs, image: &str) -> Result<(), CommandRefusal> {
+    let mut files = MachineFiles::plain(rt, outputs);
+    let checked = check_image(rt.alloc(), image, &mut files, &mut PatientOutput::new(rt));
+    files.end(checked)
+}
+
+/// Assembles the source in a file.
+#[inline(never)]
+fn asm(
+    rt: &impl LockableFiles,
+    outputs: Outputs,
+    source: &str,
+    out: &str,
+    list: Option<&str>,
+) -> Result<(), CommandRefusal> {
+    let mut files = MachineFiles::plain(rt, outputs);
+    let assembled = assemble_file(rt.alloc(), source, out, list, &mut files);
+    files.end(assembled)
 }
 
 /// Runs the program in a file as the lines of standard input say, and prints what is answered.
 #[inline(never)]
 fn debug(
-    rt: &(impl LockableFiles + Input + Print),
+    rt: &(impl LockableFiles + Input),
+    outputs: Outputs,
     file: &str,
     cpu: Cpu,
     list: Option<&str>,
     terminals: Terminals,
-) -> Result<(), HostError> {
-    let program = read_file(rt, file)?;
-    let listing = match list {
-        Some(list) => read_file(rt, list)?,
-        None => Vec::new(rt.alloc()),
-    };
+) -> Result<(), CommandRefusal> {
+    let mut files = MachineFiles::plain(rt, outputs);
     let mut screen = Screen::new(PatientOutput::new(rt), terminals.shows_controls(false));
-    debug_to(rt, cpu, program, &listing, &mut screen)
-}
-
-/// Runs a program as the lines of standard input say, and writes what is answered.
-fn debug_to<W: Write>(
-    rt: &(impl Input + Clock + AllocGlobal),
-    cpu: Cpu,
-    program: Vec<u8>,
-    listing: &[u8],
-    out: &mut W,
-) -> Result<(), HostError> {
-    match BufReader::new(rt.alloc(), PatientInput::new(rt)) {
-        Ok(mut input) => Ok(run_debug(rt.alloc(), cpu, program, listing, &mut input, out)?),
-        Err(_) => Err(HostError::OutOfMemory),
-    }
+    let Ok(mut input) = BufReader::new(rt.alloc(), PatientInput::new(rt)) else {
+        return Err(CommandRefusal::from(HostError::OutOfMemory));
+    };
+    let debugged = debug_program(
+        rt.alloc(),
+        file,
+        cpu,
+        list,
+        &mut files,
+        &mut input,
+        &mut screen,
+    );
+    files.end(debugged)
 }
 
 /// Does what words ask for, which begin with the program's own name.
@@ -172,17 +183,17 @@ fn do_task(
     match task {
         Task::Com(task) => com(rt, outputs, task, terminals),
         Task::Asm { source, out, list } => asm(rt, outputs, source, out, *list),
-        Task::List { file, cpu } => Ok(list(rt, file, *cpu)?),
-        Task::Check { image } => Ok(check(rt, image)?),
-        Task::Run(task) => run_sessions(rt, outputs, task, terminals),
-        Task::Debug { file, cpu, list } => Ok(debug(rt, file, *cpu, *list, terminals)?),
+        Task::List { file, cpu } => list(rt, outputs, file, *cpu),
+        Task::Check { image } => check(rt, outputs, image),
+        Task::Run(task) => run(rt, outputs, task, terminals),
+        Task::Debug { file, cpu, list } => debug(rt, outputs, file, *cpu, *list, terminals),
         Task::Disk(task) => do_disk(rt, outputs, task),
         Task::Help(page) => Ok(print(rt, page_text(*page))?),
     }
 }
 
 /// Does what the words of the command line ask for.
-fn run(
+fn do_line(
     rt: &(impl LockableFiles + Env + Input),
     outputs: Outputs,
     terminals: Terminals,
@@ -228,11 +239,11 @@ fn main(rt: HostRuntime) -> ExitCode {
         is_error_terminal: rt.stderr().is_terminal(),
     };
     let outputs = Outputs::draw(&rt, process::id(rt.process()));
-    match run(&rt, outputs, terminals) {
+    match do_line(&rt, outputs, terminals) {
         Ok(code) => code,
         Err(refused) => {
             let _ = eprintln!(PatientError::new(&rt); "cpmhost: {refused}");
-            ExitCode::from(refused.error.status())
+            ExitCode::from(refused.error.code().status())
         }
     }
 }

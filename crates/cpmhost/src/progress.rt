@@ -1,14 +1,22 @@
 //! How far sessions have come, told on standard error.
 
 use crate::held::LockableFiles;
-use crate::patient::{PatientError, PatientOutput, StandardError};
+use crate::patient::{PatientError, PatientOutput};
+use crate::refused::PathLine;
 use crate::typing::{Terminals, tell_full, tell_quit};
-use cpm_host::{Config, MOST_KEYS, Progress, RunStage, RunWatcher, SessionConfig, Watcher};
+use arrayvec::{ArrayString, ArrayVec};
+use cpm_commands::SessionsWatcher;
+use cpm_host::{Config, Progress, RunStage, RunWatcher, Watcher};
 use std::cell::Cell;
 use std::io::Write;
 
 /// How often it is told at most: each time that they are so much of the whole further.
 const PARTS: u128 = 50;
+
+/// How many sessions a run has at most, and how long their names are.
+const MOST_SESSIONS: usize = 64;
+
+const MOST_NAME: usize = 16;
 
 /// How progress is told.
 #[derive(Clone, Copy, Debug, PartialEq, Eq, Drop)]
@@ -33,67 +41,90 @@ impl Form {
 
 /// Of whom it is told.
 #[derive(Clone, Copy, Debug, Drop)]
-pub enum Audience<'a> {
-    Program,
-    /// The sessions of a configuration.
-    Sessions(&'a Config),
-    /// One of its sessions, which is played by itself.
-    Alone(&'a SessionConfig),
+enum Audience {
+    /// A program, or all sessions of a run.
+    All,
+    /// The session at a place, which is played by itself.
+    Alone(usize),
 }
 
-/// Tells how far the sessions of a configuration, one of them, or a program, have come.
+/// Tells how a run goes on: how far its sessions have come, and how typing begins and ends where one types.
 #[derive(Drop)]
-pub struct Teller<'a, R: StandardError> {
+pub struct Teller<'a, R: LockableFiles> {
     rt: &'a R,
-    whom: Audience<'a>,
     form: Form,
+    terminals: Terminals,
+    whom: Audience,
+    /// The names of the sessions; none where a program is run.
+    names: ArrayVec<ArrayString<MOST_NAME>, MOST_SESSIONS>,
     /// How many parts were told.
     told: u128,
-    /// Whether what comes next begins a line, where others write to the same terminal.
-    is_at_line_start: Option<&'a Cell<bool>>,
+    /// Whether one types.
+    is_typing: bool,
+    /// Whether what comes next on standard output begins a line.
+    is_at_line_start: &'a Cell<bool>,
+    /// How many keys were typed, and how many are at most.
+    keys: &'a Cell<usize>,
+    most_keys: usize,
 }
 
-impl<'a, R: StandardError> Teller<'a, R> {
-    pub fn new(rt: &'a R, whom: Audience<'a>, form: Form) -> Teller<'a, R> {
+impl<'a, R: LockableFiles> Teller<'a, R> {
+    /// Nothing is told yet.
+    pub fn new(
+        rt: &'a R,
+        form: Form,
+        terminals: Terminals,
+        is_at_line_start: &'a Cell<bool>,
+        keys: &'a Cell<usize>,
+        most_keys: usize,
+    ) -> Teller<'a, R> {
         Teller {
             rt,
-            whom,
             form,
+            terminals,
+            whom: Audience::All,
+            names: ArrayVec::new(),
             told: 0,
-            is_at_line_start: None,
+            is_typing: false,
+            is_at_line_start,
+            keys,
+            most_keys,
         }
     }
 
-    /// The same on a terminal that others write to as well.
-    pub fn beside(self, is_at_line_start: &'a Cell<bool>) -> Teller<'a, R> {
-        Teller {
-            is_at_line_start: Some(is_at_line_start),
-            ..self
-        }
-    }
-
-    /// Notes whether what comes next begins a line.
+    /// Notes whether what comes next begins a line, where standard output is on the same screen.
     fn note(&self, is_at_line_start: bool) {
-        if let Some(noted) = self.is_at_line_start {
-            noted.set(is_at_line_start);
+        if self.terminals.are_one() {
+            self.is_at_line_start.set(is_at_line_start);
         }
     }
 
     /// Whether the line of a terminal on which it is told isn't ended. One who wrote there since may have ended it.
     fn is_in_line(&self) -> bool {
-        let is_ended = match self.is_at_line_start {
-            Some(noted) => noted.get(),
-            None => false,
-        };
+        let is_ended = self.terminals.are_one() && self.is_at_line_start.get();
         self.form == Form::InPlace && self.told > 0 && !is_ended
     }
 
-    /// Ends the line of a terminal.
-    pub fn end(&self) {
+    /// Ends what is told. At a terminal what comes after a session that was typed at begins on a line of its own.
+    pub fn end_stage(&mut self) {
+        if self.is_typing {
+            self.is_typing = false;
+            self.end_typing();
+        }
         if self.is_in_line() {
             let _ = eprintln!(PatientError::new(self.rt));
             self.note(true);
         }
+    }
+
+    /// Ends the line of a session that was typed at, and tells where no more was typed since a script has not more keys.
+    fn end_typing(&self) {
+        if self.terminals.is_output_terminal && !self.is_at_line_start.get() {
+            // (where this fails, so does the report, which says it)
+            let _ = PatientOutput::new(self.rt).write_all(b"\n");
+            self.is_at_line_start.set(true);
+        }
+        tell_full(self.rt, self.keys.get(), self.most_keys);
     }
 
     /// Tells of so many parts.
@@ -104,17 +135,19 @@ impl<'a, R: StandardError> Teller<'a, R> {
             Form::InPlace => ("\r", "\x1b[K"),
             _ => ("", "\n"),
         };
-        match self.whom {
-            Audience::Program => self.tell_program(before, percent, behind),
-            Audience::Alone(session) => {
-                self.tell_alone(before, percent, session.name.as_str(), behind);
+        let place = match self.whom {
+            Audience::Alone(place) => place,
+            Audience::All => progress.slowest,
+        };
+        match (self.whom, self.names.get(place)) {
+            (Audience::Alone(_), Some(name)) => {
+                self.tell_alone(before, percent, name.as_str(), behind);
             }
-            Audience::Sessions(config) => match config.sessions.get(progress.slowest) {
-                Some(slowest) if progress.ended < progress.sessions => {
-                    self.tell_slowest(before, percent, progress, slowest.name.as_str(), behind);
-                }
-                _ => self.tell_ended(before, percent, progress, behind),
-            },
+            (Audience::All, Some(name)) if progress.ended < progress.sessions => {
+                self.tell_slowest(before, percent, progress, name.as_str(), behind);
+            }
+            (Audience::All, Some(_)) => self.tell_ended(before, percent, progress, behind),
+            (_, None) => self.tell_program(before, percent, behind),
         }
     }
 
@@ -150,7 +183,7 @@ impl<'a, R: StandardError> Teller<'a, R> {
     }
 }
 
-impl<R: StandardError> Watcher for Teller<'_, R> {
+impl<R: LockableFiles> Watcher for Teller<'_, R> {
     fn is_watching(&self) -> bool {
         self.form != Form::Silent
     }
@@ -167,88 +200,41 @@ impl<R: StandardError> Watcher for Teller<'_, R> {
     }
 }
 
-/// Tells how a run goes on: how far its sessions have come, and first that one types, where one does.
-#[derive(Drop)]
-pub struct RunTeller<'a, R: LockableFiles> {
-    rt: &'a R,
-    config: &'a Config,
-    form: Form,
-    teller: Teller<'a, R>,
-    terminals: Terminals,
-    /// Whether one types.
-    is_typing: bool,
-    /// Whether what comes next on standard output begins a line.
-    is_at_line_start: &'a Cell<bool>,
-    /// How many keys were typed.
-    keys: &'a Cell<usize>,
-}
-
-impl<'a, R: LockableFiles> RunTeller<'a, R> {
-    /// Nothing is told yet.
-    pub fn new(
-        rt: &'a R,
-        config: &'a Config,
-        form: Form,
-        terminals: Terminals,
-        is_at_line_start: &'a Cell<bool>,
-        keys: &'a Cell<usize>,
-    ) -> RunTeller<'a, R> {
-        RunTeller {
-            rt,
-            config,
-            form,
-            teller: Teller::new(rt, Audience::Sessions(config), form),
-            terminals,
-            is_typing: false,
-            is_at_line_start,
-            keys,
-        }
-    }
-
-    /// Ends what is told. At a terminal what comes after a session that was typed at begins on a line of its own.
-    pub fn end(&mut self) {
-        if self.is_typing {
-            self.is_typing = false;
-            self.end_typing();
-        }
-        self.teller.end();
-    }
-
-    /// Ends the line of a session that was typed at, and tells where no more was typed since a script has not more keys.
-    fn end_typing(&self) {
-        if self.terminals.is_output_terminal && !self.is_at_line_start.get() {
-            // (where this fails, so does the report, which says it)
-            let _ = PatientOutput::new(self.rt).write_all(b"\n");
-        }
-        tell_full(self.rt, self.keys.get(), MOST_KEYS);
-    }
-}
-
-impl<R: LockableFiles> Watcher for RunTeller<'_, R> {
-    fn is_watching(&self) -> bool {
-        self.teller.is_watching()
-    }
-
-    fn see(&mut self, progress: Progress) {
-        self.teller.see(progress);
-    }
-}
-
-impl<R: LockableFiles> RunWatcher for RunTeller<'_, R> {
+impl<R: LockableFiles> RunWatcher for Teller<'_, R> {
     fn begin(&mut self, stage: RunStage) {
-        self.end();
-        let whom = match stage {
+        self.end_stage();
+        self.told = 0;
+        self.whom = match stage {
             RunStage::Typing => {
                 self.is_typing = true;
                 tell_quit(self.rt);
-                return;
+                Audience::All
             }
-            RunStage::Alone(place) => match self.config.sessions.get(place) {
-                Some(session) => Audience::Alone(session),
-                None => Audience::Sessions(self.config),
-            },
-            RunStage::All => Audience::Sessions(self.config),
+            RunStage::Alone(place) => Audience::Alone(place),
+            RunStage::All => Audience::All,
         };
-        self.teller = Teller::new(self.rt, whom, self.form);
+    }
+}
+
+impl<R: LockableFiles> SessionsWatcher for Teller<'_, R> {
+    fn meet(&mut self, config: &Config) {
+        for session in &config.sessions {
+            // (a configuration has no more sessions, and no longer names)
+            if let Ok(name) = ArrayString::from(session.name.as_str()) {
+                let _ = self.names.try_push(name);
+            }
+        }
+    }
+
+    fn end(&mut self, kept: Option<&str>) {
+        self.end_stage();
+        if let Some(script) = kept
+            && self.keys.get() == 0
+        {
+            let path = PathLine(script);
+            let _ = eprintln!(PatientError::new(self.rt);
+                "cpmhost: no key came, so '{path}' is as it was"
+            );
+        }
     }
 }

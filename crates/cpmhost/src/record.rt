@@ -1,11 +1,11 @@
 //! Where keys are recorded that are typed: in a file beside that of the record, which takes its name when typing has ended. So a record is whole or as it was.
 
-use crate::files::unwritable;
 use crate::held::LockableFiles;
 use crate::output::{OutputFile, Outputs};
 use crate::patient::PatientError;
 use crate::refused::{CommandRefusal, PathLine, RefusalDetail};
-use cpm_host::{HostError, MOST_KEYS};
+use cpm_commands::KeyRecord;
+use cpm_host::HostError;
 use std::cell::Cell;
 use std::io;
 use std::io::Write;
@@ -14,88 +14,96 @@ use std::io::Write;
 #[derive(Drop)]
 pub struct Record<'a, R: LockableFiles> {
     rt: &'a R,
+    outputs: Outputs,
+    name: Option<&'a str>,
+    /// What is written beside the file of the name, from the first key on.
     begun: Option<OutputFile<'a, R>>,
     /// How many keys it got.
     keys: &'a Cell<usize>,
+    /// Where the keys are if they can't have their name.
+    left: RefusalDetail,
 }
 
-/// The record in the file of a name, which stays as it is until the record has ended; or none. Its keys are counted.
-pub fn record_in<'a, R: LockableFiles>(
-    rt: &'a R,
-    outputs: Outputs,
-    name: Option<&str>,
-    keys: &'a Cell<usize>,
-) -> Result<Record<'a, R>, CommandRefusal> {
-    let begun = match name {
-        None => None,
-        Some(name) => match outputs.begin(rt, name) {
-            Ok(begun) => Some(begun),
-            Err(reason) => return Err(CommandRefusal::from(unwritable(name, reason))),
-        },
-    };
-    Ok(Record { rt, begun, keys })
-}
-
-impl<R: LockableFiles> Record<'_, R> {
-    /// How many keys it takes: a script has not more.
-    pub fn most_keys(&self) -> usize {
-        if self.begun.is_some() {
-            MOST_KEYS
-        } else {
-            usize::MAX
+impl<'a, R: LockableFiles> Record<'a, R> {
+    /// The record in the file of a name, which stays as it is until the record has ended; or none. Its keys are counted.
+    pub fn new(
+        rt: &'a R,
+        outputs: Outputs,
+        name: Option<&'a str>,
+        keys: &'a Cell<usize>,
+    ) -> Record<'a, R> {
+        Record {
+            rt,
+            outputs,
+            name,
+            begun: None,
+            keys,
+            left: RefusalDetail::Nothing,
         }
     }
 
-    /// Ends the record of what came so: it takes its name where that was played to its end. Else the keys so far are left beside, which is said. A record
-    /// without a key replaces none.
-    pub fn end<T: Drop>(self, played: Result<T, CommandRefusal>) -> Result<T, CommandRefusal> {
-        let Record { rt, begun, keys } = self;
-        let has_keys = keys.get() > 0;
-        let Some(begun) = begun else {
-            return played;
+    /// What is written beside the file, which is begun where it isn't yet.
+    fn take_begun(&mut self, name: &str) -> io::Result<OutputFile<'a, R>> {
+        match self.begun.take() {
+            Some(begun) => Ok(begun),
+            None => self.outputs.begin(self.rt, name),
+        }
+    }
+
+    /// What a command is refused for that ended so. Keys that were not to be found under their name by then are left beside, which is said.
+    pub fn finish<T: Drop>(self, ended: Result<T, CommandRefusal>) -> Result<T, CommandRefusal> {
+        let Record {
+            rt,
+            begun,
+            keys,
+            left,
+            ..
+        } = self;
+        let Err(refused) = ended else {
+            return ended;
         };
-        match played {
-            Ok(played) if !has_keys && begun.is_to_replace() => {
-                let _ = eprintln!(PatientError::new(rt);
-                    "cpmhost: no key came, so the record is as it was"
-                );
-                let _ = begun.remove();
-                Ok(played)
+        if let Some(begun) = begun
+            && let RefusalDetail::Kept(path) = leave(rt, begun, keys.get() > 0)
+        {
+            let path = PathLine(path.as_path().as_str());
+            let _ = eprintln!(PatientError::new(rt); "cpmhost: the keys so far are in '{path}'");
+        }
+        match (refused.error, left) {
+            (error @ HostError::RecordUnwritable(_), behind @ RefusalDetail::Kept(_)) => {
+                Err(CommandRefusal { error, behind })
             }
-            Ok(played) => {
-                take_name(rt, begun, has_keys)?;
-                Ok(played)
-            }
-            Err(error) => {
-                if let RefusalDetail::Kept(path) = left(rt, begun, has_keys) {
-                    let path = PathLine(path.as_path().as_str());
-                    let _ = eprintln!(PatientError::new(rt);
-                        "cpmhost: the keys so far are in '{path}'"
-                    );
-                }
-                Err(error)
-            }
+            _ => Err(refused),
         }
     }
 }
 
-/// Gives a record its name, once it is on the device.
-fn take_name<R: LockableFiles>(
-    rt: &R,
-    begun: OutputFile<'_, R>,
-    has_keys: bool,
-) -> Result<(), CommandRefusal> {
-    match begun.take_name() {
-        Ok(()) => Ok(()),
-        Err(reason) => Err(CommandRefusal {
-            error: HostError::RecordUnwritable(reason),
-            behind: left(rt, begun, has_keys),
-        }),
+impl<R: LockableFiles> KeyRecord for Record<'_, R> {
+    /// It takes its name. A record without a key replaces none.
+    fn end(&mut self) -> Result<(), HostError> {
+        let Some(name) = self.name else {
+            return Ok(());
+        };
+        let has_keys = self.keys.get() > 0;
+        let begun = self.take_begun(name).map_err(HostError::RecordUnwritable)?;
+        if !has_keys && begun.is_to_replace() {
+            let _ = eprintln!(PatientError::new(self.rt);
+                "cpmhost: no key came, so the record is as it was"
+            );
+            let _ = begun.remove();
+            return Ok(());
+        }
+        match begun.take_name() {
+            Ok(()) => Ok(()),
+            Err(reason) => {
+                self.left = leave(self.rt, begun, has_keys);
+                Err(HostError::RecordUnwritable(reason))
+            }
+        }
     }
 }
 
 /// Leaves the file of a record beside where it has keys, under a name that a person can see, and takes it away where it has none.
-fn left<R: LockableFiles>(rt: &R, begun: OutputFile<'_, R>, has_keys: bool) -> RefusalDetail {
+fn leave<R: LockableFiles>(rt: &R, begun: OutputFile<'_, R>, has_keys: bool) -> RefusalDetail {
     let Some(beside) = begun.close() else {
         return RefusalDetail::Nothing;
     };
@@ -109,18 +117,25 @@ fn left<R: LockableFiles>(rt: &R, begun: OutputFile<'_, R>, has_keys: bool) -> R
     }
 }
 
+impl<R: LockableFiles> Record<'_, R> {
+    /// Writes some of the bytes, and says how many.
+    fn write_some(&mut self, buf: &[u8]) -> io::Result<usize> {
+        let Some(name) = self.name else {
+            return Ok(buf.len());
+        };
+        let mut begun = self.take_begun(name)?;
+        let written = begun.write(buf);
+        self.begun = Some(begun);
+        written
+    }
+}
+
 impl<R: LockableFiles> Write for Record<'_, R> {
     fn write(&mut self, buf: &[u8]) -> io::Result<usize> {
-        let written = match &mut self.begun {
-            Some(begun) => begun.write(buf)?,
-            None => buf.len(),
-        };
+        let written = self.write_some(buf)?;
+        let written = written.min(buf.len());
         // (each key is a line)
-        let lines = buf
-            .iter()
-            .take(written)
-            .filter(|byte| **byte == b'\n')
-            .count();
+        let lines = buf[..written].iter().filter(|byte| **byte == b'\n').count();
         self.keys.set(self.keys.get().saturating_add(lines));
         Ok(written)
     }

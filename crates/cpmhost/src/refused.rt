@@ -1,7 +1,6 @@
 //! A refusal with what the machine says of it.
 ghost use Rattle.std.specs.Prelude.{◌≡◌};
 
-use cpm_disk_commands::DiskCommandError;
 use cpm_host::{HostError, ShownWord, shown};
 use std::alloc::{AllocError, AllocFailed};
 use std::path::PathBuf;
@@ -17,6 +16,8 @@ pub enum RefusalDetail {
     Output(ShownWord),
     /// The input of this name is the same file.
     Input(ShownWord),
+    /// It is a pipe, which is named twice.
+    NamedTwice,
     /// The file is there, and is not to be replaced.
     Present,
     /// The file lies in none of the folders that a run may use.
@@ -46,6 +47,33 @@ impl fmt::Display for PathLine<'_> {
     }
 }
 
+impl fmt::Display for RefusalDetail {
+    fn fmt<W: fmt::Write>(&self, f: &mut fmt::Formatter<W>) -> fmt::Result {
+        match self {
+            RefusalDetail::Nothing => Ok(()),
+            RefusalDetail::Reason(reason) => write!(f, ": {reason}"),
+            RefusalDetail::Output(other) => write!(f, " and '{other}': they are one file"),
+            RefusalDetail::Input(other) => write!(
+                f,
+                " over the input '{other}': they are one file"
+            ),
+            RefusalDetail::NamedTwice => write!(
+                f,
+                ": it is a pipe, which gives its bytes only once, and it is named twice"
+            ),
+            RefusalDetail::Present => write!(f, ": it is there; --force replaces it"),
+            RefusalDetail::Outside => write!(f, ": it is not in the folders of --within"),
+            RefusalDetail::NotRegular => write!(f, ": it is no regular file, as --within wants"),
+            RefusalDetail::NotPlain => write!(f, ": it is no plain name, as --outputs-here wants"),
+            RefusalDetail::Kept(path) => {
+                let path = PathLine(path.as_path().as_str());
+                write!(f, "; the new bytes are in '{path}'; move them yourself")
+            }
+            RefusalDetail::RunAgain => write!(f, "; run it again"),
+        }
+    }
+}
+
 /// Why a command is refused, on one line.
 #[derive(Debug, Drop)]
 pub struct CommandRefusal {
@@ -55,34 +83,9 @@ pub struct CommandRefusal {
 
 impl fmt::Display for CommandRefusal {
     fn fmt<W: fmt::Write>(&self, f: &mut fmt::Formatter<W>) -> fmt::Result {
-        let error = &self.error;
-        match &self.behind {
-            RefusalDetail::Nothing => write!(f, "{error}"),
-            RefusalDetail::Reason(reason) => write!(f, "{error}: {reason}"),
-            RefusalDetail::Output(other) => write!(f, "{error} and '{other}': they are one file"),
-            RefusalDetail::Input(other) => write!(
-                f,
-                "{error} over the input '{other}': they are one file"
-            ),
-            RefusalDetail::Present => write!(f, "{error}: it is there; --force replaces it"),
-            RefusalDetail::Outside => write!(f, "{error}: it is not in the folders of --within"),
-            RefusalDetail::NotRegular => write!(
-                f,
-                "{error}: it is no regular file, as --within wants"
-            ),
-            RefusalDetail::NotPlain => write!(
-                f,
-                "{error}: it is no plain name, as --outputs-here wants"
-            ),
-            RefusalDetail::Kept(path) => {
-                let path = PathLine(path.as_path().as_str());
-                write!(
-                    f,
-                    "{error}; the new bytes are in '{path}'; move them yourself"
-                )
-            }
-            RefusalDetail::RunAgain => write!(f, "{error}; run it again"),
-        }
+        let code = self.error.code();
+        let (error, behind) = (&self.error, &self.behind);
+        write!(f, "{code} {error}{behind}")
     }
 }
 
@@ -92,12 +95,6 @@ impl From<HostError> for CommandRefusal {
             error,
             behind: RefusalDetail::Nothing,
         }
-    }
-}
-
-impl From<DiskCommandError> for CommandRefusal {
-    fn from(error: DiskCommandError) -> CommandRefusal {
-        CommandRefusal::from(HostError::from(error))
     }
 }
 

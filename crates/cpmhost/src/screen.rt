@@ -1,5 +1,6 @@
 //! What standard output gets of a program's text.
 
+use cpm_commands::LineWriter;
 use std::cell::Cell;
 use std::fs::OpenOptions;
 use std::io::Write;
@@ -104,6 +105,15 @@ impl<W: Write + Drop> Write for Lines<'_, W> {
 
     fn flush(&mut self) -> io::Result<()> {
         self.writer.flush()
+    }
+}
+
+impl<W: Write + Drop> LineWriter for Lines<'_, W> {
+    fn end_line(&mut self) -> io::Result<()> {
+        if self.is_at_line_start.get() {
+            return Ok(());
+        }
+        self.write_all(b"\n")
     }
 }
 

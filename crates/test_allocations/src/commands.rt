@@ -8,7 +8,7 @@ use cpm_flags::Cpu;
 use cpm_geom::{Format, Image};
 use cpm_host::{
     Config, DebugError, HostError, MemoryStore, NoWatcher, ProgramStart, RunError, RunOptions,
-    Script, Tail, run_asm, run_com, run_debug, run_host, run_list, run_live, tail_of,
+    Source, Tail, run_asm, run_debug, run_host, run_list, run_program, tail_of,
 };
 use std::alloc::{AllocError, Global};
 use std::io;
@@ -54,33 +54,27 @@ pub fn tail(alloc: Global) -> CallOutcome {
     }
 }
 
-pub fn live(alloc: Global) -> Result<CallOutcome, AllocError> {
+pub fn typed(alloc: Global) -> Result<CallOutcome, AllocError> {
     let start = start(alloc)?;
+    let source = Source::Typed { most_keys: 10 };
     let mut input: &[u8] = b"a";
     let mut out = Counter { count: 0 };
     let mut record = Counter { count: 0 };
-    let live = run_live(alloc, start, 100, 10, &mut input, &mut out, &mut record);
-    Ok(match live {
+    let played = run_program(
+        alloc,
+        start,
+        100,
+        source,
+        &mut input,
+        &mut out,
+        &mut record,
+        &mut NoWatcher,
+    );
+    Ok(match played {
         Ok(typed) if typed.ran.ending.count == 7 && out.count == 1 => CallOutcome::Made,
         Err(HostError::OutOfMemory) => CallOutcome::Refused,
         _ => CallOutcome::Wrong,
     })
-}
-
-pub fn com(alloc: Global) -> Result<CallOutcome, AllocError> {
-    let start = start(alloc)?;
-    let script = Script {
-        name: "one.keys",
-        text: KEYS,
-    };
-    let mut out = Counter { count: 0 };
-    Ok(
-        match run_com(alloc, start, Some(script), 100, &mut out, &mut NoWatcher) {
-            Ok(ran) if ran.ending.count == 7 && out.count == 1 => CallOutcome::Made,
-            Err(HostError::OutOfMemory) => CallOutcome::refused_if(out.count == 0),
-            _ => CallOutcome::Wrong,
-        },
-    )
 }
 
 pub fn asm(alloc: Global) -> CallOutcome {

@@ -61,7 +61,7 @@ impl CallOutcome {
 }
 
 /// The calls, as they are named on the command line.
-const NAMES: [&str; 43] = [
+const NAMES: [&str; 42] = [
     "command",
     "FlatMemory::new",
     "FrameStore::new",
@@ -97,13 +97,12 @@ const NAMES: [&str; 43] = [
     "matching_files",
     "write_list",
     "tail_of",
-    "run_com",
-    "run_live",
     "run_asm",
     "run_debug",
     "run_list",
     "cues_of",
-    "run_waiting",
+    "run_program by a script",
+    "run_program by typed keys",
     "run_asm_listed",
 ];
 
@@ -141,13 +140,12 @@ fn make(alloc: Global, name: &str) -> Result<CallOutcome, AllocError> {
         | "matching_files"
         | "write_list" => disks::of_disk_commands(alloc, name),
         "tail_of" => Ok(commands::tail(alloc)),
-        "run_com" => commands::com(alloc),
-        "run_live" => commands::live(alloc),
         "run_asm" => Ok(commands::asm(alloc)),
         "run_debug" => commands::debug(alloc),
         "run_list" => Ok(commands::list()),
         "cues_of" => Ok(waiting::cues(alloc)),
-        "run_waiting" => waiting::com(alloc),
+        "run_program by a script" => waiting::program(alloc),
+        "run_program by typed keys" => commands::typed(alloc),
         "run_asm_listed" => Ok(waiting::listed_source(alloc)),
         _ => Ok(CallOutcome::Wrong),
     }

@@ -1,9 +1,11 @@
-//! Scripts that wait, a machine that is played by one, and a source with its listing.
+//! Scripts that wait, a program that is played by one, and a source with its listing.
 
 use crate::CallOutcome;
 use crate::commands::{Counter, start};
 use crate::texts::SOURCE;
-use cpm_host::{CuedKeys, HostError, NoWatcher, Script, cues_of, run_asm_listed, run_waiting};
+use cpm_host::{
+    CuedKeys, HostError, NoWatcher, Script, Source, cues_of, run_asm_listed, run_program,
+};
 use std::alloc::{AllocError, Global};
 
 /// A line of the command processor, and a key once its prompt is shown again.
@@ -12,10 +14,10 @@ const WAITS: Script<'static> = Script {
     text: b"wait DIR^M\nexpect \"A>\" B\n",
 };
 
-/// A key once a text is shown that the program doesn't show.
+/// A key before the program ends, and one once a text is shown that the program doesn't show.
 const EXPECTS: Script<'static> = Script {
     name: "expects.keys",
-    text: b"expect \"B\" C\n",
+    text: b"2 A\nexpect \"B\" C\n",
 };
 
 pub fn cues(alloc: Global) -> CallOutcome {
@@ -26,33 +28,39 @@ pub fn cues(alloc: Global) -> CallOutcome {
     }
 }
 
-pub fn com(alloc: Global) -> Result<CallOutcome, AllocError> {
+pub fn program(alloc: Global) -> Result<CallOutcome, AllocError> {
     let start = start(alloc)?;
     let Ok(cues) = cues_of(alloc, EXPECTS) else {
         return Err(AllocError);
     };
-    let cued = CuedKeys {
+    let source = Source::Cues(CuedKeys {
         cues: cues.as_slice(),
         waits_from: 0,
         stops_idle: true,
-    };
+    });
+    let mut input: &[u8] = &[];
     let mut out = Counter { count: 0 };
     let mut record = Counter { count: 0 };
-    Ok(
-        match run_waiting(
-            alloc,
-            start,
-            100,
-            cued,
-            &mut out,
-            &mut record,
-            &mut NoWatcher,
-        ) {
-            Ok(typed) if typed.ran.ending.count == 7 && out.count == 1 => CallOutcome::Made,
-            Err(HostError::OutOfMemory) => CallOutcome::refused_if(record.count == 0),
-            _ => CallOutcome::Wrong,
-        },
-    )
+    let played = run_program(
+        alloc,
+        start,
+        100,
+        source,
+        &mut input,
+        &mut out,
+        &mut record,
+        &mut NoWatcher,
+    );
+    Ok(match played {
+        Ok(played) if played.ran.ending.count == 7 && out.count == 1 && record.count > 0 => {
+            CallOutcome::Made
+        }
+        // (what was shown is kept behind the key, and that takes memory too)
+        Err(HostError::OutOfMemory) => {
+            CallOutcome::refused_if((record.count > 0) == (out.count > 0))
+        }
+        _ => CallOutcome::Wrong,
+    })
 }
 
 pub fn listed_source(alloc: Global) -> CallOutcome {

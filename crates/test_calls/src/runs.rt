@@ -56,11 +56,12 @@ fn reads_no_more_than_a_file_may_have(rt: HostRuntime) {
     same(&rt, error.kind(), ErrorKind::Other);
 }
 
-/// Compares the statuses and the texts of errors with what is wanted.
+/// Compares the statuses of errors, and their texts after their codes, with what is wanted.
 fn same_errors(rt: &(impl Abort + AllocGlobal), errors: &[(HostError, u8, &str)]) {
     for (error, status, wanted) in errors {
-        same_at(rt, *wanted, error.status(), *status);
-        let text = error.to_string(rt.alloc()).expect(rt, "memory");
+        let code = error.code();
+        same_at(rt, *wanted, code.status(), *status);
+        let text = format!(in rt.alloc(); "{code} {error}").expect(rt, "memory");
         same(rt, text.as_str(), *wanted);
     }
 }
@@ -250,7 +251,7 @@ fn is_refused(rt: &(impl Abort + AllocGlobal), config: &Config) {
         &mut NoWatcher,
     ) {
         Ok(_) => panic!(rt; "run"),
-        Err(error) => same(rt, error.status(), 2),
+        Err(error) => same(rt, error.code().status(), 2),
     }
     same(rt, input.len(), 4);
     same(rt, out.len(), 0);

@@ -119,8 +119,9 @@ fn is_refused<I: Read, W: Write, R: Write>(
     ) {
         Ok(_) => panic!(rt; "run"),
         Err(error) => {
-            same(rt, error.status(), status);
-            let text = error.to_string(alloc).expect(rt, "memory");
+            let code = error.code();
+            same(rt, code.status(), status);
+            let text = format!(in alloc; "{code} {error}").expect(rt, "memory");
             same(rt, text.as_str(), wanted);
         }
     }

@@ -92,10 +92,11 @@ impl Batches {
         }
     }
 
-    /// Answers a refusal, and keeps its status.
+    /// Answers a refusal with its code, and keeps its status.
     fn refuse(&mut self, alloc: Global, error: ReadError) -> Result<RowAnswer, RowFault> {
-        self.status = Some(error.status());
-        RowAnswer::refused_text(alloc, &error)
+        let code = error.code();
+        self.status = Some(code.status());
+        Ok(RowAnswer::Refused(format!(in alloc; "{code} {error}")?))
     }
 
     /// `outputs CONSOLE LIST IMAGES`: the files that are written, each with its length, where each session left these texts and

@@ -98,10 +98,11 @@ impl DiskCommands {
         Ok(RowAnswer::Done)
     }
 
-    /// A refusal, whole.
+    /// A refusal, whole: its code and its text.
     fn refused(&mut self, alloc: Global, error: DiskCommandError) -> Result<RowAnswer, RowFault> {
-        self.status = Some(error.status());
-        RowAnswer::refused_text(alloc, error)
+        let code = error.code();
+        self.status = Some(code.status());
+        Ok(RowAnswer::Refused(format!(in alloc; "{code} {error}")?))
     }
 
     /// Does a line that makes an image or changes one: `new IMAGE [large]`, `image-of IMAGE BYTES`, `put IMAGE NAME BYTES`,

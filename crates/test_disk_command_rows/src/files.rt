@@ -36,7 +36,10 @@ pub fn lines_of(
     let mut out: Vec<u8> = Vec::new(alloc);
     match write_list(alloc, format, listing, user, &mut out) {
         Ok(()) => Ok(RowAnswer::Bytes(out)),
-        Err(error) => RowAnswer::refused_text(alloc, error),
+        Err(error) => {
+            let code = error.code();
+            Ok(RowAnswer::Refused(format!(in alloc; "{code} {error}")?))
+        }
     }
 }
 

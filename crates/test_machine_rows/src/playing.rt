@@ -3,10 +3,9 @@
 use crate::machines::{MachineParts, Machines};
 use cpm_geom::Image;
 use cpm_machine::Machine;
-use cpm_play::laws::scripts_in_order;
-use cpm_play::{CuedKeys, LivePlay, NoWatcher, play_cues, play_live, play_machine};
+use cpm_play::{CuedKeys, LivePlay, NoWatcher, play_cues, play_live};
 use cpm_script::laws::cues_in_order;
-use cpm_script::{read_cues, read_keys};
+use cpm_script::read_cues;
 use std::alloc::Global;
 use test_language::{RowAnswer, RowFault, RowLine, Word, count, number};
 
@@ -116,10 +115,16 @@ impl Machines {
         let Some(start) = &self.start else {
             return Err(RowFault::Absent);
         };
-        let record = self.play.record.as_slice();
-        let (machine, text) = by_record(alloc, &self.system, start, record, self.play.steps)?;
-        self.put(machine);
-        Ok(RowAnswer::Bytes(text))
+        let played = by_script(
+            alloc,
+            &self.system,
+            start,
+            self.play.steps,
+            self.play.record.as_slice(),
+            (0, false),
+        )?;
+        self.put(played.machine);
+        Ok(RowAnswer::Bytes(played.text))
     }
 }
 
@@ -194,35 +199,6 @@ fn by_keys(
             record,
             steps,
         }),
-        Err(_) => Err(RowFault::OutOfMemory),
-    }
-}
-
-/// Plays a machine by a record of keys. The machine, and what it shows.
-fn by_record(
-    alloc: Global,
-    system: &Image,
-    start: &MachineParts,
-    record: &[u8],
-    steps: u64,
-) -> Result<(Machine, Vec<u8>), RowFault> {
-    let Ok(keys) = read_keys(alloc, record) else {
-        return Err(RowFault::Unready);
-    };
-    let Ok(mut machine) = start.machine(alloc)? else {
-        return Err(RowFault::Unready);
-    };
-    scripts_in_order();
-    let mut text = Vec::new(alloc);
-    match play_machine(
-        system,
-        &mut machine,
-        keys.as_slice(),
-        steps,
-        &mut text,
-        &mut NoWatcher,
-    ) {
-        Ok(()) => Ok((machine, text)),
         Err(_) => Err(RowFault::OutOfMemory),
     }
 }

@@ -2,7 +2,7 @@
 
 use crate::programs::Programs;
 use cpm_geom::Image;
-use cpm_host::LiveResult;
+use cpm_host::ProgramPlay;
 use std::alloc::Global;
 use test_language::{RowAnswer, RowFault, RowLine, Word, count};
 
@@ -23,7 +23,7 @@ impl Programs {
     }
 
     /// What the last program came to.
-    pub(crate) fn played(&self) -> Result<&LiveResult, RowFault> {
+    pub(crate) fn played(&self) -> Result<&ProgramPlay, RowFault> {
         match &self.played {
             Some(typed) => Ok(typed),
             None => Err(RowFault::Absent),

@@ -3,10 +3,11 @@
 use crate::programs::Programs;
 use cpm_geom::Image;
 use cpm_host::{
-    CuedKeys, HostError, LiveResult, MOST_KEYS, NoWatcher, ProgramStart, Script, cues_of, run_com,
-    run_live, run_waiting,
+    CuedKeys, HostError, MOST_KEYS, NoWatcher, ProgramPlay, ProgramStart, Script, Source, cues_of,
+    run_program,
 };
 use std::alloc::Global;
+use std::io::Write;
 use test_language::{RowAnswer, RowFault, RowLine, Word};
 
 /// The file of the key script.
@@ -54,7 +55,7 @@ impl Programs {
     fn keep(
         &mut self,
         alloc: Global,
-        outcome: Result<LiveResult, HostError>,
+        outcome: Result<ProgramPlay, HostError>,
     ) -> Result<RowAnswer, RowFault> {
         match outcome {
             Ok(typed) => {
@@ -67,55 +68,20 @@ impl Programs {
         }
     }
 
-    /// `com`: runs the program by the keys of the script. `com waiting`: the script may wait. `com stop-idle`: and the program stops where it waits for a
-    /// key and none will come. How it ended.
+    /// `com`: runs the program by its script. `com stop-idle`: and it stops where it waits for a key and none will come. How it ended.
     fn com(&mut self, alloc: Global, arguments: &[Word<'_>]) -> Result<RowAnswer, RowFault> {
+        let stops_idle = match arguments {
+            [] => false,
+            [word] if word.text == "stop-idle" => true,
+            _ => return Err(RowFault::Words),
+        };
         let start = self.start(alloc)?;
         self.out.bytes.clear();
         self.record.clear();
-        let outcome = match arguments {
-            [] => self.run(alloc, start),
-            [word] if word.text == "waiting" => self.run_waiting(alloc, start, false),
-            [word] if word.text == "stop-idle" => self.run_waiting(alloc, start, true),
-            _ => return Err(RowFault::Words),
-        };
-        self.keep(alloc, outcome)
-    }
-
-    /// Runs the program by the keys of the script.
-    fn run(&mut self, alloc: Global, start: ProgramStart) -> Result<LiveResult, HostError> {
-        let script = script_in(&self.keys);
-        let ran = run_com(
-            alloc,
-            start,
-            script,
-            self.steps,
-            &mut self.out,
-            &mut NoWatcher,
-        )?;
-        Ok(LiveResult {
-            steps: ran.ending.count,
-            ran,
-            keys: Vec::new(alloc),
-            waits: false,
-        })
-    }
-
-    /// Runs the program by the script, which may wait.
-    fn run_waiting(
-        &mut self,
-        alloc: Global,
-        start: ProgramStart,
-        stops_idle: bool,
-    ) -> Result<LiveResult, HostError> {
-        let cues = cues_of(alloc, script_of(KEYS, &self.keys))?;
-        let cued = CuedKeys {
-            cues: cues.as_slice(),
-            waits_from: 0,
-            stops_idle,
-        };
+        let script = script_of(KEYS, &self.keys);
         let (out, record) = (&mut self.out, &mut self.record);
-        run_waiting(alloc, start, self.steps, cued, out, record, &mut NoWatcher)
+        let outcome = by_script(alloc, start, self.steps, script, stops_idle, out, record);
+        self.keep(alloc, outcome)
     }
 
     /// `type BYTES`: these keys are typed at the program. How it ended.
@@ -124,9 +90,20 @@ impl Programs {
         let start = self.start(alloc)?;
         self.out.bytes.clear();
         self.record.clear();
+        let source = Source::Typed {
+            most_keys: MOST_KEYS,
+        };
         let mut input = keys.as_slice();
-        let (out, record) = (&mut self.out, &mut self.record);
-        let outcome = run_live(alloc, start, self.steps, MOST_KEYS, &mut input, out, record);
+        let outcome = run_program(
+            alloc,
+            start,
+            self.steps,
+            source,
+            &mut input,
+            &mut self.out,
+            &mut self.record,
+            &mut NoWatcher,
+        );
         self.keep(alloc, outcome)
     }
 
@@ -135,17 +112,18 @@ impl Programs {
         let start = self.start(alloc)?;
         let script = script_of("record", &self.record);
         let typed = self.played()?;
-        let mut again: Vec<u8> = Vec::new(alloc);
-        match run_com(
+        let (mut again, mut keys) = (Vec::new(alloc), Vec::new(alloc));
+        match by_script(
             alloc,
             start,
-            Some(script),
             typed.steps,
+            script,
+            false,
             &mut again,
-            &mut NoWatcher,
+            &mut keys,
         ) {
-            Ok(ran) => {
-                let is_same = ran.ending == typed.ran.ending
+            Ok(played) => {
+                let is_same = played.ran.ending == typed.ran.ending
                     && again.as_slice() == self.out.bytes.as_slice();
                 RowAnswer::truth(alloc, is_same)
             }
@@ -154,11 +132,31 @@ impl Programs {
     }
 }
 
-/// The script of these keys, if there are any.
-fn script_in(keys: &[u8]) -> Option<Script<'_>> {
-    if keys.is_empty() {
-        None
-    } else {
-        Some(script_of(KEYS, keys))
-    }
+/// Runs a program by a script.
+fn by_script<W: Write>(
+    alloc: Global,
+    start: ProgramStart,
+    steps: u64,
+    script: Script<'_>,
+    stops_idle: bool,
+    out: &mut W,
+    record: &mut Vec<u8>,
+) -> Result<ProgramPlay, HostError> {
+    let cues = cues_of(alloc, script)?;
+    let source = Source::Cues(CuedKeys {
+        cues: cues.as_slice(),
+        waits_from: 0,
+        stops_idle,
+    });
+    let mut nothing: &[u8] = &[];
+    run_program(
+        alloc,
+        start,
+        steps,
+        source,
+        &mut nothing,
+        out,
+        record,
+        &mut NoWatcher,
+    )
 }

@@ -4,7 +4,7 @@ use crate::given::{count_of, cpu_of};
 use crate::recorder::Recorder;
 use cpm_flags::Cpu;
 use cpm_geom::Image;
-use cpm_host::{HostError, LiveResult, Tail};
+use cpm_host::{HostError, ProgramPlay, Tail};
 use std::alloc::{AllocError, Global};
 use test_images::Images;
 use test_language::{RowAnswer, RowFault, RowLine, Scene};
@@ -29,7 +29,7 @@ pub struct Programs {
     pub(crate) out: Recorder,
     /// The record of the keys.
     pub(crate) record: Vec<u8>,
-    pub(crate) played: Option<LiveResult>,
+    pub(crate) played: Option<ProgramPlay>,
     /// The exit status of the last command.
     pub(crate) status: u8,
 }
@@ -121,13 +121,14 @@ impl Programs {
         Ok(RowAnswer::Done)
     }
 
-    /// Keeps the status of a refusal, and answers its text.
+    /// Keeps the status of a refusal, and answers its code and its text.
     pub(crate) fn refuse(
         &mut self,
         alloc: Global,
         error: HostError,
     ) -> Result<RowAnswer, RowFault> {
-        self.status = error.status();
-        RowAnswer::refused_text(alloc, &error)
+        let code = error.code();
+        self.status = code.status();
+        Ok(RowAnswer::Refused(format!(in alloc; "{code} {error}")?))
     }
 }

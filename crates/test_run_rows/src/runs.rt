@@ -107,7 +107,7 @@ fn run(
 fn status_of(outcome: &Result<Report, HostError>) -> u8 {
     match outcome {
         Ok(_) => 0,
-        Err(error) => error.status(),
+        Err(error) => error.code().status(),
     }
 }
 
@@ -213,10 +213,11 @@ impl Runs {
         Ok(RowAnswer::Done)
     }
 
-    /// Keeps the status of a refusal, and answers its text.
+    /// Keeps the status of a refusal, and answers its code and its text.
     fn refuse(&mut self, alloc: Global, error: HostError) -> Result<RowAnswer, RowFault> {
-        self.status = error.status();
-        RowAnswer::refused_text(alloc, &error)
+        let code = error.code();
+        self.status = code.status();
+        Ok(RowAnswer::Refused(format!(in alloc; "{code} {error}")?))
     }
 
     /// Runs the sessions of so many bytes of the configuration.

@@ -79,8 +79,9 @@ impl Programs {
         match run_check("d.img", bytes, &mut self.out) {
             Ok(()) => self.wrote(alloc, Ok(())),
             Err(error) => {
-                self.status = error.status();
-                RowAnswer::refused_text(alloc, &error)
+                let code = error.code();
+                self.status = code.status();
+                Ok(RowAnswer::Refused(format!(in alloc; "{code} {error}")?))
             }
         }
     }
@@ -98,8 +99,7 @@ impl Programs {
             Ok(()) => self.wrote(alloc, Ok(())),
             Err(error) => {
                 let answer = RowAnswer::refused_text(alloc, &error);
-                let error = HostError::from(error);
-                self.status = error.status();
+                self.status = HostError::from(error).code().status();
                 answer
             }
         }

@@ -1,8 +1,9 @@
-use Rattle.std.proofs.Common.{◌∙◌, ap, subst, List, map}
+use Rattle.std.proofs.Common.{◌∙◌, ℕ, ap, subst, List, map}
+use Rattle.cpm_config.specs.declared.config.SessionConfig.{SessionConfig}
 use Rattle.cpm_slots.specs.Host.{Host}
 use Rattle.cpm_machine.specs.declared.opening.OpenError.{OpenError}
-use Rattle.cpm_run.specs.Playing.{IsSessionsRefusal}
-use Rattle.cpm_run.specs.Run.{AllAccepted, HasForkRoom, IsFirstRefused, IsShortFor, fork_pages_in, forks_in}
+use Rattle.cpm_run.specs.Playing.{IsSessionsRefusal, IsSlotRefusal}
+use Rattle.cpm_run.specs.Run.{AllAccepted, HasForkRoom, IsFirstRefused, IsForkAt, IsShortFor, fork_pages_in, forks_in}
 use Rattle.cpm_run.proofs.play.prepare_host.Goals as goal
 use Rattle.cpm_run.specs.Settled.{settled_view, starts_of}
 use Rattle.cpm_batch.specs.Inputs.{StartInput}
@@ -17,7 +18,7 @@ pub returns-in-Ok-prepare_all-clause-short : goal.returns-in-Ok-prepare_all-clau
 returns-in-Ok-prepare_all-clause-short c =
     let inputs = map settled_view c.args.inputs.sessions.items in
     let now = c.prepare_all.new.host.host in
-    subst (λ (h : Host). (all : List StartInput) (fault : OpenError) → IsShortFor now (forks_in all) (fork_pages_in all) fault → IsFirstRefused all h (starts_of inputs) fault) c.in-Ok.ensures.made
+    subst (λ (h : Host). (all : List StartInput) (fault : OpenError) (place : ℕ) → IsForkAt all place → IsShortFor now (forks_in all) (fork_pages_in all) fault → IsFirstRefused all h 0 (starts_of inputs) fault place) c.in-Ok.ensures.made
     c.in-Ok-prepare_all.ensures.short
 
 pub returns-in-Ok-prepare_all-clause-system : goal.returns-in-Ok-prepare_all-clause-system
@@ -27,4 +28,5 @@ pub returns-in-Err-prepare_all-clause-refusal : goal.returns-in-Err-prepare_all-
 returns-in-Err-prepare_all-clause-refusal c =
     let inputs = map settled_view c.args.inputs.sessions.items in
     subst (λ (h : Host). IsSessionsRefusal c.args.config.now h (starts_of inputs) c.play_refusal.result) c.in-Ok.ensures.made
-    (c.play_refusal.ensures c.in-Ok.host.host (starts_of inputs) (c.in-Err-prepare_all.ensures.refusal (starts_of inputs)))
+    (c.play_refusal.ensures c.in-Ok.host.host (starts_of inputs)
+    (subst (λ (ss : List SessionConfig). IsSlotRefusal ss c.in-Ok.host.host (starts_of inputs) c.in-Err-prepare_all.error) c.requires.sessions c.in-Err-prepare_all.ensures.refusal))

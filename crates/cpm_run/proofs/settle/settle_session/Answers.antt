@@ -23,6 +23,7 @@ settle_part-requires-clause-fit g c =
 
 pub returns-clause-sound : goal.returns-clause-sound
 returns-clause-sound g c =
+    let long : c.len-before.result ≡ length c.in_ok-part.part.before.items = search rules in
     session_sound (typed_view c.args.typed.now) c.args.config.now.sessions.items (map settled_view c.args.settled.now) (given c.args.input) (part_view c.in_ok-part.part)
     (settled_view record {
       session = c.args.input.session;
@@ -32,4 +33,4 @@ returns-clause-sound g c =
       steps = c.in_ok-keys.field-0.steps;
       is_idle = c.in_ok-keys.field-0.is_idle;
     })
-    c.in_ok-part.ensures.part c.requires.sound c.requires.fit.parent refl c.in_ok-keys.ensures.sound
+    c.in_ok-part.ensures.part c.requires.sound c.requires.fit.parent refl long c.in_ok-keys.ensures.sound

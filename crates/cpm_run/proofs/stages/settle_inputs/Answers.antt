@@ -1,4 +1,4 @@
-use Rattle.std.proofs.Common.{◌≡◌, ◌∙◌, None, [], ap, inl, inr, map, option_map, subst}
+use Rattle.std.proofs.Common.{None, [], inl, inr, map, option_map, subst}
 use Rattle.std.proofs.lemmas.Result.{err_from_is_err_and}
 use Rattle.cpm_batch.specs.Inputs.{given}
 use Rattle.cpm_slots.specs.Host.{new_host}

@@ -1,4 +1,3 @@
-use Rattle.std.proofs.Common.{◌≡◌}
 use Rattle.std.proofs.lemmas.Result.{err_from_is_err_and}
 use Rattle.cpm_run.specs.Settled.{streams}
 use Rattle.cpm_run.proofs.TypedLemmas.{heard_at, here_openable, typed_here, typing_refused}

@@ -1,0 +1,46 @@
+-- What a run of sessions has come to.
+use Rattle.std.proofs.Common.{◌≡◌, inl, inr, ℕ, List, Some, subst, sym, String, Global}
+use Rattle.std.specs.Prelude.{Option, OnOk, Result, Ok, Err}
+use Rattle.cpm_command_line.specs.declared.task.RunTask.{RunTask}
+use Rattle.cpm_config.specs.declared.config.Config.{Config}
+use Rattle.cpm_host.specs.declared.error.HostError.{HostError}
+use Rattle.cpm_run.specs.Settled.{streams}
+use Rattle.cpm_run.specs.declared.report.Report.{Report}
+use Rattle.cpm_store.specs.Log.{StoreAccess}
+use Rattle.cpm_commands.specs.Plan.{Plan}
+use Rattle.cpm_commands.specs.Run.{AreScripts, HasRunAll, IsConfigRead, IsRunPrepared, IsRunStopped, IsRunUnseen, plan_by}
+use Rattle.cpm_commands.specs.Run.IsRunStopped.{NotBegun, NotSeen}
+
+-- the files were seen to by the names as they are lent
+pub prepared : {F : Type 0} (does : F → StoreAccess → F → Type 0) (sees_to : F → Plan → Option HostError → F → Type 0) (task : RunTask) (old known new : F) (config : Config)
+    (lent scripts : List (String Global)) (fault : Option HostError) → IsConfigRead does task.config.now old known config → AreScripts task config scripts → lent ≡ scripts
+    → sees_to known (plan_by task config lent) fault new → IsRunPrepared does sees_to task old new config scripts fault
+prepared does sees_to task old known new config lent scripts fault read named lent_is sees = record {
+  known = known;
+  read = read;
+  named = named;
+  sees = subst (λ (ss : List (String Global)). sees_to known (plan_by task config ss) fault new) lent_is sees;
+}
+
+-- they were not, or memory was refused before
+pub unseen : {F : Type 0} (does : F → StoreAccess → F → Type 0) (sees_to : F → Plan → Option HostError → F → Type 0) (gives_names : F → Option HostError → F → Type 0) (task : RunTask)
+    (old known new : F) (config : Config) (lent scripts : List (String Global)) (unread left before printed unrecorded record_now : Option (List ℕ)) (e : HostError)
+    → IsConfigRead does task.config.now old known config → AreScripts task config scripts → lent ≡ scripts → IsRunUnseen sees_to task config lent known new e
+    → IsRunStopped does sees_to gives_names task old new unread left before printed unrecorded record_now e
+unseen does sees_to gives_names task old known new config lent scripts unread left before printed unrecorded record_now e read named lent_is (inl h) =
+    NotBegun config (subst (λ x. IsConfigRead does task.config.now old x config) (sym h.1) read) h.0
+unseen does sees_to gives_names task old known new config lent scripts unread left before printed unrecorded record_now e read named lent_is (inr h) =
+    NotSeen config scripts (prepared does sees_to task old known new config lent scripts (Some e) read named lent_is h)
+
+-- the record of what is typed is as it was played
+pub played : {F : Type 0} (does : F → StoreAccess → F → Type 0) (task : RunTask) (config : Config) (lent scripts : List (String Global)) (report : Report)
+    (unread left before shown unrecorded recorded record_now : Option (List ℕ)) (seen ran : F) → lent ≡ scripts → record_now ≡ recorded
+    → HasRunAll does task config lent report (streams unread left before shown unrecorded recorded) seen ran
+    → HasRunAll does task config scripts report (streams unread left before shown unrecorded record_now) seen ran
+played does task config lent scripts report unread left before shown unrecorded recorded record_now seen ran lent_is record_is all =
+    subst (λ (r : Option (List ℕ)). HasRunAll does task config scripts report (streams unread left before shown unrecorded r) seen ran) (sym record_is)
+    (subst (λ (ss : List (String Global)). HasRunAll does task config ss report (streams unread left before shown unrecorded recorded) seen ran) lent_is all)
+
+pub done : {T E : Type 0} (r : Result T E) (P : Type 0) → P → OnOk r P
+done (Ok x) P p = p
+done (Err e) P p = tt

@@ -1,0 +1,87 @@
+use Rattle.std.proofs.Common.{List, None, String, Global, inl, inr, subst}
+use Rattle.std.proofs.lemmas.Result.{IfErr-weaker, err_from_is_err_and}
+use Rattle.cpm_run.specs.Settled.{streams}
+use Rattle.cpm_commands.specs.Record.{IsUnrecorded}
+use Rattle.cpm_commands.specs.Run.{IsRunAllStopped, IsRunStopped}
+use Rattle.cpm_commands.specs.Run.IsRunStopped.{NotEnded, NotRun}
+use Rattle.cpm_commands.proofs.RunLemmas.{done, played, prepared, unseen}
+use Rattle.cpm_commands.proofs.run.run_sessions.Goals as goal
+
+pub returns-in_err-see_to_run-clause-refusal : goal.returns-in_err-see_to_run-clause-refusal
+returns-in_err-see_to_run-clause-refusal g c =
+    let p = err_from_is_err_and c.from_residual-in_err-see_to_run.result c.from_residual-in_err-see_to_run.ensures.1 in
+    rw (p.1, p.2) (unseen g.F.Store.does g.F.CommandFiles.sees_to g.F.CommandFiles.gives_names c.args.task.now c.args.files.now c.read_config.new.files c.see_to_run.new.files
+    c.in_ok-config.config c.deref.result.now c.in_ok-scripts.scripts.items _ _ _ _ _ _ _ c.in_ok-config.ensures.read c.in_ok-scripts.ensures c.deref.ensures.value
+    c.in_err-see_to_run.ensures.refusal)
+
+pub returns-in_err-report-clause-refusal : goal.returns-in_err-report-clause-refusal
+returns-in_err-report-clause-refusal g c =
+    let p = err_from_is_err_and c.from_residual-in_err-report.result c.from_residual-in_err-report.ensures.1 in
+    let scripts = c.in_ok-scripts.scripts.items in
+    let config = c.in_ok-config.config in
+    let task = c.args.task.now in
+    let ready = prepared g.F.Store.does g.F.CommandFiles.sees_to task c.args.files.now c.read_config.new.files c.see_to_run.new.files config c.deref.result.now scripts None
+    c.in_ok-config.ensures.read c.in_ok-scripts.ensures c.deref.ensures.value c.in_ok-see_to_run.ensures.seen in
+    let io = streams (g.I.Read.remaining c.args.input.now) (g.I.Read.remaining c.run_all.new.input) (g.W.Write.contents c.args.out.now) (g.W.Write.contents c.run_all.new.out)
+    (g.R.Write.contents c.args.record.now) (g.R.Write.contents c.run_all.new.record) in
+    let stopped = subst (λ (ss : List (String Global)). IsRunAllStopped g.F.Store.does task config ss io c.see_to_run.new.files c.run_all.new.files c.in_err-report.field-0.0) c.deref-2.ensures.value
+    c.in_err-report.ensures.refusal in
+    rw (p.1, p.2) (NotRun config scripts c.see_to_run.new.files ready stopped)
+
+pub returns-in_err-ended-clause-refusal : goal.returns-in_err-ended-clause-refusal
+returns-in_err-ended-clause-refusal g c =
+    let p = err_from_is_err_and c.from_residual-in_err-ended.result c.from_residual-in_err-ended.ensures.1 in
+    let scripts = c.in_ok-scripts.scripts.items in
+    let config = c.in_ok-config.config in
+    let task = c.args.task.now in
+    let ready = prepared g.F.Store.does g.F.CommandFiles.sees_to task c.args.files.now c.read_config.new.files c.see_to_run.new.files config c.deref.result.now scripts None
+    c.in_ok-config.ensures.read c.in_ok-scripts.ensures c.deref.ensures.value c.in_ok-see_to_run.ensures.seen in
+    let report = c.in_ok-report.report in
+    let shown = g.W.Write.contents c.run_all.new.out in
+    let all = played g.F.Store.does task config c.deref-2.result.now scripts report (g.I.Read.remaining c.args.input.now) (g.I.Read.remaining c.run_all.new.input) (g.W.Write.contents c.args.out.now) shown
+    (g.R.Write.contents c.args.record.now) (g.R.Write.contents c.run_all.new.record) (g.R.Write.contents c.end-recorded.new.self) c.see_to_run.new.files c.run_all.new.files c.deref-2.ensures.value
+    c.end-recorded.ensures.same c.in_ok-report.ensures.ran in
+    rw (p.1, p.2) (NotEnded config scripts c.see_to_run.new.files c.run_all.new.files report shown ready all (inl c.in_err-ended.ensures.refusal))
+
+pub returns-clause-ran : goal.returns-clause-ran
+returns-clause-ran g c =
+    let scripts = c.in_ok-scripts.scripts.items in
+    let config = c.in_ok-config.config in
+    let task = c.args.task.now in
+    let ready = prepared g.F.Store.does g.F.CommandFiles.sees_to task c.args.files.now c.read_config.new.files c.see_to_run.new.files config c.deref.result.now scripts None
+    c.in_ok-config.ensures.read c.in_ok-scripts.ensures c.deref.ensures.value c.in_ok-see_to_run.ensures.seen in
+    let report = c.in_ok-report.report in
+    let shown = g.W.Write.contents c.run_all.new.out in
+    let all = played g.F.Store.does task config c.deref-2.result.now scripts report (g.I.Read.remaining c.args.input.now) (g.I.Read.remaining c.run_all.new.input) (g.W.Write.contents c.args.out.now) shown
+    (g.R.Write.contents c.args.record.now) (g.R.Write.contents c.run_all.new.record) (g.R.Write.contents c.end-recorded.new.self) c.see_to_run.new.files c.run_all.new.files c.deref-2.ensures.value
+    c.end-recorded.ensures.same c.in_ok-report.ensures.ran in
+    done c.end-recorded.result _ (record {
+      config = config;
+      scripts = scripts;
+      seen = c.see_to_run.new.files;
+      ran = c.run_all.new.files;
+      report = report;
+      shown = shown;
+      prepared = ready;
+      played = all;
+      named = c.in_ok-ended.ensures.ended.0;
+      told = c.in_ok-ended.ensures.ended.1;
+    })
+
+pub returns-clause-refusal : goal.returns-clause-refusal
+returns-clause-refusal g c =
+    let scripts = c.in_ok-scripts.scripts.items in
+    let config = c.in_ok-config.config in
+    let task = c.args.task.now in
+    let ready = prepared g.F.Store.does g.F.CommandFiles.sees_to task c.args.files.now c.read_config.new.files c.see_to_run.new.files config c.deref.result.now scripts None
+    c.in_ok-config.ensures.read c.in_ok-scripts.ensures c.deref.ensures.value c.in_ok-see_to_run.ensures.seen in
+    let report = c.in_ok-report.report in
+    let shown = g.W.Write.contents c.run_all.new.out in
+    let all = played g.F.Store.does task config c.deref-2.result.now scripts report (g.I.Read.remaining c.args.input.now) (g.I.Read.remaining c.run_all.new.input) (g.W.Write.contents c.args.out.now) shown
+    (g.R.Write.contents c.args.record.now) (g.R.Write.contents c.run_all.new.record) (g.R.Write.contents c.end-recorded.new.self) c.see_to_run.new.files c.run_all.new.files c.deref-2.ensures.value
+    c.end-recorded.ensures.same c.in_ok-report.ensures.ran in
+    IfErr-weaker c.end-recorded.result IsUnrecorded
+    (IsRunStopped g.F.Store.does g.F.CommandFiles.sees_to g.F.CommandFiles.gives_names task c.args.files.now c.end_run-ended.new.files (g.I.Read.remaining c.args.input.now)
+    (g.I.Read.remaining c.run_all.new.input) (g.W.Write.contents c.args.out.now) (g.W.Write.contents c.end_run-ended.new.out) (g.R.Write.contents c.args.record.now)
+    (g.R.Write.contents c.end-recorded.new.self))
+    (λ e h. NotEnded config scripts c.see_to_run.new.files c.run_all.new.files report shown ready all (inr (c.in_ok-ended.ensures.ended.0, h))) c.end-recorded.ensures.refusal

@@ -1,0 +1,13 @@
+pub mod Asm
+pub mod Check
+pub mod Com
+pub mod Debug
+pub mod Disk
+pub mod Files
+pub mod Get
+pub mod List
+pub mod Plan
+pub mod Record
+pub mod Report
+pub mod Run
+pub mod Typed

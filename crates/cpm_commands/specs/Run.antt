@@ -1,0 +1,192 @@
+-- What the command `run` does. All of it is own.
+use Rattle.std.specs.Prelude.{◌≡◌, ◌⊎◌, ℕ, Bool, ◌&&◌, List, [], ◌∷◌, ◌++◌, codes, flat_map, map, option_map, string_bytes, zip}
+use Rattle.std.specs.Prelude.{Option, Some, None, Ok, Err, String, Vec}
+use Rattle.std.specs.declared.alloc.Global.{Global}
+use Rattle.cpm_command_line.specs.declared.task.RunTask.{RunTask}
+use Rattle.cpm_config.specs.Rules.{IsRead}
+use Rattle.cpm_config.specs.declared.config.Config.{Config}
+use Rattle.cpm_config.specs.declared.config.Origin.{Origin}
+use Rattle.cpm_config.specs.declared.config.Origin.TheVariants.{Opened, Forked}
+use Rattle.cpm_config.specs.declared.config.SessionConfig.{SessionConfig}
+use Rattle.cpm_config.specs.declared.fault.ConfigError.{ConfigError}
+use Rattle.cpm_host.specs.Refusals.{host_error_of_config, host_error_of_run}
+use Rattle.cpm_host.specs.declared.error.HostError.{HostError}
+use Rattle.cpm_host.specs.declared.error.HostError.TheVariants.{OutOfMemory}
+use Rattle.cpm_run.specs.Refusing.{IsStoppedRun}
+use Rattle.cpm_run.specs.Run.{HasAccessed}
+use Rattle.cpm_run.specs.Settled.{Streams, streams}
+use Rattle.cpm_run.specs.declared.error.RunError.{RunError}
+use Rattle.cpm_run.specs.declared.options.RecordFile.{RecordFile}
+use Rattle.cpm_run.specs.declared.options.RunOptions.{RunOptions}
+use Rattle.cpm_run.specs.declared.report.Report.{Report}
+use Rattle.cpm_store.specs.Files.{StoreName}
+use Rattle.cpm_store.specs.Log.{StoreAccess, Gave, Missed}
+use Rattle.cpm_commands.specs.Files.{IsUnread}
+use Rattle.cpm_commands.specs.Plan.{PlannedName, Plan, all_planned, planned, planned_if_any}
+use Rattle.cpm_commands.specs.Record.{IsUnrecorded}
+use Rattle.cpm_commands.specs.Report.{IsReported, IsUnprinted, report_text}
+use Rattle.cpm_commands.specs.Typed.{IsHeard, is_typed_at}
+use Rattle.cpm_commands.specs.declared.plan.FileRole.TheVariants.{Configuration, Image, Plain, Script}
+use Rattle.cpm_commands.specs.declared.plan.OutputNaming.TheVariants.{Replaces}
+
+-- ---- the configuration
+
+-- the file gave the text of this configuration
+abbrev pub IsConfigRead : {F : Type 0} → (F → StoreAccess → F → Type 0) → StoreName → F → F → Config → Type 0
+IsConfigRead {F} does name old new config = (text : List ℕ) × does old (Gave name text) new × IsRead text (Ok config)
+
+-- it can't be read, or it gave a text that is no configuration
+abbrev pub IsConfigRefused : {F : Type 0} → (F → StoreAccess → F → Type 0) → StoreName → F → F → HostError → Type 0
+IsConfigRefused {F} does name old new e =
+    (IsUnread name e × does old (Missed name) new)
+    ⊎ ((text : List ℕ) × (error : ConfigError) × does old (Gave name text) new × IsRead text (Err error) × (e ≡ host_error_of_config error))
+
+-- ---- its files
+
+-- the drives of a session that is opened
+abbrev pub drives_named : Origin → List StoreName
+drives_named (Opened cpu quota drives) = map string_bytes drives.items
+drives_named (Forked parent at) = []
+
+abbrev pub images_named : Option (Vec (String Global) Global) → List StoreName
+images_named None = []
+images_named (Some names) = map string_bytes names.items
+
+-- what a session reads: its drives, and its script
+abbrev pub session_inputs : SessionConfig → List PlannedName
+session_inputs s = all_planned Image (drives_named s.origin) ++ planned_if_any Plain (option_map string_bytes s.keys)
+
+-- what it writes: the text of its console, that of its list device, and its drives, as far as files are named for them
+abbrev pub session_outputs : SessionConfig → List PlannedName
+session_outputs s =
+    planned (string_bytes s.console) Plain ∷ (planned_if_any Plain (option_map string_bytes s.list) ++ all_planned Image (images_named s.out))
+
+-- what a run reads, in this order: the configuration, the system drive, and what each session does
+abbrev pub run_inputs : StoreName → Config → List PlannedName
+run_inputs file config = planned file Configuration ∷ planned (string_bytes config.system) Image ∷ flat_map session_inputs config.sessions.items
+
+-- what it writes, in this order: what each session leaves, the record of what is typed, and the script of each session
+abbrev pub run_outputs : Config → Option StoreName → (scripts : List StoreName) → List PlannedName
+run_outputs config record_name scripts =
+    flat_map session_outputs config.sessions.items ++ (planned_if_any Plain record_name ++ all_planned Script scripts)
+
+abbrev pub plan_of_run : StoreName → Config → Option StoreName → (scripts : List StoreName) → Plan
+plan_of_run file config record_name scripts = record {
+  inputs = run_inputs file config;
+  outputs = run_outputs config record_name scripts;
+  naming = Replaces;
+}
+
+-- the script of each session in a folder, if there is one
+abbrev pub script_names : Option StoreName → List SessionConfig → List StoreName
+script_names None sessions = []
+script_names (Some folder) sessions = map (λ s. folder ++ codes "/" ++ string_bytes s.name ++ codes ".keys") sessions
+
+-- ---- what is asked of the run
+
+-- the script of each session; that of the one that is typed at wants a key, if what has its name is kept
+abbrev pub record_mark : RecordFile → StoreName × Bool
+record_mark r = (r.name.now, r.needs_key)
+
+abbrev pub record_marks : (is_kept : Bool) → Option StoreName → List (SessionConfig × String Global) → List (StoreName × Bool)
+record_marks is_kept typed sessions = map (λ p. (string_bytes p.1, is_typed_at typed p.0 && is_kept)) sessions
+
+-- the options of a run are those of the command line
+pub record IsAsked (task : RunTask) (sessions : List SessionConfig) (scripts : List (String Global)) (options : RunOptions) : Type 0 where
+  pub typed : option_map (λ n. n.now) options.typed ≡ option_map (λ n. n.now) task.keyboard
+  pub idle : options.stops_idle ≡ task.stops_idle
+  -- whether something has the name of the script of the session that is typed at, as the machine says
+  pub is_kept : Bool
+  pub records : map record_mark options.records.now ≡ record_marks is_kept (option_map (λ n. n.now) task.keyboard) (zip sessions scripts)
+
+-- ---- the run
+
+-- its sessions ran so
+pub record HasRunAll {F : Type 0} (does : F → StoreAccess → F → Type 0) (task : RunTask) (config : Config)
+    (scripts : List (String Global)) (report : Report) (io : Streams) (old new : F) : Type 0 where
+  pub options : RunOptions
+  pub asked : IsAsked task config.sessions.items scripts options
+  -- without the script of the session that is typed at
+  pub heard : Config
+  pub hears : IsHeard (option_map (λ n. n.now) task.keyboard) config heard
+  pub accessed : HasAccessed does heard options report io old new
+
+-- the run was refused, and has come so far
+pub record IsRunRefused {F : Type 0} (does : F → StoreAccess → F → Type 0) (task : RunTask) (config : Config)
+    (scripts : List (String Global)) (io : Streams) (old new : F) (e : HostError) : Type 0 where
+  pub options : RunOptions
+  pub asked : IsAsked task config.sessions.items scripts options
+  pub heard : Config
+  pub hears : IsHeard (option_map (λ n. n.now) task.keyboard) config heard
+  pub error : RunError
+  pub told : e ≡ host_error_of_run error
+  pub stopped : IsStoppedRun does heard options io old new error
+
+-- or memory was refused before it
+abbrev pub IsRunAllStopped : {F : Type 0} → (F → StoreAccess → F → Type 0) → RunTask → Config → List (String Global) → Streams → F → F → HostError
+    → Type 0
+IsRunAllStopped {F} does task config scripts io old new e =
+    ((e ≡ OutOfMemory) × (new ≡ old)) ⊎ IsRunRefused does task config scripts io old new e
+
+-- what was written can't have its names; or it has them, but what is told of it can't be printed
+abbrev pub IsEndStopped : {F : Type 0} → (F → Option HostError → F → Type 0) → F → F → HostError → Type 0
+IsEndStopped {F} gives_names old new e = gives_names old (Some e) new ⊎ (gives_names old None new × IsUnprinted e)
+
+-- the scripts of the sessions have these names
+abbrev pub AreScripts : RunTask → Config → List (String Global) → Type 0
+AreScripts task config scripts = map string_bytes scripts ≡ script_names (option_map (λ n. n.now) task.scripts) config.sessions.items
+
+abbrev pub plan_by : RunTask → Config → List (String Global) → Plan
+plan_by task config scripts = plan_of_run task.config.now config (option_map (λ n. n.now) task.record) (map string_bytes scripts)
+
+-- its files can't be what they are to be, or memory was refused before
+abbrev pub IsRunUnseen : {F : Type 0} → (F → Plan → Option HostError → F → Type 0) → RunTask → Config → List (String Global) → F → F → HostError → Type 0
+IsRunUnseen {F} sees_to task config scripts old new e =
+    ((e ≡ OutOfMemory) × (new ≡ old)) ⊎ sees_to old (plan_by task config scripts) (Some e) new
+
+-- the configuration was read, and its files were seen to
+pub record IsRunPrepared {F : Type 0} (does : F → StoreAccess → F → Type 0) (sees_to : F → Plan → Option HostError → F → Type 0) (task : RunTask)
+    (old new : F) (config : Config) (scripts : List (String Global)) (fault : Option HostError) : Type 0 where
+  pub known : F
+  pub read : IsConfigRead does task.config.now old known config
+  pub named : AreScripts task config scripts
+  pub sees : sees_to known (plan_by task config scripts) fault new
+
+-- and then its sessions ran, what they left got its names, and each is reported
+pub record HasRunSessions {F : Type 0} (does : F → StoreAccess → F → Type 0) (sees_to : F → Plan → Option HostError → F → Type 0)
+    (gives_names : F → Option HostError → F → Type 0) (task : RunTask) (old new : F)
+    (unread left before printed unrecorded record_now : Option (List ℕ)) : Type 0 where
+  pub config : Config
+  pub scripts : List (String Global)
+  pub seen : F
+  pub ran : F
+  pub report : Report
+  pub shown : Option (List ℕ)
+  pub prepared : IsRunPrepared does sees_to task old seen config scripts None
+  pub played : HasRunAll does task config scripts report (streams unread left before shown unrecorded record_now) seen ran
+  pub named : gives_names ran None new
+  pub told : IsReported shown printed (report_text (zip report.sessions.items report.idle.items))
+
+-- how far it came that was refused
+pub data IsRunStopped {F : Type 0} (does : F → StoreAccess → F → Type 0) (sees_to : F → Plan → Option HostError → F → Type 0)
+    (gives_names : F → Option HostError → F → Type 0) (task : RunTask) (old new : F)
+    (unread left before printed unrecorded record_now : Option (List ℕ)) (e : HostError) : Type 0 where
+  -- it has no configuration
+  NoConfig : IsConfigRefused does task.config.now old new e
+      → IsRunStopped does sees_to gives_names task old new unread left before printed unrecorded record_now e
+  -- memory was refused before its files were seen to
+  NotBegun : (config : Config) → IsConfigRead does task.config.now old new config → e ≡ OutOfMemory
+      → IsRunStopped does sees_to gives_names task old new unread left before printed unrecorded record_now e
+  -- its files can't be what they are to be
+  NotSeen : (config : Config) (scripts : List (String Global)) → IsRunPrepared does sees_to task old new config scripts (Some e)
+      → IsRunStopped does sees_to gives_names task old new unread left before printed unrecorded record_now e
+  -- its sessions can't run, or can't be written
+  NotRun : (config : Config) (scripts : List (String Global)) (seen : F) → IsRunPrepared does sees_to task old seen config scripts None
+      → IsRunAllStopped does task config scripts (streams unread left before printed unrecorded record_now) seen new e
+      → IsRunStopped does sees_to gives_names task old new unread left before printed unrecorded record_now e
+  -- what they left can't have its names, or can't be told, or the record of what was typed can't have its own
+  NotEnded : (config : Config) (scripts : List (String Global)) (seen ran : F) (report : Report) (shown : Option (List ℕ))
+      → IsRunPrepared does sees_to task old seen config scripts None
+      → HasRunAll does task config scripts report (streams unread left before shown unrecorded record_now) seen ran
+      → (IsEndStopped gives_names ran new e ⊎ (gives_names ran None new × IsUnrecorded e))
+      → IsRunStopped does sees_to gives_names task old new unread left before printed unrecorded record_now e

@@ -1,0 +1,29 @@
+//! The commands of `cpmhost`, each over the files of a store and the standard streams: what it reads, in which order, what it writes and what it prints.
+#![tactic(auto)]
+
+mod asm;
+mod check;
+mod com;
+mod debug;
+mod disk;
+mod files;
+mod get;
+mod list;
+mod plan;
+mod record;
+mod report;
+mod run;
+mod typed;
+
+pub use asm::assemble_file;
+pub use check::check_image;
+pub use com::{ComEnd, most_keys, run_program_file};
+pub use debug::debug_program;
+pub use disk::{PutOptions, list_disk, new_disk, put_files, remove_from_disk, rename_on_disk};
+pub use files::CommandFiles;
+pub use get::{GetOptions, get_files};
+pub use list::list_program;
+pub use plan::{FilePlan, FileRole, OutputNaming, PlannedFile};
+pub use record::KeyRecord;
+pub use report::{LineWriter, waiting_word};
+pub use run::{SessionsWatcher, run_sessions};

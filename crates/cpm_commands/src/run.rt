@@ -1,0 +1,306 @@
+//! The command `run`.
+ghost use Rattle.std.specs.Prelude.{◌≡◌, ◌++◌, ◌&&◌, IfErr, IfOk, None, OnOk, map, option_map, string_bytes, zip};
+ghost use Rattle.cpm_commands.specs.Plan.{named_files, plan_view};
+ghost use Rattle.cpm_commands.specs.Report.{IsReported, report_text};
+ghost use Rattle.cpm_commands.specs.Run.{HasRunAll, HasRunSessions, IsConfigRead, IsConfigRefused, IsEndStopped, IsRunAllStopped, IsRunStopped};
+ghost use Rattle.cpm_commands.specs.Run.{IsRunUnseen, plan_by, plan_of_run, record_mark, record_marks, run_inputs, run_outputs, script_names};
+ghost use Rattle.cpm_commands.specs.Run.{session_inputs, session_outputs};
+ghost use Rattle.cpm_commands.specs.Typed.{is_typed_at};
+ghost use Rattle.cpm_run.specs.Settled.{streams};
+
+use crate::files::{CommandFiles, read_file};
+use crate::plan::{
+    FilePlan, FileRole, OutputNaming, PlannedFile, add_file, add_if_any, add_strings,
+};
+use crate::record::KeyRecord;
+use crate::report::{LineWriter, print_report};
+use crate::typed::{drop_script, is_typed_at};
+use cpm_host::{
+    Config, HostError, Origin, RecordFile, Report, RunOptions, RunTask, RunWatcher, SessionConfig,
+    run_host,
+};
+use std::alloc::{AllocError, Global};
+use std::io::{Read, Write};
+
+/// Who is told how a run goes on, and of its sessions before.
+pub trait SessionsWatcher: RunWatcher {
+    /// The sessions are these.
+    fn meet(&mut self, config: &Config);
+
+    /// All was played. The script of this name is as it was, if no key came.
+    fn end(&mut self, kept: Option<&str>);
+}
+
+/// The configuration in a file.
+fn read_config<F: CommandFiles>(
+    alloc: Global,
+    name: &str,
+    files: &mut F,
+) -> Result<Config, HostError>
+    ensures read { IfOk result (λ c. IsConfigRead F.does name.now files.old files.new c) }
+    ensures refusal { IfErr result (IsConfigRefused F.does name.now files.old files.new) }
+{
+    let text = read_file(alloc, files, name)?;
+    Ok(Config::read(alloc, text.as_slice())?)
+}
+
+/// The files in a folder that the scripts of all sessions go to, in their order; none where there is no folder.
+fn script_names(
+    alloc: Global,
+    config: &Config,
+    folder: Option<&str>,
+) -> Result<Vec<String>, AllocError>
+    ensures { IfOk result (λ v. map string_bytes v.items ≡ script_names (option_map (λ f. f.now) folder.entry) config.now.sessions.items) }
+{
+    let mut names = Vec::new(alloc);
+    let Some(folder) = folder else {
+        return Ok(names);
+    };
+    for session in &config.sessions {
+        let name = session.name.as_str();
+        names.push(format!(in alloc; "{folder}/{name}.keys")?)?;
+    }
+    Ok(names)
+}
+
+/// Adds the drives of a session that is opened, and its script.
+fn add_inputs<'a>(
+    files: &mut Vec<PlannedFile<'a>>,
+    session: &'a SessionConfig,
+) -> Result<(), AllocError>
+    ensures { OnOk result (named_files files.new.items ≡ named_files files.old.items ++ session_inputs session.entry.now) }
+{
+    if let Origin::Opened { drives, .. } = &session.origin {
+        add_strings(files, drives, FileRole::Image)?;
+    }
+    add_if_any(files, session.keys.as_deref(), FileRole::Plain)
+}
+
+/// Adds the text of a session's console, that of its list device, and its drives, as far as files are named for them.
+fn add_outputs<'a>(
+    files: &mut Vec<PlannedFile<'a>>,
+    session: &'a SessionConfig,
+) -> Result<(), AllocError>
+    ensures { OnOk result (named_files files.new.items ≡ named_files files.old.items ++ session_outputs session.entry.now) }
+{
+    add_file(files, session.console.as_str(), FileRole::Plain)?;
+    add_if_any(files, session.list.as_deref(), FileRole::Plain)?;
+    match &session.out {
+        Some(images) => add_strings(files, images, FileRole::Image),
+        None => Ok(()),
+    }
+}
+
+/// The files that a run reads.
+fn inputs_of<'a>(
+    alloc: Global,
+    file: &'a str,
+    config: &'a Config,
+) -> Result<Vec<PlannedFile<'a>>, AllocError>
+    ensures { IfOk result (λ v. named_files v.items ≡ run_inputs file.now config.entry.now) }
+{
+    let mut inputs = Vec::new(alloc);
+    add_file(&mut inputs, file, FileRole::Configuration)?;
+    add_file(&mut inputs, config.system.as_str(), FileRole::Image)?;
+    for session in &config.sessions {
+        add_inputs(&mut inputs, session)?;
+    }
+    Ok(inputs)
+}
+
+/// The files that a run writes.
+fn outputs_of<'a>(
+    alloc: Global,
+    config: &'a Config,
+    record: Option<&'a str>,
+    scripts: &'a [String],
+) -> Result<Vec<PlannedFile<'a>>, AllocError>
+    ensures { IfOk result (λ v. named_files v.items
+        ≡ run_outputs config.entry.now (option_map (λ n. n.now) «record».entry) (map string_bytes scripts.entry.now)) }
+{
+    let mut outputs = Vec::new(alloc);
+    for session in &config.sessions {
+        add_outputs(&mut outputs, session)?;
+    }
+    add_if_any(&mut outputs, record, FileRole::Plain)?;
+    add_strings(&mut outputs, scripts, FileRole::Script)?;
+    Ok(outputs)
+}
+
+/// The files that a run names.
+fn plan_of<'a>(
+    alloc: Global,
+    file: &'a str,
+    config: &'a Config,
+    record: Option<&'a str>,
+    scripts: &'a [String],
+) -> Result<FilePlan<'a>, AllocError>
+    ensures { IfOk result (λ p. plan_view p
+        ≡ plan_of_run file.now config.entry.now (option_map (λ n. n.now) «record».entry) (map string_bytes scripts.entry.now)) }
+{
+    Ok(FilePlan {
+        inputs: inputs_of(alloc, file, config)?,
+        outputs: outputs_of(alloc, config, record, scripts)?,
+        naming: OutputNaming::Replaces,
+    })
+}
+
+/// The script of the session that is typed at, if something has its name.
+fn kept_script<'a, F: CommandFiles>(
+    config: &Config,
+    scripts: &'a [String],
+    typed: Option<&str>,
+    files: &F,
+) -> Option<&'a str> {
+    for (session, script) in config.sessions.iter().zip(scripts) {
+        let name = script.as_str();
+        if is_typed_at(typed, session) && files.has(name) {
+            return Some(name);
+        }
+    }
+    None
+}
+
+/// The file for the keys of a session. That of the one that is typed at wants a key, if it is to be kept.
+fn record_file<'a>(
+    session: &SessionConfig,
+    script: &'a str,
+    typed: Option<&str>,
+    is_kept: bool,
+) -> RecordFile<'a>
+    ensures { record_mark result ≡ (script.entry.now, is_typed_at (option_map (λ n. n.now) typed.entry) session.now && is_kept) }
+{
+    RecordFile {
+        name: script,
+        needs_key: is_typed_at(typed, session) && is_kept,
+    }
+}
+
+/// The files for the keys of all sessions.
+fn records_of<'a>(
+    alloc: Global,
+    config: &Config,
+    scripts: &'a [String],
+    typed: Option<&str>,
+    is_kept: bool,
+) -> Result<Vec<RecordFile<'a>>, AllocError>
+    ensures { IfOk result (λ v. map record_mark v.items
+        ≡ record_marks is_kept (option_map (λ n. n.now) typed.entry) (zip config.now.sessions.items scripts.entry.now)) }
+{
+    let mut records = Vec::new(alloc);
+    for (session, script) in config.sessions.iter().zip(scripts) {
+        records.push(record_file(session, script.as_str(), typed, is_kept))?;
+    }
+    Ok(records)
+}
+
+/// Gives what was written its names, and prints how each session ended: also where a file can't have its name.
+fn end_run<F: CommandFiles, W: LineWriter, E: Write>(
+    alloc: Global,
+    report: &Report,
+    files: &mut F,
+    out: &mut W,
+    errors: &mut E,
+) -> Result<(), HostError>
+    ensures ended { OnOk result (F.gives_names files.old None files.new
+        × IsReported (W.contents out.old) (W.contents out.new) (report_text (zip report.now.sessions.items report.now.idle.items))) }
+    ensures refusal { IfErr result (IsEndStopped F.gives_names files.old files.new) }
+{
+    let named = files.give_names();
+    let printed = print_report(alloc, report, out, errors);
+    named?;
+    printed
+}
+
+/// Sees to the files of a run.
+fn see_to_run<F: CommandFiles>(
+    alloc: Global,
+    task: &RunTask<'_>,
+    config: &Config,
+    scripts: &[String],
+    files: &mut F,
+) -> Result<(), HostError>
+    ensures seen { OnOk result (F.sees_to files.old (plan_by task.now config.now scripts.now) None files.new) }
+    ensures refusal { IfErr result (λ e. IsRunUnseen F.sees_to task.now config.now scripts.now files.old files.new e) }
+{
+    let plan = plan_of(alloc, task.config, config, task.record, scripts)?;
+    files.see_to(&plan)
+}
+
+/// Runs the sessions of a configuration with what was asked, and writes what they leave and their records.
+fn run_all<F: CommandFiles, I: Read, W: Write, R: KeyRecord, T: SessionsWatcher>(
+    alloc: Global,
+    task: &RunTask<'_>,
+    config: &mut Config,
+    scripts: &[String],
+    files: &mut F,
+    input: &mut I,
+    out: &mut W,
+    record: &mut R,
+    watcher: &mut T,
+) -> Result<Report, HostError>
+    ensures ran { IfOk result (λ report. HasRunAll F.does task.now config.old scripts.now report
+        (streams (I.remaining input.old) (I.remaining input.new) (W.contents out.old) (W.contents out.new) (R.contents «record».old) (R.contents «record».new))
+        files.old files.new) }
+    ensures refusal { IfErr result (IsRunAllStopped F.does task.now config.old scripts.now
+        (streams (I.remaining input.old) (I.remaining input.new) (W.contents out.old) (W.contents out.new) (R.contents «record».old) (R.contents «record».new))
+        files.old files.new) }
+{
+    let kept = kept_script(config, scripts, task.keyboard, files);
+    let records = records_of(alloc, config, scripts, task.keyboard, kept.is_some())?;
+    let options = RunOptions {
+        typed: task.keyboard,
+        stops_idle: task.stops_idle,
+        records: records.as_slice(),
+    };
+    drop_script(config, task.keyboard);
+    watcher.meet(config);
+    let report = run_host(alloc, config, options, files, input, out, record, watcher)?;
+    watcher.end(kept);
+    Ok(report)
+}
+
+/// Runs the sessions of the configuration in a file, one of them by the keys of an input if that is asked; gives what they leave its names, and prints how each
+/// ended.
+pub fn run_sessions<
+    F: CommandFiles,
+    I: Read,
+    W: LineWriter,
+    E: Write,
+    R: KeyRecord,
+    T: SessionsWatcher,
+>(
+    alloc: Global,
+    task: &RunTask<'_>,
+    files: &mut F,
+    input: &mut I,
+    out: &mut W,
+    errors: &mut E,
+    record: &mut R,
+    watcher: &mut T,
+) -> Result<(), HostError>
+    ensures ran { OnOk result (HasRunSessions F.does F.sees_to F.gives_names task.now files.old files.new (I.remaining input.old) (I.remaining input.new)
+        (W.contents out.old) (W.contents out.new) (R.contents «record».old) (R.contents «record».new)) }
+    ensures refusal { IfErr result (IsRunStopped F.does F.sees_to F.gives_names task.now files.old files.new
+        (I.remaining input.old) (I.remaining input.new) (W.contents out.old) (W.contents out.new) (R.contents «record».old) (R.contents «record».new)) }
+{
+    let mut config = read_config(alloc, task.config, files)?;
+    let scripts = script_names(alloc, &config, task.scripts)?;
+    see_to_run(alloc, task, &config, &scripts, files)?;
+    let report = run_all(
+        alloc,
+        task,
+        &mut config,
+        &scripts,
+        files,
+        input,
+        out,
+        record,
+        watcher,
+    )?;
+    let ended = end_run(alloc, &report, files, out, errors);
+    // (what was typed is recorded also where what was played can't be written)
+    let recorded = record.end();
+    ended?;
+    recorded
+}

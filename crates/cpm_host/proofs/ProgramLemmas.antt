@@ -1,0 +1,40 @@
+-- How a program that was played ended, what it was played by, and what it is not refused for.
+use Rattle.std.proofs.Common.{◌≡◌, ℕ, List, Option, Result, IfOk, refl, sym, subst}
+use Rattle.std.proofs.lemmas.Result.{IfOk-weaker}
+use Rattle.cpm_geom.specs.Disk.{Disk}
+use Rattle.cpm_machine.specs.MachineState.{MachineState}
+use Rattle.cpm_play.specs.Playing.{EndsAs}
+use Rattle.cpm_play.specs.declared.cued.CuedKeys.{CuedKeys}
+use Rattle.cpm_play.specs.declared.live.LiveError.{LiveError}
+use Rattle.cpm_play.specs.declared.live.LiveError.TheVariants.{Unreadable, Unwritable, Unrecorded, OutOfMemory}
+use Rattle.cpm_run.specs.Settled.{streams}
+use Rattle.cpm_host.specs.Program.{IsPlayedBy, IsPlayedCued, ending_of}
+use Rattle.cpm_host.specs.Refusals.{host_error_of_live}
+use Rattle.cpm_host.specs.declared.error.HostError.{HostError}
+use Rattle.cpm_host.specs.declared.error.HostError.TheVariants.{ProgramTooLong}
+use Rattle.cpm_host.specs.declared.program.ProgramPlay.{ProgramPlay}
+use Rattle.cpm_host.specs.declared.program.Source.{Source}
+use Rattle.cpm_host.specs.declared.program.Source.TheVariants.{Cues}
+
+-- a state that ends as another has its ending
+pub ending_same : (s t : MachineState) → EndsAs s t → ending_of t ≡ ending_of s
+ending_same s t same = rw (same.ended, same.count, same.regs, same.memory) refl
+
+-- one that was cut short is not refused for its length
+pub not_long : (error : LiveError) (count : ℕ) → ProgramTooLong count ≡ host_error_of_live error → ⊥
+not_long (Unreadable e) count is = cc
+not_long (Unwritable e) count is = cc
+not_long (Unrecorded e) count is = cc
+not_long OutOfMemory count is = cc
+
+-- one that was played by a script, whatever there is to read
+pub played_by_cues : (source : Source) (c : CuedKeys) (system disk : Disk) (start machine : MachineState) (steps : ℕ) (r : Result ProgramPlay HostError)
+    (unread before written unrecorded record_now : Option (List ℕ)) → source ≡ Cues c → disk ≡ system → machine ≡ start →
+    IfOk r (λ t. (any : Option (List ℕ)) → IsPlayedCued disk machine steps c t (streams any any before written unrecorded record_now)) →
+    IfOk r (λ t. IsPlayedBy source system start steps t (streams unread unread before written unrecorded record_now))
+played_by_cues source c system disk start machine steps r unread before written unrecorded record_now cued blank begins played =
+    let io = streams unread unread before written unrecorded record_now in
+    let P : Disk → Type 0 = λ d. IfOk r (λ t. IsPlayedBy (Cues c) d machine steps t io) in
+    let Q : MachineState → Type 0 = λ s. IfOk r (λ t. IsPlayedBy (Cues c) system s steps t io) in
+    let R : Source → Type 0 = λ x. IfOk r (λ t. IsPlayedBy x system start steps t io) in
+    subst R (sym cued) (subst Q begins (subst P blank (IfOk-weaker r _ _ (λ t h. h unread) played)))

@@ -1,0 +1,20 @@
+use Rattle.std.proofs.Common.{None, inl, refl, arith}
+use Rattle.std.proofs.lemmas.Result.{err_from_is_err_and, IfErr-at_err}
+use Rattle.cpm_host.proofs.ProgramLemmas.{not_long, played_by_cues}
+use Rattle.cpm_host.proofs.program.run_program.Goals as goal
+
+pub returns-in_err-system-clause-refusal : goal.returns-in_err-system-clause-refusal
+returns-in_err-system-clause-refusal g c =
+    let p = err_from_is_err_and c.from_residual-in_err-system.result c.from_residual-in_err-system.ensures.1 in
+    rw (p.1, p.2) (inl (record { refused = c.in_ok-machine.ensures.fits; untouched = record { unread = refl; unwritten = refl; unrecorded = refl } }))
+
+pub returns-in-Cues-clause-played : goal.returns-in-Cues-clause-played
+returns-in-Cues-clause-played g c =
+    played_by_cues _ c.in-Cues.cued _ _ _ _ _ c.play_cued.result _ _ _ _ _ c.in-Cues.is c.in_ok-system.ensures c.in_ok-machine.ensures.made c.play_cued.ensures.played
+
+pub returns-in-Cues-clause-too_long : goal.returns-in-Cues-clause-too_long
+returns-in-Cues-clause-too_long g c =
+    let fits = c.in_ok-machine.ensures.fits.0 in (
+      λ is. let cut = IfErr-at_err _ is c.play_cued.ensures.refusal None in absurd (not_long cut.error _ cut.told),
+      λ long. absurd (let bad : ⊥ = omega (arith, fits, long) in bad),
+    )

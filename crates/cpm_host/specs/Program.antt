@@ -1,0 +1,200 @@
+-- A program that is played by its script or typed at: what it runs with, what it shows and leaves, and when it is refused. All of it is own.
+use Rattle.std.specs.Prelude.{⊤, ◌≡◌, ◌<◌, ◌≤◌, ◌⊎◌, ℕ, List, [], ◌∷◌, length, chars, Option, Some, None, Ok, Err}
+use Rattle.std.specs.Io.KnownBytes.{Appends}
+use Rattle.cpm_batch.specs.declared.error.ReadError.TheVariants as read
+use Rattle.cpm_command_line.specs.Shown.{shown_of}
+use Rattle.cpm_drives.specs.Disks.{images_of}
+use Rattle.cpm_flags.specs.declared.regs.Cpu.{Cpu}
+use Rattle.cpm_geom.specs.Disk.{Disk, blank_disk}
+use Rattle.cpm_geom.specs.declared.format.Format.TheVariants.{Ibm3740}
+use Rattle.cpm_script.specs.Cues.{cues}
+use Rattle.cpm_script.specs.Recording.{recorded}
+use Rattle.cpm_script.specs.Script.{script, most_keys}
+use Rattle.cpm_script.specs.declared.cue.Cue.{Cue}
+use Rattle.cpm_script.specs.declared.fault.ScriptError.{ScriptError}
+use Rattle.cpm_script.specs.declared.fault.ScriptError.TheVariants.{Line}
+use Rattle.cpm_script.specs.declared.fault.ScriptError.TheVariants as script_error
+use Rattle.cpm_machine.specs.MachineState.{MachineState, opened_with, with_tail}
+use Rattle.cpm_machine.specs.Opening.{most_program}
+use Rattle.cpm_machine.specs.Serve.{look_of}
+use Rattle.cpm_machine.specs.declared.opening.OpenError.TheVariants.{BadDrives}
+use Rattle.cpm_play.specs.Cued.{AreAscii, HasEndedCued, IsCued, IsCutOff, key_count}
+use Rattle.cpm_play.specs.Live.{AreGiven, AreTypedKeysRead, HasReason, IsCutShort}
+use Rattle.cpm_play.specs.Playing.{alone_by, waits_at}
+use Rattle.cpm_play.specs.Wanting.{AreWanted, HasNoLongWait}
+use Rattle.cpm_play.specs.declared.cued.CuedKeys.{CuedKeys}
+use Rattle.cpm_play.specs.declared.live.LiveError.{LiveError}
+use Rattle.cpm_play.specs.declared.live.LivePlay.{LivePlay}
+use Rattle.cpm_run.specs.Illegal.{bytes_at_pc}
+use Rattle.cpm_run.specs.Settled.{AreUntouched, Streams}
+use Rattle.cpm_run.specs.declared.error.RunError.TheVariants.{FileRefused}
+use Rattle.cpm_host.specs.Refusals.{host_error_of_live}
+use Rattle.cpm_host.specs.declared.ending.Ending.{Ending}
+use Rattle.cpm_host.specs.declared.error.HostError.{HostError}
+use Rattle.cpm_host.specs.declared.error.HostError.TheVariants.{OpeningRefused, OutOfMemory, ProgramTooLong, RunRefused}
+use Rattle.cpm_host.specs.declared.program.ProgramPlay.{ProgramPlay}
+use Rattle.cpm_host.specs.declared.program.ProgramStart.{ProgramStart}
+use Rattle.cpm_host.specs.declared.program.Script.{Script}
+use Rattle.cpm_host.specs.declared.program.Source.{Source}
+use Rattle.cpm_host.specs.declared.program.Source.TheVariants.{Cues, Typed}
+
+-- ---- what a program begins with
+
+pub record ProgramInput : Type 0 where
+  pub cpu : Cpu
+  pub program : List ℕ
+  -- the tail of its command, where one is left in the memory
+  pub tail : Option (List ℕ)
+  pub drives : List Disk
+
+abbrev pub program_given : ProgramStart → ProgramInput
+program_given start = record {
+  cpu = start.cpu;
+  program = start.program.items;
+  tail = start.tail;
+  drives = start.drives.items;
+}
+
+-- one blank drive where there is none
+abbrev pub drives_or_blank : List Disk → List Disk
+drives_or_blank [] = blank_disk Ibm3740 ∷ []
+drives_or_blank (d ∷ ds) = d ∷ ds
+
+-- a tail is left as the command processor leaves it; without one the memory is as at an opening
+abbrev pub with_tail_if_any : Option (List ℕ) → MachineState → MachineState
+with_tail_if_any None s = s
+with_tail_if_any (Some tail) s = with_tail tail s
+
+-- the machine that begins the program
+abbrev pub machine_of : ProgramInput → MachineState
+machine_of g = with_tail_if_any g.tail (opened_with g.cpu (drives_or_blank g.drives) g.program)
+
+-- how the machine of a program is refused: the program is too long, then there are too many drives, then memory is refused
+abbrev pub IsProgramRefusal : ProgramInput → HostError → Type 0
+IsProgramRefusal g (ProgramTooLong count) = (most_program < length g.program) × (count ≡ length g.program)
+IsProgramRefusal g (OpeningRefused fault) = (length g.program ≤ most_program) × (4 < length g.drives) × (fault ≡ BadDrives)
+IsProgramRefusal g OutOfMemory = (length g.program ≤ most_program) × (length g.drives ≤ 4)
+IsProgramRefusal g _ = ⊥
+
+-- ---- its script
+
+-- a machine takes all keys of a script
+pub record AreFit (cues : List Cue) : Type 0 where
+  pub ascii : AreAscii cues
+  pub few : key_count cues ≤ most_keys
+
+-- what is told of a script that is refused, in the file of this name
+abbrev pub IsScriptTold : (name : List ℕ) → ScriptError → HostError → Type 0
+IsScriptTold name (Line number fault) (RunRefused (FileRefused (read.Script shown line told))) =
+    (shown.bytes ≡ shown_of (chars name)) × (line ≡ number) × (told ≡ fault)
+IsScriptTold name (Line number fault) _ = ⊥
+IsScriptTold name script_error.OutOfMemory e = e ≡ OutOfMemory
+
+-- how a script is refused: for its first line with a fault, with the name of its file as it is shown
+abbrev pub IsCueRefusal : Script → HostError → Type 0
+IsCueRefusal s (RunRefused (FileRefused (read.Script shown line fault))) =
+    (shown.bytes ≡ shown_of (chars s.name.now)) × (cues s.text.now ≡ Err (line, fault))
+IsCueRefusal s OutOfMemory = ⊤
+IsCueRefusal s _ = ⊥
+
+-- ---- what it shows and leaves
+
+-- the console bytes of a machine from which none was taken
+abbrev pub console_text : MachineState → List ℕ
+console_text s = s.session.console.screen
+
+abbrev pub ending_of : MachineState → Ending
+ending_of s = record { ended = s.ended; count = s.count; pc = s.session.regs.pc; at_pc = bytes_at_pc s }
+
+-- what a machine came to that was played so
+abbrev pub play_of : MachineState → LivePlay → ProgramPlay
+play_of s live = record {
+  ran = record { ending = ending_of s; drives = images_of s.session.disks };
+  keys = live.keys;
+  steps = live.steps;
+  waits = (look_of s).waiting;
+}
+
+-- A machine was played by a script that may wait: the keys that came are those that the script gives to the machine run alone; what it left is that of the
+-- machine run alone by these keys, for so many steps; it ended as a script has it end; and the keys as lines of a script are one that gives them again.
+pub record IsRehearsed (system : Disk) (start : MachineState) (steps : ℕ) (c : CuedKeys) (t : ProgramPlay) : Type 0 where
+  pub within : t.steps ≤ steps
+  pub keys : IsCued system start steps c.waits_from c.cues.now t.keys.items
+  pub given : AreGiven (key_count c.cues.now) t.steps t.keys.items
+  pub ending : t.ran.ending ≡ ending_of (alone_by system t.keys.items t.steps start)
+  pub drives : t.ran.drives ≡ images_of (alone_by system t.keys.items t.steps start).session.disks
+  pub ends : HasEndedCued system start steps c.waits_from c.stops_idle t.keys.items t.steps (alone_by system t.keys.items t.steps start)
+  pub waits : t.waits ≡ waits_at system start t.keys.items t.steps
+  pub replays : script (recorded t.keys.items) ≡ Ok t.keys.items
+
+-- and what it showed, and its keys as lines of a script, went to two writers; nothing was read
+pub record IsPlayedCued (system : Disk) (start : MachineState) (steps : ℕ) (c : CuedKeys) (t : ProgramPlay) (io : Streams) : Type 0 where
+  pub rehearsed : IsRehearsed system start steps c t
+  pub text : Appends io.before io.written (console_text (alone_by system t.keys.items t.steps start))
+  pub lines : Appends io.unrecorded io.record_now (recorded t.keys.items)
+  pub unread : io.left ≡ io.unread
+
+-- A machine was played by keys as they were typed: what it showed and left is that of the machine run alone by these keys, each at the count at
+-- which it was accepted, for so many steps; the keys are those that were read, up to ^]; and the record got just these keys as lines of a script, which gives
+-- them again.
+pub record IsPlayedLive (system : Disk) (start : MachineState) (steps most : ℕ) (t : ProgramPlay) (io : Streams) : Type 0 where
+  pub within : t.steps ≤ steps
+  pub given : AreGiven most t.steps t.keys.items
+  pub read : AreTypedKeysRead io.unread io.left t.keys.items
+  pub text : Appends io.before io.written (console_text (alone_by system t.keys.items t.steps start))
+  pub ending : t.ran.ending ≡ ending_of (alone_by system t.keys.items t.steps start)
+  pub drives : t.ran.drives ≡ images_of (alone_by system t.keys.items t.steps start).session.disks
+  pub ends : HasReason system start steps most io.unread io.left t.keys.items t.steps (alone_by system t.keys.items t.steps start)
+  -- each key came where the machine run alone wants one, and it never waits for long before it ends
+  pub wanted : AreWanted system start t.keys.items
+  pub brief : HasNoLongWait system start t.keys.items t.steps
+  pub waits : t.waits ≡ waits_at system start t.keys.items t.steps
+  pub lines : Appends io.unrecorded io.record_now (recorded t.keys.items)
+  pub replays : most ≤ most_keys → script (recorded t.keys.items) ≡ Ok t.keys.items
+
+-- ---- where its keys come from
+
+-- a machine takes all keys of its script, if it has one
+abbrev pub IsFitSource : Source → Type 0
+IsFitSource (Cues c) = AreFit c.cues.now
+IsFitSource (Typed most) = ⊤
+
+-- it was played so
+abbrev pub IsPlayedBy : Source → Disk → MachineState → (steps : ℕ) → ProgramPlay → Streams → Type 0
+IsPlayedBy (Cues c) system start steps t io = IsPlayedCued system start steps c t io
+IsPlayedBy (Typed most) system start steps t io = IsPlayedLive system start steps most t io
+
+-- ---- when it is refused
+
+-- it was not played to its end by a script, and this is told of it; nothing was read
+pub record IsCutCued (system : Disk) (start : MachineState) (steps : ℕ) (c : CuedKeys) (io : Streams) (e : HostError) : Type 0 where
+  pub error : LiveError
+  pub told : e ≡ host_error_of_live error
+  pub now : MachineState
+  pub short : IsCutOff system steps (key_count c.cues.now) start now io.before io.written io.unrecorded io.record_now error
+  pub unread : io.left ≡ io.unread
+
+-- nor by keys that were typed
+pub record IsLiveCut (system : Disk) (start : MachineState) (steps most : ℕ) (io : Streams) (e : HostError) : Type 0 where
+  pub error : LiveError
+  pub told : e ≡ host_error_of_live error
+  pub now : MachineState
+  pub short : IsCutShort system steps most start now io.before io.written io.unrecorded io.record_now io.unread io.left error
+
+abbrev pub IsCutBy : Source → Disk → MachineState → (steps : ℕ) → Streams → HostError → Type 0
+IsCutBy (Cues c) system start steps io e = IsCutCued system start steps c io e
+IsCutBy (Typed most) system start steps io e = IsLiveCut system start steps most io e
+
+-- nothing was read or written, and its machine is refused, or memory for the system drive
+pub record IsRefusedUnplayed (g : ProgramInput) (io : Streams) (e : HostError) : Type 0 where
+  pub refused : IsProgramRefusal g e
+  pub untouched : AreUntouched io
+
+-- or a machine takes it, and it was cut short
+pub record IsRefusedInPlay (source : Source) (g : ProgramInput) (steps : ℕ) (io : Streams) (e : HostError) : Type 0 where
+  pub short : length g.program ≤ most_program
+  pub few : length g.drives ≤ 4
+  pub cut : IsCutBy source (blank_disk Ibm3740) (machine_of g) steps io e
+
+abbrev pub IsProgramPlayRefusal : Source → ProgramInput → (steps : ℕ) → Streams → HostError → Type 0
+IsProgramPlayRefusal source g steps io e = IsRefusedUnplayed g io e ⊎ IsRefusedInPlay source g steps io e

@@ -1,0 +1,296 @@
+//! The command `com`: a program is played by what its script says, or as it is typed at.
+ghost use Rattle.std.specs.Prelude.{◌≡◌, ◌≢◌, ◌↔◌, ◌<◌, ◌≤◌, ℕ, List, Option, None, IfErr, IfOk, IsErrOf, OnOk, Ok, length};
+ghost use Rattle.cpm_geom.specs.Disk.{blank_disk};
+ghost use Rattle.cpm_geom.specs.declared.format.Format.TheVariants.{Ibm3740};
+ghost use Rattle.cpm_script.specs.Cues.{all_said, cues};
+ghost use Rattle.cpm_machine.specs.MachineState.{opened_with};
+ghost use Rattle.cpm_machine.specs.Opening.{program_fault, IsRefusal, most_program};
+ghost use Rattle.cpm_play.specs.Playing.{IsFresh};
+ghost use Rattle.cpm_run.specs.Settled.{streams};
+ghost use Rattle.cpm_host.specs.Program.{AreFit, IsCueRefusal, IsCutCued, IsFitSource, IsLiveCut, IsPlayedBy, IsPlayedCued, IsPlayedLive};
+ghost use Rattle.cpm_host.specs.Program.{IsProgramPlayRefusal, IsProgramRefusal, IsScriptTold};
+ghost use Rattle.cpm_host.specs.Program.{drives_or_blank, machine_of, play_of, program_given, with_tail_if_any};
+
+use crate::ending::Ending;
+use crate::error::HostError;
+use cpm_batch::ReadError;
+use cpm_command_line::shown;
+use cpm_flags::Cpu;
+use cpm_geom::{Format, Image};
+use cpm_machine::{
+    Closed, MOST_DRIVES, MOST_PROGRAM, MOST_QUOTA, Machine, OpenError, Opening, Tail,
+};
+use cpm_play::{CuedKeys, LivePlay, Watcher, play_cues, play_live};
+use cpm_run::RunError;
+use cpm_script::laws::{cues_in_order, recorded_keys};
+use cpm_script::{Cue, Key, ScriptError, read_cues};
+use std::alloc::Global;
+use std::io::{Read, Write};
+
+/// A key script: the name of its file, and its text.
+#[derive(Clone, Copy, Debug)]
+pub struct Script<'a> {
+    pub name: &'a str,
+    pub text: &'a [u8],
+}
+
+/// The refusal of the script in a file of this name.
+fn script_refused(name: &str, error: ScriptError) -> HostError
+    ensures { IsScriptTold name.now error result }
+{
+    match error {
+        ScriptError::Line { number, fault } => {
+            HostError::RunRefused(RunError::FileRefused(ReadError::Script {
+                name: shown(name),
+                line: number,
+                fault,
+            }))
+        }
+        ScriptError::OutOfMemory => HostError::OutOfMemory,
+    }
+}
+
+/// What a script says, whose lines may wait.
+///
+/// `FileRefused` names its first line with a fault. `OutOfMemory` comes only where memory is refused.
+pub fn cues_of(alloc: Global, script: Script<'_>) -> Result<Vec<Cue>, HostError>
+    ensures cues { IfOk result (λ v. cues script.entry.text.now ≡ Ok (all_said v)) }
+    ensures fit { IfOk result (λ v. AreFit v.items) }
+    ensures refusal { IfErr result (IsCueRefusal script.entry) }
+{
+    cues_in_order();
+    match read_cues(alloc, script.text) {
+        Ok(cues) => Ok(cues),
+        Err(error) => Err(script_refused(script.name, error)),
+    }
+}
+
+/// Where the keys of a program come from.
+#[derive(Clone, Copy, Debug)]
+pub enum Source<'a> {
+    /// What its script says, whose lines may wait.
+    Cues(CuedKeys<'a>),
+    /// What is typed, at most so many keys.
+    Typed { most_keys: usize },
+}
+
+/// What a program runs with.
+#[derive(Drop)]
+pub struct ProgramStart {
+    pub cpu: Cpu,
+    /// Its bytes, which lie from 0100h on.
+    pub program: Vec<u8>,
+    /// The tail of its command, where one is left in the memory.
+    pub tail: Option<Tail>,
+    /// The images of its drives, the first as A; a blank one where there is none.
+    pub drives: Vec<Image>,
+}
+
+impl ProgramStart {
+    /// Refuses a program that no machine runs: `ProgramTooLong`, then `OpeningRefused` for more than four drives.
+    pub fn check(&self) -> Result<(), HostError>
+        ensures fits { OnOk result ((length (program_given self.now).program ≤ most_program) × (length (program_given self.now).drives ≤ 4)) }
+        ensures refusal { IfErr result (λ e. IsProgramRefusal (program_given self.now) e × (e ≢ HostError.OutOfMemory)) }
+    {
+        if self.program.len() > MOST_PROGRAM {
+            return Err(HostError::ProgramTooLong(self.program.len()));
+        }
+        if self.drives.len() > MOST_DRIVES {
+            return Err(HostError::OpeningRefused(OpenError::BadDrives));
+        }
+        Ok(())
+    }
+}
+
+/// What a program came to.
+#[derive(Drop)]
+pub struct ProgramResult {
+    pub ending: Ending,
+    /// The drives A to D as it left them.
+    pub drives: [Option<Image>; 4],
+}
+
+/// What a program came to, and by which keys: it is the machine run alone by these for so many steps.
+#[derive(Drop)]
+pub struct ProgramPlay {
+    pub ran: ProgramResult,
+    /// The keys that came, each with the count of steps at which it did.
+    pub keys: Vec<Key>,
+    pub steps: u64,
+    /// Whether the machine then waits for a key.
+    pub waits: bool,
+}
+
+/// The drives, or one blank drive where there are none.
+fn drives_or_blank(alloc: Global, drives: Vec<Image>) -> Result<Vec<Image>, HostError>
+    ensures drives { IfOk result (λ d. d.items ≡ drives_or_blank drives.items) }
+    ensures refusal { IfErr result (λ e. e ≡ HostError.OutOfMemory) }
+{
+    if !drives.is_empty() {
+        return Ok(drives);
+    }
+    let mut drives = Vec::new(alloc);
+    drives.push(Image::blank(alloc, Format::Ibm3740)?)?;
+    Ok(drives)
+}
+
+/// The machine that begins a program.
+fn machine_of(alloc: Global, start: ProgramStart) -> Result<Machine, HostError>
+    ensures made { IfOk result (λ m. m ≡ machine_of (program_given start)) }
+    ensures fresh { IfOk result IsFresh }
+    ensures fits { OnOk result ((length (program_given start).program ≤ most_program) × (length (program_given start).drives ≤ 4)) }
+    ensures refusal { IfErr result (IsProgramRefusal (program_given start)) }
+{
+    start.check()?;
+    let ProgramStart {
+        cpu,
+        program,
+        tail,
+        drives,
+    } = start;
+    let opening = Opening {
+        cpu,
+        quota: MOST_QUOTA,
+        drives: drives_or_blank(alloc, drives)?,
+    };
+    match begun(alloc, opening, program, &tail) {
+        Ok(machine) => Ok(machine),
+        Err((_, _, fault)) => Err(HostError::from(fault)),
+    }
+}
+
+/// A machine that begins this program, with a tail if there is one.
+fn begun(
+    alloc: Global,
+    opening: Opening,
+    program: Vec<u8>,
+    tail: &Option<Tail>,
+) -> Result<Machine, (Opening, Vec<u8>, OpenError)>
+    ensures made { IfOk result (λ m. m ≡ with_tail_if_any tail.now (opened_with opening.cpu opening.drives.items program.items)) }
+    ensures fits { OnOk result (program_fault opening program.items ≡ None) }
+    ensures refused { IfErr result (λ r. IsRefusal (program_fault opening program.items) r.2) }
+{
+    match tail {
+        Some(tail) => Machine::with_command(alloc, opening, program, tail),
+        None => Machine::with_program(alloc, opening, program),
+    }
+}
+
+/// What a machine came to that was played so.
+fn play_of(machine: Machine, live: LivePlay) -> ProgramPlay
+    ensures { result ≡ play_of machine live }
+{
+    let ending = Ending::of(&machine);
+    let waits = machine.look().waiting;
+    let Closed { drives, .. } = machine.finish();
+    ProgramPlay {
+        ran: ProgramResult { ending, drives },
+        keys: live.keys,
+        steps: live.steps,
+        waits,
+    }
+}
+
+/// Plays a machine by a script that may wait, for at most `steps` steps. There may be anything to read.
+fn play_cued<W: Write, S: Write, T: Watcher>(
+    alloc: Global,
+    system: &Image,
+    machine: Machine,
+    steps: u64,
+    cued: CuedKeys<'_>,
+    out: &mut W,
+    record: &mut S,
+    watcher: &mut T,
+) -> Result<ProgramPlay, HostError>
+    requires fresh { IsFresh machine }
+    requires fit { AreFit cued.cues.now }
+    ensures played { IfOk result (λ t. (unread : Option (List ℕ)) → IsPlayedCued system.now machine steps cued.entry t
+        (streams unread unread (W.contents out.old) (W.contents out.new) (S.contents «record».old) (S.contents «record».new))) }
+    ensures refusal { IfErr result (λ e. (unread : Option (List ℕ)) → IsCutCued system.now machine steps cued.entry
+        (streams unread unread (W.contents out.old) (W.contents out.new) (S.contents «record».old) (S.contents «record».new)) e) }
+{
+    recorded_keys();
+    let mut machine = machine;
+    let live = play_cues(
+        alloc,
+        system,
+        &mut machine,
+        steps,
+        cued,
+        out,
+        record,
+        watcher,
+    )?;
+    Ok(play_of(machine, live))
+}
+
+/// Plays a machine by the keys that are typed, at most so many, and for at most `steps` steps.
+fn play_typed<I: Read, W: Write, S: Write>(
+    alloc: Global,
+    system: &Image,
+    machine: Machine,
+    steps: u64,
+    most_keys: usize,
+    input: &mut I,
+    out: &mut W,
+    record: &mut S,
+) -> Result<ProgramPlay, HostError>
+    requires { IsFresh machine }
+    ensures played { IfOk result (λ t. IsPlayedLive system.now machine steps most_keys t (streams (I.remaining input.old) (I.remaining input.new)
+        (W.contents out.old) (W.contents out.new) (S.contents «record».old) (S.contents «record».new))) }
+    ensures refusal { IfErr result (IsLiveCut system.now machine steps most_keys (streams (I.remaining input.old) (I.remaining input.new)
+        (W.contents out.old) (W.contents out.new) (S.contents «record».old) (S.contents «record».new))) }
+{
+    recorded_keys();
+    let mut machine = machine;
+    let live = play_live(
+        alloc,
+        system,
+        &mut machine,
+        steps,
+        most_keys,
+        input,
+        out,
+        record,
+    )?;
+    Ok(play_of(machine, live))
+}
+
+/// Runs a program on a machine of its own, with a blank system drive, for at most `steps` steps. Its keys are what its script says, or are typed on `input`,
+/// which is read for no script. It writes what the program shows as it comes, and each key to `record` as a line of a key script. What it sends to its list
+/// device is dropped. Where it goes by a script the watcher is told on the way how far it has come.
+///
+/// `ProgramTooLong`, `OpeningRefused` for more than four drives, and `OutOfMemory` for the machine come before anything is read or written.
+/// `InputUnreadable`, `OutputUnwritable` and `RecordUnwritable` have the errors of the three.
+pub fn run_program<I: Read, W: Write, S: Write, T: Watcher>(
+    alloc: Global,
+    start: ProgramStart,
+    steps: u64,
+    source: Source<'_>,
+    input: &mut I,
+    out: &mut W,
+    record: &mut S,
+    watcher: &mut T,
+) -> Result<ProgramPlay, HostError>
+    requires fit { IsFitSource source }
+    ensures played { IfOk result (λ t. IsPlayedBy source.entry (blank_disk Ibm3740) (machine_of (program_given start)) steps t
+        (streams (I.remaining input.old) (I.remaining input.new) (W.contents out.old) (W.contents out.new)
+        (S.contents «record».old) (S.contents «record».new))) }
+    ensures fits { OnOk result ((length (program_given start).program ≤ most_program) × (length (program_given start).drives ≤ 4)) }
+    ensures too_long { IsErrOf result (HostError.ProgramTooLong (length (program_given start).program))
+        ↔ (most_program < length (program_given start).program) }
+    ensures refusal { IfErr result (IsProgramPlayRefusal source.entry (program_given start) steps
+        (streams (I.remaining input.old) (I.remaining input.new) (W.contents out.old) (W.contents out.new)
+        (S.contents «record».old) (S.contents «record».new))) }
+{
+    let machine = machine_of(alloc, start)?;
+    let system = Image::blank(alloc, Format::Ibm3740)?;
+    match source {
+        Source::Cues(cued) => {
+            play_cued(alloc, &system, machine, steps, cued, out, record, watcher)
+        }
+        Source::Typed { most_keys } => play_typed(
+            alloc, &system, machine, steps, most_keys, input, out, record,
+        ),
+    }
+}
