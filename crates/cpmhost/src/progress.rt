@@ -115,6 +115,7 @@ impl<'a, R: LockableFiles> Teller<'a, R> {
             let _ = eprintln!(PatientError::new(self.rt));
             self.note(true);
         }
+        self.told = 0;
     }
 
     /// Ends the line of a session that was typed at, and tells where no more was typed since a script has not more keys.

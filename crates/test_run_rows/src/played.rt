@@ -142,6 +142,8 @@ fn by_script<W: Write>(
     out: &mut W,
     record: &mut Vec<u8>,
 ) -> Result<ProgramPlay, HostError> {
+    // (a program is judged before its script)
+    start.check()?;
     let cues = cues_of(alloc, script)?;
     let source = Source::Cues(CuedKeys {
         cues: cues.as_slice(),
