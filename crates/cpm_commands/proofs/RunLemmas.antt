@@ -4,7 +4,7 @@ use Rattle.std.specs.Prelude.{Option, OnOk, Result, Ok, Err}
 use Rattle.cpm_command_line.specs.declared.task.RunTask.{RunTask}
 use Rattle.cpm_config.specs.declared.config.Config.{Config}
 use Rattle.cpm_host.specs.declared.error.HostError.{HostError}
-use Rattle.cpm_run.specs.Settled.{streams}
+use Rattle.cpm_run.specs.Settled.{AreUntouched, streams}
 use Rattle.cpm_run.specs.declared.report.Report.{Report}
 use Rattle.cpm_store.specs.Log.{StoreAccess}
 use Rattle.cpm_commands.specs.Plan.{Plan}
@@ -26,11 +26,12 @@ prepared does sees_to task old known new config lent scripts fault read named le
 pub unseen : {F : Type 0} (does : F → StoreAccess → F → Type 0) (sees_to : F → Plan → Option HostError → F → Type 0) (gives_names : F → Option HostError → F → Type 0) (task : RunTask)
     (old known new : F) (config : Config) (lent scripts : List (String Global)) (unread left before printed unrecorded record_now : Option (List ℕ)) (e : HostError)
     → IsConfigRead does task.config.now old known config → AreScripts task config scripts → lent ≡ scripts → IsRunUnseen sees_to task config lent known new e
+    → AreUntouched (streams unread left before printed unrecorded record_now)
     → IsRunStopped does sees_to gives_names task old new unread left before printed unrecorded record_now e
-unseen does sees_to gives_names task old known new config lent scripts unread left before printed unrecorded record_now e read named lent_is (inl h) =
-    NotBegun config (subst (λ x. IsConfigRead does task.config.now old x config) (sym h.1) read) h.0
-unseen does sees_to gives_names task old known new config lent scripts unread left before printed unrecorded record_now e read named lent_is (inr h) =
-    NotSeen config scripts (prepared does sees_to task old known new config lent scripts (Some e) read named lent_is h)
+unseen does sees_to gives_names task old known new config lent scripts unread left before printed unrecorded record_now e read named lent_is (inl h) untouched =
+    NotBegun config (subst (λ x. IsConfigRead does task.config.now old x config) (sym h.1) read) h.0 untouched
+unseen does sees_to gives_names task old known new config lent scripts unread left before printed unrecorded record_now e read named lent_is (inr h) untouched =
+    NotSeen config scripts (prepared does sees_to task old known new config lent scripts (Some e) read named lent_is h) untouched
 
 -- the record of what is typed is as it was played
 pub played : {F : Type 0} (does : F → StoreAccess → F → Type 0) (task : RunTask) (config : Config) (lent scripts : List (String Global)) (report : Report)

@@ -14,7 +14,7 @@ use Rattle.cpm_host.specs.declared.error.HostError.{HostError}
 use Rattle.cpm_host.specs.declared.error.HostError.TheVariants.{OutOfMemory}
 use Rattle.cpm_run.specs.Refusing.{IsStoppedRun}
 use Rattle.cpm_run.specs.Run.{HasAccessed}
-use Rattle.cpm_run.specs.Settled.{Streams, streams}
+use Rattle.cpm_run.specs.Settled.{AreUntouched, Streams, streams}
 use Rattle.cpm_run.specs.declared.error.RunError.{RunError}
 use Rattle.cpm_run.specs.declared.options.RecordFile.{RecordFile}
 use Rattle.cpm_run.specs.declared.options.RunOptions.{RunOptions}
@@ -122,11 +122,11 @@ pub record IsRunRefused {F : Type 0} (does : F → StoreAccess → F → Type 0)
   pub told : e ≡ host_error_of_run error
   pub stopped : IsStoppedRun does heard options io old new error
 
--- or memory was refused before it
+-- or memory was refused before it, and nothing was read or written
 abbrev pub IsRunAllStopped : {F : Type 0} → (F → StoreAccess → F → Type 0) → RunTask → Config → List (String Global) → Streams → F → F → HostError
     → Type 0
 IsRunAllStopped {F} does task config scripts io old new e =
-    ((e ≡ OutOfMemory) × (new ≡ old)) ⊎ IsRunRefused does task config scripts io old new e
+    ((e ≡ OutOfMemory) × (new ≡ old) × AreUntouched io) ⊎ IsRunRefused does task config scripts io old new e
 
 -- what was written can't have its names; or it has them, but what is told of it can't be printed
 abbrev pub IsEndStopped : {F : Type 0} → (F → Option HostError → F → Type 0) → F → F → HostError → Type 0
@@ -167,18 +167,20 @@ pub record HasRunSessions {F : Type 0} (does : F → StoreAccess → F → Type 
   pub named : gives_names ran None new
   pub told : IsReported shown printed (report_text (zip report.sessions.items report.idle.items))
 
--- how far it came that was refused
+-- How far it came that was refused. Before its sessions ran no stream was read or written.
 pub data IsRunStopped {F : Type 0} (does : F → StoreAccess → F → Type 0) (sees_to : F → Plan → Option HostError → F → Type 0)
     (gives_names : F → Option HostError → F → Type 0) (task : RunTask) (old new : F)
     (unread left before printed unrecorded record_now : Option (List ℕ)) (e : HostError) : Type 0 where
   -- it has no configuration
-  NoConfig : IsConfigRefused does task.config.now old new e
+  NoConfig : IsConfigRefused does task.config.now old new e → AreUntouched (streams unread left before printed unrecorded record_now)
       → IsRunStopped does sees_to gives_names task old new unread left before printed unrecorded record_now e
   -- memory was refused before its files were seen to
   NotBegun : (config : Config) → IsConfigRead does task.config.now old new config → e ≡ OutOfMemory
+      → AreUntouched (streams unread left before printed unrecorded record_now)
       → IsRunStopped does sees_to gives_names task old new unread left before printed unrecorded record_now e
   -- its files can't be what they are to be
   NotSeen : (config : Config) (scripts : List (String Global)) → IsRunPrepared does sees_to task old new config scripts (Some e)
+      → AreUntouched (streams unread left before printed unrecorded record_now)
       → IsRunStopped does sees_to gives_names task old new unread left before printed unrecorded record_now e
   -- its sessions can't run, or can't be written
   NotRun : (config : Config) (scripts : List (String Global)) (seen : F) → IsRunPrepared does sees_to task old seen config scripts None

@@ -1,4 +1,4 @@
-use Rattle.std.proofs.Common.{List, None, String, Global, inl, inr, subst}
+use Rattle.std.proofs.Common.{List, None, String, Global, inl, inr, refl, subst}
 use Rattle.std.proofs.lemmas.Result.{IfErr-weaker, err_from_is_err_and}
 use Rattle.cpm_run.specs.Settled.{streams}
 use Rattle.cpm_commands.specs.Record.{IsUnrecorded}
@@ -12,7 +12,7 @@ returns-in_err-see_to_run-clause-refusal g c =
     let p = err_from_is_err_and c.from_residual-in_err-see_to_run.result c.from_residual-in_err-see_to_run.ensures.1 in
     rw (p.1, p.2) (unseen g.F.Store.does g.F.CommandFiles.sees_to g.F.CommandFiles.gives_names c.args.task.now c.args.files.now c.read_config.new.files c.see_to_run.new.files
     c.in_ok-config.config c.deref.result.now c.in_ok-scripts.scripts.items _ _ _ _ _ _ _ c.in_ok-config.ensures.read c.in_ok-scripts.ensures c.deref.ensures.value
-    c.in_err-see_to_run.ensures.refusal)
+    c.in_err-see_to_run.ensures.refusal (record { unread = refl; unwritten = refl; unrecorded = refl }))
 
 pub returns-in_err-report-clause-refusal : goal.returns-in_err-report-clause-refusal
 returns-in_err-report-clause-refusal g c =
