@@ -2,7 +2,6 @@
 use Rattle.std.proofs.Common.{◌≡◌, ◌≢◌, ℕ, zero, suc, List, [], ◌∷◌, ◌++◌, get_or, set, Option, None, Some, refl, sym, subst}
 use Rattle.std.specs.Prelude.{slice_get, remove}
 use Rattle.cpm_memory.specs.Contents.{Contents}
-use Rattle.cpm_memory.specs.Opening.{opening}
 use Rattle.cpm_decode.specs.Cache.{IsRightFor}
 use Rattle.cpm_decode.specs.declared.cache.DecodeCache.{DecodeCache}
 use Rattle.cpm_machine.specs.declared.steps.Runner.{Runner}

@@ -1,18 +1,15 @@
 -- What a fork of a slot leaves of a host.
-use Rattle.std.proofs.Common.{◌≡◌, ℕ, zero, suc, ◌+◌, ◌<◌, ◌≤◌, Bool, true, false, ◌==◌, if◌then◌else◌, List, [], ◌∷◌, ◌++◌, length, get_or, set, sum_by, Option, Some, None, is_some, unwrap_or, refl, sym, ap, ◌∙◌, subst, arith}
-use Rattle.std.specs.Prelude.{slice_get, IfSome}
+use Rattle.std.proofs.Common.{◌≡◌, ℕ, zero, suc, ◌+◌, ◌<◌, false, List, [], ◌∷◌, ◌++◌, length, get_or, set, Option, Some, None, refl, sym, ap, ◌∙◌, subst, arith}
+use Rattle.std.specs.Prelude.{slice_get}
 use Rattle.std.proofs.lemmas.Bool.Decides.{nat_tests}
-use Rattle.std.proofs.lemmas.List.Sums.{sum_by-cons}
 use Rattle.cpm_geom.specs.Disk.{Disk}
 use Rattle.cpm_memory.specs.Contents.{Contents}
-use Rattle.cpm_memory.specs.Opening.{opening}
 use Rattle.cpm_memory.specs.Reserved.{reserved_in}
 use Rattle.cpm_memory.specs.Frames.{Frames, IsTableTaken, memories, memory_at, memory_of, table_at, reserved_by}
 use Rattle.cpm_machine.specs.MachineState.{MachineState}
 use Rattle.cpm_machine.specs.Runner.{state_of, IsRunnerSound}
-use Rattle.cpm_slots.specs.declared.event.ForkError.TheVariants as fork
 use Rattle.cpm_slots.specs.declared.slots.Slot.{Slot}
-use Rattle.cpm_slots.specs.Host.{Host, SlotState, slot_at, lacks_slot, lacks_frames, quotas_of, fork_fault, with_forked, with_added, AllBelow, IsHost}
+use Rattle.cpm_slots.specs.Host.{Host, SlotState, slot_at, lacks_slot, lacks_frames, fork_fault, with_forked, with_added, AllBelow, IsHost}
 use Rattle.cpm_slots.specs.HostWithStore.{HostWithStore, table_of}
 use Rattle.cpm_slots.specs.Index.{IsAtIndex}
 use Rattle.cpm_slots.specs.Slots.{contents_at, slot_of, slots_of, tables_of, host_with_store, HaveTables}
