@@ -93,6 +93,15 @@ def files_beside():
     return [name for name in os.listdir(".") if name.startswith(".cpmhost-")]
 
 
+def texts_beside():
+    """What those files hold. One may go once it is listed, as that by which the program tries whether it can write: it is left out."""
+    texts = []
+    for name in files_beside():
+        with contextlib.suppress(FileNotFoundError):
+            texts.append(read(name))
+    return texts
+
+
 @contextlib.contextmanager
 def folder():
     """A new folder for the files of a test, which works in it meanwhile."""
@@ -106,11 +115,11 @@ def folder():
 
 
 def until(holds):
-    """Waits until something holds; whether it does in the end."""
+    """Waits until something holds; what it gave last, so whether it held."""
     begun = time.monotonic()
-    while not holds() and time.monotonic() < begun + SECONDS:
+    while not (last := holds()) and time.monotonic() < begun + SECONDS:
         time.sleep(0.01)
-    return holds()
+    return last
 
 
 # ---- the program

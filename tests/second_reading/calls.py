@@ -61,7 +61,7 @@ class Calls:
         if line.verb in NOT_PLAYED:
             raise NotPlayed(line.verb)
         if line.verb not in self.images.verbs and line.verb != "session" and self.session is None:
-            raise Wrong("there is no session")
+            raise Wrong("there is no session", "Absent")
         return self.verbs[line.verb](line.arguments)
 
     # ---- what is done
@@ -84,7 +84,7 @@ class Calls:
         at, drive, *name = some(arguments, 3, len(arguments))
         name = bytes_of(name)
         if len(name) != 11:
-            raise Wrong("a name has 11 characters")
+            raise Wrong("a name has 11 characters", "Bytes")
         self.session.store(address_of(at), bytes([number_of(drive, 255)]) + name + bytes(24))
 
     def come(self):
@@ -139,7 +139,7 @@ class Calls:
         if not some(arguments, 0, 1):
             return "yes" if self.is_echoed else "no"
         if arguments[0].text not in ("yes", "no"):
-            raise Wrong("yes or no is wanted")
+            raise Wrong("yes or no is wanted", "Words")
         self.is_echoed = arguments[0].text == "yes"
         return None
 
@@ -218,14 +218,14 @@ class Calls:
     def drive_of(self, word):
         drive = DRIVES.find(word.text)
         if len(word.text) != 1 or drive not in self.session.disks:
-            raise Wrong(f"there is no drive {word.text}")
+            raise Wrong(f"there is no drive {word.text}", "Absent")
         return self.session.disks[drive]
 
     def disk(self, arguments):
         drive, number = some(arguments, 2)
         disk, number = self.drive_of(drive), number_of(number)
         if number >= disk.format.records:
-            raise Wrong("there is no such record")
+            raise Wrong("there is no such record", "Absent")
         return disk.read(number)
 
     def directory(self, arguments):
@@ -237,7 +237,7 @@ class Calls:
     def place(self, arguments):
         (what,) = some(arguments, 1)
         if what.text not in self.sector:
-            raise Wrong("there is no such place")
+            raise Wrong("there is no such place", "Words")
         value = self.sector[what.text]
         return f"{value:04X}" if what.text == "buffer" else str(value)
 
@@ -249,5 +249,5 @@ class Calls:
             "logged-in": lambda: f"{self.session.vector(lambda disk: disk.is_in):04X}",
         }
         if what.text not in known:
-            raise Wrong("nothing of drives has this name")
+            raise Wrong("nothing of drives has this name", "Words")
         return known[what.text]()

@@ -12,7 +12,7 @@ NAMES = {"Ibm3740": SMALL, "Large": LARGE}
 
 def format_of(word):
     if word.text not in NAMES:
-        raise Wrong(f"no format is called {word.text}")
+        raise Wrong(f"no format is called {word.text}", "Words")
     return NAMES[word.text]
 
 
@@ -102,8 +102,10 @@ class Directories:
 
     def look(self, arguments):
         name, number = some(arguments, 2)
-        disk = self.images.look(name)
-        entry = disk.entry(number_of(number, disk.format.entries - 1))
+        disk, index = self.images.look(name), number_of(number)
+        if index >= disk.format.entries:
+            raise Wrong(f"there is no entry {index}", "Unready")
+        entry = disk.entry(index)
         blocks = disk.format.numbers(entry) + (16 - disk.format.places) * [0]
         fields = " ".join(f"{field} {entry[place]:02X}" for place, field in enumerate(("EX", "S1", "S2", "RC"), 12))
         return f"user {entry[0]:02X} {text_of(entry[1:12])} {fields} blocks {' '.join(map(str, blocks))}"

@@ -46,7 +46,7 @@ class FileControlBlock:
         """The field and what is behind it become so; or what the field is."""
         name, *given = some(arguments, 1, len(arguments))
         if name.text not in FIELDS:
-            raise Wrong(f"no field is called {name.text}")
+            raise Wrong(f"no field is called {name.text}", "Words")
         start, size = FIELDS[name.text]
         if not given:
             return bytes(self.bytes[start : start + size])
@@ -55,7 +55,7 @@ class FileControlBlock:
 
     def put(self, start, data):
         if start + len(data) > FCB:
-            raise Wrong(f"these are {len(data)} bytes")
+            raise Wrong(f"these are {len(data)} bytes", "Bytes")
         self.bytes[start : start + len(data)] = data
 
 
@@ -125,7 +125,7 @@ class Drives:
         disks = self.here.session.disks
         for drive, name in enumerate(names):
             if drive not in disks or drive == P:
-                raise Wrong(f"there is no drive for {name.text}")
+                raise Wrong(f"there is no drive for {name.text}", "Absent")
             self.images.put(name, disks[drive].image)
         self.here.session.disks = {P: disks[P]}
 
@@ -142,7 +142,7 @@ class Drives:
         if verb == "rename" and arguments:
             name = bytes_of(some(arguments, 1))
             if len(name) != 11:
-                raise Wrong("a name has 11 characters")
+                raise Wrong("a name has 11 characters", "Bytes")
             self.here.fcb.put(17, name)
         elif verb in WRITES and arguments:
             self.here.session.buffer = bytearray(filled(arguments, RECORD))
@@ -167,14 +167,14 @@ class Drives:
     def repeat(self, arguments):
         times, verb, *rest = some(arguments, 2, len(arguments))
         if verb.text not in FUNCTIONS:
-            raise Wrong(f"no function is called {verb.text}")
+            raise Wrong(f"no function is called {verb.text}", "Unknown")
         self.prepare(verb.text, rest)
         return runs(self.code(lambda: self.call(verb.text)) for _ in range(number_of(times, 1_000_000)))
 
     def each_drive(self, arguments):
         (verb,) = some(arguments, 1)
         if verb.text not in FUNCTIONS:
-            raise Wrong(f"no function is called {verb.text}")
+            raise Wrong(f"no function is called {verb.text}", "Unknown")
         before, codes = bytes(self.here.fcb.bytes), []
         for drive in range(256):
             self.here.fcb.bytes = bytearray([drive]) + before[1:]

@@ -72,7 +72,7 @@ class FileOnImage:
         for start in range(0, len(data), RECORD):
             self.calls.buffer = bytearray(data[start : start + RECORD].ljust(RECORD, END))
             if self.calls.sequential(self.calls.write) != 0:
-                raise Wrong("the file has no room")
+                raise Wrong("the file has no room", "Unready")
         self.calls.close()
 
     def remove(self):

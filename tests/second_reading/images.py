@@ -22,7 +22,7 @@ class Images:
 
     def get(self, word):
         if word.text not in self.named:
-            raise Wrong(f"there is no image {word.text}")
+            raise Wrong(f"there is no image {word.text}", "Absent")
         return self.named[word.text]
 
     def copy(self, word):

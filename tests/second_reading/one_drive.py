@@ -14,7 +14,7 @@ NONE = 0xFF
 def name_of(word):
     name = bytes_of([word])
     if len(name) != 11:
-        raise Wrong("a name has 11 characters")
+        raise Wrong("a name has 11 characters", "Bytes")
     return name
 
 
@@ -90,7 +90,7 @@ class OneDrive:
     def drive(self, arguments):
         name, *rest = some(arguments, 1, 2)
         if rest and rest[0].text != "protected":
-            raise Wrong("protected is wanted, or nothing")
+            raise Wrong("protected is wanted, or nothing", "Words")
         self.begin(self.images.copy(name), bool(rest))
 
     def keep(self, arguments):
@@ -128,7 +128,7 @@ class OneDrive:
     def must_be_protected(self, is_protected):
         """A condition of calls that write, and of those on a drive that is lent."""
         if self.disk.is_protected != is_protected:
-            raise Wrong("the drive is protected" if self.disk.is_protected else "the drive is not protected")
+            raise Wrong("the drive is protected" if self.disk.is_protected else "the drive is not protected", "Unready")
 
     def call_on_names(self, verb, arguments):
         self.must_be_protected(False)

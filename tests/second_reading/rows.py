@@ -11,7 +11,12 @@ RISING = bytes(range(251))
 
 
 class Wrong(Exception):
-    """A line that is none of the language, or that can't be done."""
+    """A line that is none of the language, or that can't be done, by the fault that docs/ROWS.md gives this name."""
+
+    def __init__(self, what, fault=None):
+        super().__init__(what)
+        self.fault = fault
+        self.number = 0  # that of the line, where it stands for one
 
 
 class NotPlayed(Exception):
@@ -49,6 +54,7 @@ class Row(NamedTuple):
     number: int
     name: str
     lines: list
+    fault: Optional[str] = None  # the fault that a wrong row names
 
 
 class File(NamedTuple):
@@ -65,7 +71,7 @@ def words_of(text):
     """The words of a text, where what stands between quotes is one."""
     parts = text.split('"')
     if len(parts) % 2 == 0:
-        raise Wrong("a quote has no end")
+        raise Wrong("a quote has no end", "Quote")
     words = []
     for place, part in enumerate(parts):
         if place % 2:
@@ -87,7 +93,7 @@ def line_of(number, text):
     if first and not first[2] and int(first[1]) > 0:
         words, times = words[1:], int(first[1])
     if not words or words[0].is_quoted:
-        raise Wrong("a line begins with a word")
+        raise Wrong("a line begins with a word", "Unknown")
     return Line(number, times, words[0].text, words[1:], wanted, "" if has_text else None, is_text_wanted)
 
 
@@ -114,13 +120,22 @@ def read(path):
                 line = line_of(number, text)
             except Wrong as wrong:
                 line = wrong
+                line.number = number
             if text.endswith(" <<"):
                 between = text_of(path, number, rest)
                 line = line if isinstance(line, Wrong) else line._replace(text=between)
             file.rows[-1].lines.append(line)
     if len(file.rows) != int(header[1]):
         raise Wrong(f"{path}:1: there are {len(file.rows)} rows")
-    return file
+    return file._replace(rows=list(map(named, file.rows))) if file.are_wrong else file
+
+
+def named(row):
+    """A wrong row without its last line, where that names the fault of the row."""
+    last = row.lines[-1] if row.lines else None
+    if not isinstance(last, Line) or last.verb != "fails":
+        return row
+    return row._replace(lines=row.lines[:-1], fault=last.wanted)
 
 
 def text_of(path, number, rest):
@@ -138,13 +153,13 @@ def text_of(path, number, rest):
 
 def number_of(word, most=0xFFFF):
     if word.is_quoted or not re.fullmatch("[0-9]+", word.text) or int(word.text) > most:
-        raise Wrong(f"a decimal number of at most {most} is wanted: {word.text}")
+        raise Wrong(f"a decimal number of at most {most} is wanted: {word.text}", "Number")
     return int(word.text)
 
 
 def digits_of(word, count):
     if word.is_quoted or not re.fullmatch(f"[0-9A-Fa-f]{{{count}}}", word.text):
-        raise Wrong(f"{count} hexadecimal digits are wanted: {word.text}")
+        raise Wrong(f"{count} hexadecimal digits are wanted: {word.text}", "Digits")
     return int(word.text, 16)
 
 
@@ -156,7 +171,7 @@ def escaped(match):
     if match[2]:
         return bytes([int(match[2], 16)])
     if match[1] not in ESCAPED:
-        raise Wrong(f"no such escape: {match[0]!r}")
+        raise Wrong(f"no such escape: {match[0]!r}", "Bytes")
     return ESCAPED[match[1]]
 
 
@@ -165,6 +180,8 @@ def item_of(word, times):
         return times * ESCAPE.sub(escaped, word.text.encode("utf-8"))
     if word.text == "rising":
         return (RISING * (times // len(RISING) + 1))[:times]
+    if not re.fullmatch("[0-9A-Fa-f]{2}", word.text):
+        raise Wrong(f"a byte has two hexadecimal digits: {word.text}", "Bytes")
     return times * bytes([digits_of(word, 2)])
 
 
@@ -174,7 +191,7 @@ def bytes_of(words):
     for word in words:
         found = None if word.is_quoted else TIMES.fullmatch(word.text)
         if found and times is not None:
-            raise Wrong("a number is repeated")
+            raise Wrong("a number is repeated", "Bytes")
         if found:
             times, word = int(found[1]), Word(found[2])
             if not word.text:
@@ -182,7 +199,7 @@ def bytes_of(words):
         data += item_of(word, 1 if times is None else times)
         times = None
     if times is not None:
-        raise Wrong("nothing stands behind a number and an asterisk")
+        raise Wrong("nothing stands behind a number and an asterisk", "Bytes")
     return data
 
 
@@ -190,7 +207,7 @@ def filled(words, size):
     """Bytes that begin so, and else are zeros."""
     data = bytes_of(words)
     if len(data) > size:
-        raise Wrong(f"these are {len(data)} bytes, for {size}")
+        raise Wrong(f"these are {len(data)} bytes, for {size}", "Bytes")
     return data.ljust(size, b"\0")
 
 
@@ -225,7 +242,7 @@ def shown_bytes(data):
 def some(arguments, least, most=None):
     """The words behind a verb, which must be so many."""
     if not least <= len(arguments) <= (least if most is None else most):
-        raise Wrong("the words behind the first one are not those of this line")
+        raise Wrong("the words behind the first one are not those of this line", "Words")
     return arguments
 
 
@@ -241,11 +258,13 @@ def agrees(answer, line):
 
 
 class Outcome(NamedTuple):
-    """What came of a row: how many expectations agreed; the verb that isn't played, or None; what disagrees, or None."""
+    """What came of a row: how many expectations agreed; the verb that isn't played, or None; what disagrees, or None, at which line and by which fault."""
 
     agreed: int
-    not_played: Optional[str]
-    wrong: Optional[str]
+    not_played: Optional[str] = None
+    wrong: Optional[str] = None
+    number: int = 0
+    fault: Optional[str] = None
 
 
 AGREES = object()
@@ -265,11 +284,11 @@ def play(scene, row):
     agreed, number, not_played = 0, row.number, None
     try:
         for line in row.lines:
+            number = line.number
             if isinstance(line, Wrong):
                 raise line
-            number = line.number
             if not scene.knows(line.verb):
-                raise Wrong(f"no line of these rows begins with {line.verb}")
+                raise Wrong(f"no line of these rows begins with {line.verb}", "Unknown")
             if not_played:
                 continue
             try:
@@ -278,15 +297,15 @@ def play(scene, row):
                 not_played = str(verb)
                 continue
             if answer is not AGREES:
-                return Outcome(agreed, None, f"{number}: the reading says {told(answer)}, the row {line.shown}")
+                return Outcome(agreed, None, f"the reading says {told(answer)}, the row {line.shown}", number)
             agreed += line.is_expectation
     except Wrong as wrong:
-        return Outcome(agreed, None, f"{number}: {wrong}")
+        return Outcome(agreed, None, str(wrong), number, wrong.fault or "without a name")
     except (AttributeError, IndexError, KeyError, ValueError) as error:
-        return Outcome(agreed, None, f"{number}: the reading breaks off: {error!r}")
+        return Outcome(agreed, None, f"the reading breaks off: {error!r}", number, "of the reading")
     if not agreed and not not_played:
-        return Outcome(0, None, f"{row.number}: the row expects nothing")
-    return Outcome(agreed, not_played, None)
+        return Outcome(0, None, "the row expects nothing", number, "NoExpectation")
+    return Outcome(agreed, not_played)
 
 
 def told(answer):

@@ -71,7 +71,7 @@ pub fn typed(alloc: Global) -> Result<CallOutcome, AllocError> {
         &mut NoWatcher,
     );
     Ok(match played {
-        Ok(typed) if typed.ran.ending.count == 7 && out.count == 1 => CallOutcome::Made,
+        Ok(typed) if typed.ending.count == 7 && out.count == 1 => CallOutcome::Made,
         Err(HostError::OutOfMemory) => CallOutcome::Refused,
         _ => CallOutcome::Wrong,
     })

@@ -127,6 +127,13 @@ fn make(alloc: Global, name: &str) -> Result<CallOutcome, AllocError> {
         "read_keys" => Ok(texts::key_script(alloc)),
         "Store::read" => stores::read(alloc),
         "Store::write" => stores::write(alloc),
+        _ => make_command(alloc, name),
+    }
+}
+
+/// Makes the call of this name, if there is one, that does a command or a part of it.
+fn make_command(alloc: Global, name: &str) -> Result<CallOutcome, AllocError> {
+    match name {
         "run_host" => commands::run(alloc),
         "run_host in stages" => stages::run(alloc),
         "put" | "get" | "remove" | "rename" | "list" | "to_text" | "from_text" => {

@@ -3,25 +3,17 @@
 use crate::CallOutcome;
 use crate::commands::{Counter, start};
 use crate::texts::SOURCE;
-use cpm_host::{
-    CuedKeys, HostError, NoWatcher, Script, Source, cues_of, run_asm_listed, run_program,
-};
+use cpm_host::{CuedKeys, HostError, NoWatcher, Source, cues_of, run_asm_listed, run_program};
 use std::alloc::{AllocError, Global};
 
 /// A line of the command processor, and a key once its prompt is shown again.
-const WAITS: Script<'static> = Script {
-    name: "waits.keys",
-    text: b"wait DIR^M\nexpect \"A>\" B\n",
-};
+const WAITS: &[u8] = b"wait DIR^M\nexpect \"A>\" B\n";
 
 /// A key before the program ends, and one once a text is shown that the program doesn't show.
-const EXPECTS: Script<'static> = Script {
-    name: "expects.keys",
-    text: b"2 A\nexpect \"B\" C\n",
-};
+const EXPECTS: &[u8] = b"2 A\nexpect \"B\" C\n";
 
 pub fn cues(alloc: Global) -> CallOutcome {
-    match cues_of(alloc, WAITS) {
+    match cues_of(alloc, "waits.keys", WAITS) {
         Ok(cues) => CallOutcome::made_if(cues.len() == 7),
         Err(HostError::OutOfMemory) => CallOutcome::Refused,
         Err(_) => CallOutcome::Wrong,
@@ -30,7 +22,7 @@ pub fn cues(alloc: Global) -> CallOutcome {
 
 pub fn program(alloc: Global) -> Result<CallOutcome, AllocError> {
     let start = start(alloc)?;
-    let Ok(cues) = cues_of(alloc, EXPECTS) else {
+    let Ok(cues) = cues_of(alloc, "expects.keys", EXPECTS) else {
         return Err(AllocError);
     };
     let source = Source::Cues(CuedKeys {
@@ -52,7 +44,7 @@ pub fn program(alloc: Global) -> Result<CallOutcome, AllocError> {
         &mut NoWatcher,
     );
     Ok(match played {
-        Ok(played) if played.ran.ending.count == 7 && out.count == 1 && record.count > 0 => {
+        Ok(played) if played.ending.count == 7 && out.count == 1 && record.count > 0 => {
             CallOutcome::Made
         }
         // (what was shown is kept behind the key, and that takes memory too)

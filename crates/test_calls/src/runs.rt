@@ -67,8 +67,7 @@ fn same_errors(rt: &(impl Abort + AllocGlobal), errors: &[(HostError, u8, &str)]
 }
 
 #[test]
-fn names_code_and_status_of_words_and_files(rt: HostRuntime) {
-    let reason = io::Error::other("the disk is gone");
+fn names_code_and_status_of_words(rt: HostRuntime) {
     let errors = [
         (
             HostError::from(UsageError::Usage(UsageRefusal {
@@ -83,6 +82,14 @@ fn names_code_and_status_of_words_and_files(rt: HostRuntime) {
             1,
             "HO1 an argument is not UTF-8 text; try 'cpmhost --help'",
         ),
+    ];
+    same_errors(&rt, errors.as_slice());
+}
+
+#[test]
+fn names_code_and_status_of_files(rt: HostRuntime) {
+    let reason = io::Error::other("the disk is gone");
+    let errors = [
         (
             HostError::FileUnreadable {
                 name: shown("a\nb"),
@@ -143,7 +150,8 @@ fn names_code_and_status_of_programs_and_memory(rt: HostRuntime) {
                 found: shown("RST 8"),
             },
             7,
-            "HO7 line 7, 'RST 8': AS4: a value is out of range (bytes 0 to 255 or FF80H to FFFFH, RST 0 to 7), an address is past FFFFH, or something is divided by 0",
+            "HO7 line 7, 'RST 8': AS4: a value is out of range (bytes 0 to 255 or FF80H to FFFFH, RST 0 to 7), \
+             an address is past FFFFH, or something is divided by 0",
         ),
     ];
     same_errors(&rt, errors.as_slice());

@@ -1,9 +1,9 @@
-//! Why a row fails before anything is compared.
+//! Why a row fails before anything is compared. In files of wrong rows these faults have the names of the variants.
 
 use std::alloc::{AllocError, AllocFailed};
 use thiserror::Error;
 
-/// Why a line can't be done.
+/// Why a line can't be done, or a row says nothing.
 #[derive(Clone, Copy, Debug, Drop, Error)]
 pub enum RowFault {
     /// Its first word is none that rows of this kind have.
@@ -36,6 +36,9 @@ pub enum RowFault {
     /// A condition of the call doesn't hold.
     #[error("the call can't be made here: a condition of it doesn't hold")]
     Unready,
+    /// No line of the row says what must come.
+    #[error("the row expects nothing")]
+    NoExpectation,
     /// Memory was refused.
     #[error("out of memory")]
     OutOfMemory,

@@ -5,6 +5,7 @@ mod answer;
 mod bytes;
 mod fault;
 mod line;
+mod row;
 mod runner;
 mod scene;
 mod word;

@@ -1,8 +1,7 @@
 //! Runs the rows of a file.
 
-use crate::answer::RowAnswer;
-use crate::fault::RowFault;
 use crate::line::{Expectation, RowLine};
+use crate::row::{Course, Row};
 use crate::scene::Scene;
 use std::alloc::{AllocError, Global};
 
@@ -12,28 +11,6 @@ pub struct Tally {
     pub rows: u64,
     pub failed: u64,
     pub expectations: u64,
-}
-
-/// The row that is being done.
-#[derive(Drop)]
-struct Row<'a, S: Scene> {
-    name: &'a str,
-    scene: S,
-    has_expectation: bool,
-    has_failed: bool,
-    /// Whether a line stands after the one that failed.
-    goes_on: bool,
-}
-
-impl<S: Scene> Row<'_, S> {
-    /// Whether it is wrong in its last line, or expects nothing.
-    fn is_wrong(&self) -> bool {
-        if self.has_failed {
-            !self.goes_on
-        } else {
-            !self.has_expectation
-        }
-    }
 }
 
 /// The rows of a file, line by line.
@@ -79,7 +56,8 @@ impl<'a, S: Scene> RowRunner<'a, S> {
         }
         if !text.starts_with("  ") {
             self.end_row()?;
-            return self.begin_row(text);
+            self.row = Some(Row::begin(self.alloc, number, text)?);
+            return Ok(());
         }
         let line = RowLine::of(self.alloc, number, text);
         if line.has_text {
@@ -89,38 +67,19 @@ impl<'a, S: Scene> RowRunner<'a, S> {
         self.act(&line)
     }
 
-    /// Begins a row.
-    fn begin_row(&mut self, name: &'a str) -> Result<(), AllocError> {
-        self.row = Some(Row {
-            name,
-            scene: S::new(self.alloc)?,
-            has_expectation: false,
-            has_failed: false,
-            goes_on: false,
-        });
-        Ok(())
-    }
-
     /// Does a line of the row, unless the row has failed.
     fn act(&mut self, line: &RowLine<'_>) -> Result<(), AllocError> {
-        let alloc = self.alloc;
         let Some(row) = &mut self.row else {
             return self.fail_file(line.number, "this line stands before the first row");
         };
-        if row.has_failed {
-            row.goes_on = true;
+        if self.are_wrong && line.verb() == "fails" {
+            return row.take_fault(self.alloc, line);
+        }
+        let Some(came) = row.act(self.alloc, line)? else {
             return Ok(());
-        }
-        if !matches!(line.wanted, Expectation::Nothing) {
-            row.has_expectation = true;
-            self.tally.expectations = self.tally.expectations.saturating_add(1);
-        }
-        if let Some(came) = done_wrongly(alloc, &mut row.scene, line)? {
-            row.has_failed = true;
-            let name = row.name;
-            self.fail(name, line, came.as_str())?;
-        }
-        Ok(())
+        };
+        let name = row.name;
+        self.fail(name, line, came.as_str())
     }
 
     /// Ends the row, if there is one.
@@ -129,25 +88,38 @@ impl<'a, S: Scene> RowRunner<'a, S> {
             return Ok(());
         };
         self.tally.rows = self.tally.rows.saturating_add(1);
+        self.tally.expectations = self.tally.expectations.saturating_add(row.expectations);
         if self.are_wrong {
-            return self.end_wrong(row.name, row.is_wrong());
+            self.end_wrong(&row)
+        } else {
+            self.end_right(&row)
         }
-        if row.has_failed || !row.has_expectation {
-            self.tally.failed = self.tally.failed.saturating_add(1);
-        }
-        if row.has_failed || row.has_expectation {
-            return Ok(());
-        }
-        self.tell(row.name, "the row expects nothing")
     }
 
-    /// Ends a row that must fail at its last line.
-    fn end_wrong(&mut self, name: &str, is_wrong: bool) -> Result<(), AllocError> {
-        if is_wrong {
-            return Ok(());
+    /// Ends a row that must be right.
+    fn end_right(&mut self, row: &Row<'a, S>) -> Result<(), AllocError> {
+        match row.course {
+            Course::Right if row.expectations > 0 => Ok(()),
+            Course::Right => self.fail_row(row, "the row expects nothing"),
+            _ => {
+                self.tally.failed = self.tally.failed.saturating_add(1);
+                Ok(())
+            }
         }
-        self.tally.failed = self.tally.failed.saturating_add(1);
-        self.tell(name, "the row is wrong, and doesn't fail at its last line")
+    }
+
+    /// Ends a row that must fail at its last line, by what came, or by the fault that it names.
+    fn end_wrong(&mut self, row: &Row<'a, S>) -> Result<(), AllocError> {
+        match (row.course, row.fault()) {
+            (Course::Other | Course::Named, _) => Ok(()),
+            (_, Some(fault)) => {
+                let told = format!(in self.alloc;
+                    "the row doesn't name its fault: fails = {fault:?}"
+                )?;
+                self.fail_row(row, told.as_str())
+            }
+            (_, None) => self.fail_row(row, "the row is wrong, and doesn't fail at its last line"),
+        }
     }
 
     /// Tells of a line that didn't answer what it must, where the row should be right.
@@ -179,47 +151,11 @@ impl<'a, S: Scene> RowRunner<'a, S> {
     }
 
     /// Tells of a row as a whole.
-    fn tell(&mut self, name: &str, what: &str) -> Result<(), AllocError> {
-        let line = format!(in self.alloc; "{}: {name}: {what}\n", self.file)?;
+    fn fail_row(&mut self, row: &Row<'a, S>, what: &str) -> Result<(), AllocError> {
+        self.tally.failed = self.tally.failed.saturating_add(1);
+        let Row { number, name, .. } = row;
+        let line = format!(in self.alloc; "{}:{number}: {name}: {what}\n", self.file)?;
         self.told.push_str(line.as_str())
-    }
-}
-
-/// Does a line, as often as it says. The result, in words, where once it is not what must come.
-fn done_wrongly<S: Scene>(
-    alloc: Global,
-    scene: &mut S,
-    line: &RowLine<'_>,
-) -> Result<Option<String>, AllocError> {
-    if let Some(fault) = line.fault_in::<S>() {
-        return Ok(Some(format!(in alloc; "{fault}")?));
-    }
-    for _ in 0..line.times() {
-        let answer = scene.act(alloc, line);
-        if let Some(came) = came_wrongly(alloc, line, answer)? {
-            return Ok(Some(came));
-        }
-    }
-    Ok(None)
-}
-
-/// The result of a line, in words, where it is not what must come.
-fn came_wrongly(
-    alloc: Global,
-    line: &RowLine<'_>,
-    answer: Result<RowAnswer, RowFault>,
-) -> Result<Option<String>, AllocError> {
-    match answer {
-        Ok(answer) => match answer.is(alloc, line) {
-            Ok(true) => Ok(None),
-            Ok(false) => {
-                let mut came = String::new(alloc);
-                answer.write(alloc, &mut came)?;
-                Ok(Some(came))
-            }
-            Err(fault) => Ok(Some(format!(in alloc; "{fault}")?)),
-        },
-        Err(fault) => Ok(Some(format!(in alloc; "{fault}")?)),
     }
 }
 

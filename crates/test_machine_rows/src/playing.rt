@@ -150,7 +150,7 @@ fn by_script(
         stops_idle,
     };
     let (mut text, mut record) = (Vec::new(alloc), Vec::new(alloc));
-    match play_cues(
+    let played = play_cues(
         alloc,
         system,
         &mut machine,
@@ -159,15 +159,14 @@ fn by_script(
         &mut text,
         &mut record,
         &mut NoWatcher,
-    ) {
-        Ok(LivePlay { steps, .. }) => Ok(PlayedMachine {
-            machine,
-            text,
-            record,
-            steps,
-        }),
-        Err(_) => Err(RowFault::OutOfMemory),
-    }
+    );
+    let LivePlay { steps, .. } = played.map_err(|_| RowFault::OutOfMemory)?;
+    Ok(PlayedMachine {
+        machine,
+        text,
+        record,
+        steps,
+    })
 }
 
 /// Plays a machine by keys that are typed.

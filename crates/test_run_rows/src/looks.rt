@@ -14,9 +14,9 @@ impl Programs {
             "shown" => self.shown(alloc, arguments),
             "status" => RowAnswer::words(alloc, self.status),
             "illegal" => self.illegal(alloc),
-            "at-pc" => RowAnswer::bytes(alloc, self.played()?.ran.ending.at_pc.as_slice()),
+            "at-pc" => RowAnswer::bytes(alloc, self.played()?.ending.at_pc.as_slice()),
             "pressed" => self.pressed(alloc, arguments),
-            "ended" => RowAnswer::name(alloc, self.played()?.ran.ending.ended),
+            "ended" => RowAnswer::name(alloc, self.played()?.ending.ended),
             "early" => RowAnswer::truth(alloc, self.played()?.steps < self.steps),
             _ => RowAnswer::truth(alloc, self.played()?.waits),
         }
@@ -45,7 +45,7 @@ impl Programs {
 
     /// `illegal`: the bytes that are no instruction where the program ended at such, or `none`.
     fn illegal(&self, alloc: Global) -> Result<RowAnswer, RowFault> {
-        match self.played()?.ran.ending.illegal() {
+        match self.played()?.ending.illegal() {
             Some(bytes) => RowAnswer::words(alloc, bytes),
             None => RowAnswer::words(alloc, "none"),
         }
@@ -89,7 +89,7 @@ impl Programs {
 
     /// A drive as the program left it.
     fn drive(&self, letter: &str) -> Result<Option<&Image>, RowFault> {
-        let [a, b, c, d] = &self.played()?.ran.drives;
+        let [a, b, c, d] = &self.played()?.drives;
         let drive = match letter {
             "A" => a,
             "B" => b,

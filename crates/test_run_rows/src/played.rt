@@ -3,7 +3,7 @@
 use crate::programs::Programs;
 use cpm_geom::Image;
 use cpm_host::{
-    CuedKeys, HostError, MOST_KEYS, NoWatcher, ProgramPlay, ProgramStart, Script, Source, cues_of,
+    CuedKeys, HostError, MOST_KEYS, NoWatcher, ProgramPlay, ProgramStart, Source, cues_of,
     run_program,
 };
 use std::alloc::Global;
@@ -12,11 +12,6 @@ use test_language::{RowAnswer, RowFault, RowLine, Word};
 
 /// The file of the key script.
 const KEYS: &str = "a.keys";
-
-/// The script of this text in the file of this name.
-fn script_of<'a>(name: &'a str, text: &'a [u8]) -> Script<'a> {
-    Script { name, text }
-}
 
 impl Programs {
     /// Does a line that plays a program.
@@ -59,7 +54,7 @@ impl Programs {
     ) -> Result<RowAnswer, RowFault> {
         match outcome {
             Ok(typed) => {
-                let ending = typed.ran.ending;
+                let ending = typed.ending;
                 self.played = Some(typed);
                 self.status = 0;
                 RowAnswer::words(alloc, ending)
@@ -78,9 +73,16 @@ impl Programs {
         let start = self.start(alloc)?;
         self.out.bytes.clear();
         self.record.clear();
-        let script = script_of(KEYS, &self.keys);
-        let (out, record) = (&mut self.out, &mut self.record);
-        let outcome = by_script(alloc, start, self.steps, script, stops_idle, out, record);
+        let outcome = by_script(
+            alloc,
+            start,
+            self.steps,
+            KEYS,
+            self.keys.as_slice(),
+            stops_idle,
+            &mut self.out,
+            &mut self.record,
+        );
         self.keep(alloc, outcome)
     }
 
@@ -110,20 +112,20 @@ impl Programs {
     /// `replay`: whether the record of the keys, as a script, gives the same end and the same text.
     fn replay(&mut self, alloc: Global) -> Result<RowAnswer, RowFault> {
         let start = self.start(alloc)?;
-        let script = script_of("record", &self.record);
         let typed = self.played()?;
         let (mut again, mut keys) = (Vec::new(alloc), Vec::new(alloc));
         match by_script(
             alloc,
             start,
             typed.steps,
-            script,
+            "record",
+            self.record.as_slice(),
             false,
             &mut again,
             &mut keys,
         ) {
             Ok(played) => {
-                let is_same = played.ran.ending == typed.ran.ending
+                let is_same = played.ending == typed.ending
                     && again.as_slice() == self.out.bytes.as_slice();
                 RowAnswer::truth(alloc, is_same)
             }
@@ -132,19 +134,20 @@ impl Programs {
     }
 }
 
-/// Runs a program by a script.
+/// Runs a program by the script in a file of this name, with this text.
 fn by_script<W: Write>(
     alloc: Global,
     start: ProgramStart,
     steps: u64,
-    script: Script<'_>,
+    name: &str,
+    text: &[u8],
     stops_idle: bool,
     out: &mut W,
     record: &mut Vec<u8>,
 ) -> Result<ProgramPlay, HostError> {
     // (a program is judged before its script)
     start.check()?;
-    let cues = cues_of(alloc, script)?;
+    let cues = cues_of(alloc, name, text)?;
     let source = Source::Cues(CuedKeys {
         cues: cues.as_slice(),
         waits_from: 0,

@@ -267,7 +267,7 @@ impl Runs {
     fn illegal(&self, alloc: Global, arguments: &[Word<'_>]) -> Result<RowAnswer, RowFault> {
         let place = count_of(arguments)?.saturating_sub(1);
         match self.report.sessions.get(place) {
-            Some(session) => match session.illegal() {
+            Some(session) => match session.ending.illegal() {
                 Some(bytes) => RowAnswer::words(alloc, bytes),
                 None => RowAnswer::words(alloc, "none"),
             },

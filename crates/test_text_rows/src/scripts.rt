@@ -1,8 +1,7 @@
 //! Key scripts: the keys that they have, those that wait, those of forked sessions, and keys that are recorded.
 
 use cpm_script::{
-    Cue, Key, MOST_KEYS, ScriptError, key_line, keys_before, read_cues, read_forked_cues,
-    read_forked_keys, read_keys,
+    Cue, Key, MOST_KEYS, ScriptError, key_line, keys_before, read_cues, read_forked_cues, read_keys,
 };
 use std::alloc::{AllocError, Global};
 use test_language::{RowAnswer, RowFault, RowLine, Scene, Word, byte, count, number};
@@ -10,11 +9,10 @@ use test_language::{RowAnswer, RowFault, RowLine, Scene, Word, byte, count, numb
 /// The most keys that are shown one by one.
 const MOST_SHOWN: usize = 128;
 
-/// A script, that of the session that another is forked from, and what was said of the last refusal.
+/// A script, and what was said of the last refusal.
 #[derive(Drop)]
 pub struct Scripts {
     script: Vec<u8>,
-    parent: Vec<u8>,
     told: String,
 }
 
@@ -22,7 +20,6 @@ impl Scene for Scripts {
     fn new(alloc: Global) -> Result<Scripts, AllocError> {
         Ok(Scripts {
             script: Vec::new(alloc),
-            parent: Vec::new(alloc),
             told: String::new(alloc),
         })
     }
@@ -32,7 +29,7 @@ impl Scene for Scripts {
     }
 
     fn takes_text(verb: &str) -> bool {
-        matches!(verb, "script" | "parent")
+        verb == "script"
     }
 
     fn act(&mut self, alloc: Global, line: &RowLine<'_>) -> Result<RowAnswer, RowFault> {
@@ -41,15 +38,10 @@ impl Scene for Scripts {
                 self.script = line.given(alloc, line.arguments())?;
                 Ok(RowAnswer::Done)
             }
-            "parent" => {
-                self.parent = line.given(alloc, line.arguments())?;
-                Ok(RowAnswer::Done)
-            }
             "first" => self.cut(line.arguments()),
             "record" => self.record(alloc, line.arguments()),
             "keys" => self.keys(alloc),
             "keys-before" => self.keys_before(alloc, line.arguments()),
-            "forked-keys" => self.forked_keys(alloc, line.arguments()),
             "cues" => self.cues(alloc),
             "forked-cues" => self.forked_cues(alloc, line.arguments()),
             "told" => RowAnswer::words(alloc, self.told.as_str()),
@@ -106,29 +98,6 @@ impl Scripts {
         let at = number(*at)?;
         match read_keys(alloc, self.script.as_slice()) {
             Ok(keys) => shown_keys(alloc, keys_before(alloc, keys.as_slice(), at)?.as_slice()),
-            Err(error) => self.refused(alloc, error),
-        }
-    }
-
-    /// `forked-keys COUNT`: the keys of a session with this script that is forked at this count, where those of the parent's
-    /// script come before.
-    fn forked_keys(
-        &mut self,
-        alloc: Global,
-        arguments: &[Word<'_>],
-    ) -> Result<RowAnswer, RowFault> {
-        let [at] = arguments else {
-            return Err(RowFault::Words);
-        };
-        let at = number(*at)?;
-        let Ok(before) = read_keys(alloc, self.parent.as_slice()) else {
-            return Err(RowFault::Unready);
-        };
-        if before.len() > MOST_KEYS {
-            return Err(RowFault::Unready);
-        }
-        match read_forked_keys(alloc, self.script.as_slice(), at, before) {
-            Ok(keys) => shown_keys(alloc, keys.as_slice()),
             Err(error) => self.refused(alloc, error),
         }
     }
