@@ -45,15 +45,6 @@ pub struct Input<'a> {
     pub cues: Vec<Cue>,
 }
 
-/// What was read for all sessions of a configuration.
-#[derive(Drop)]
-pub struct Inputs<'a> {
-    /// The image of the system drive.
-    pub system: Image,
-    /// The sessions in their order.
-    pub sessions: Vec<Input<'a>>,
-}
-
 /// The bytes of a file.
 pub(crate) fn read_bytes<S: Store>(
     alloc: Global,
@@ -223,7 +214,7 @@ fn read_sessions<'a, S: Store>(
     Ok(inputs)
 }
 
-/// What a configuration needs: the system drive's image, then of each session the images of its drives and its key
+/// What a configuration needs: the system drive's image, then of each session in order the images of its drives and its key
 /// script, each checked before the next is read. A forked session has its parent's drives, and needs its key script
 /// alone, which is judged as one after the keys that its parent is known to have before the fork: none are known
 /// where a line of the parent's script waits. No file is changed. Its forks must break no rule, which
@@ -235,11 +226,11 @@ pub fn read_inputs<'a, S: Store>(
     alloc: Global,
     config: &'a Config,
     store: &mut S,
-) -> Result<Inputs<'a>, ReadError>
+) -> Result<(Image, Vec<Input<'a>>), ReadError>
     requires forks { forks_fault 1 [] (config_view config.now).sessions ≡ None }
-    ensures read { IfOk result (λ i. AreInputs (S.files store.old) config.entry.now i.system (map given i.sessions.items)) }
+    ensures read { IfOk result (λ i. AreInputs (S.files store.old) config.entry.now i.0 (map given i.1.items)) }
     // The calls were these reads and no others, of whichever store.
-    ensures log { IfOk result (λ i. LogLeadsBy S.does (AreRead config.entry.now i.system (map given i.sessions.items)) store.old store.new) }
+    ensures log { IfOk result (λ i. LogLeadsBy S.does (AreRead config.entry.now i.0 (map given i.1.items)) store.old store.new) }
     ensures refusal { IfErr result (IsReadRefusal (S.files store.old) config.entry.now) }
     // It was refused at the first fault: no read but those before it and its own, of whichever store.
     ensures refused_log { IfErr result (λ e. LogLeadsBy S.does (StopsReading config.entry.now e) store.old store.new) }
@@ -247,5 +238,5 @@ pub fn read_inputs<'a, S: Store>(
 {
     let system = read_image(alloc, store, config.system.as_str())?;
     let sessions = read_sessions(alloc, store, config.sessions.as_slice())?;
-    Ok(Inputs { system, sessions })
+    Ok((system, sessions))
 }

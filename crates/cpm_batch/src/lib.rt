@@ -7,5 +7,5 @@ mod input;
 mod output;
 
 pub use error::ReadError;
-pub use input::{Input, Inputs, Start, read_inputs};
+pub use input::{Input, Start, read_inputs};
 pub use output::{SessionFiles, outputs_of};

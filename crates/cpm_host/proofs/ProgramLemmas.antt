@@ -1,24 +1,19 @@
--- How a program that was played ended, what it was played by, and what it is not refused for.
-use Rattle.std.proofs.Common.{◌≡◌, ℕ, List, Option, Result, IfOk, refl, sym, subst}
+-- What a program was played by, and what it is not refused for.
+use Rattle.std.proofs.Common.{◌≡◌, ℕ, List, Option, Result, IfOk, sym, subst}
 use Rattle.std.proofs.lemmas.Result.{IfOk-weaker}
 use Rattle.cpm_geom.specs.Disk.{Disk}
 use Rattle.cpm_machine.specs.MachineState.{MachineState}
-use Rattle.cpm_play.specs.Playing.{EndsAs}
 use Rattle.cpm_play.specs.declared.cued.CuedKeys.{CuedKeys}
 use Rattle.cpm_play.specs.declared.live.LiveError.{LiveError}
 use Rattle.cpm_play.specs.declared.live.LiveError.TheVariants.{Unreadable, Unwritable, Unrecorded, OutOfMemory}
 use Rattle.cpm_run.specs.Settled.{streams}
-use Rattle.cpm_host.specs.Program.{IsPlayedBy, IsPlayedCued, ending_of}
+use Rattle.cpm_host.specs.Program.{IsPlayedBy, IsPlayedCued}
 use Rattle.cpm_host.specs.Refusals.{host_error_of_live}
 use Rattle.cpm_host.specs.declared.error.HostError.{HostError}
 use Rattle.cpm_host.specs.declared.error.HostError.TheVariants.{ProgramTooLong}
 use Rattle.cpm_host.specs.declared.program.ProgramPlay.{ProgramPlay}
 use Rattle.cpm_host.specs.declared.program.Source.{Source}
 use Rattle.cpm_host.specs.declared.program.Source.TheVariants.{Cues}
-
--- a state that ends as another has its ending
-pub ending_same : (s t : MachineState) → EndsAs s t → ending_of t ≡ ending_of s
-ending_same s t same = rw (same.ended, same.count, same.regs, same.memory) refl
 
 -- one that was cut short is not refused for its length
 pub not_long : (error : LiveError) (count : ℕ) → ProgramTooLong count ≡ host_error_of_live error → ⊥

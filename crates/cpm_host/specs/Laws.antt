@@ -9,15 +9,16 @@ use Rattle.cpm_script.specs.declared.script.Key.{Key}
 use Rattle.cpm_machine.specs.MachineState.{MachineState}
 use Rattle.cpm_play.specs.Playing.{alone_by}
 use Rattle.cpm_play.specs.declared.cued.CuedKeys.{CuedKeys}
-use Rattle.cpm_host.specs.Program.{IsPlayedCued, console_text, ending_of}
+use Rattle.cpm_host.specs.Program.{IsPlayedCued, console_text}
 use Rattle.cpm_host.specs.declared.program.ProgramPlay.{ProgramPlay}
+use Rattle.cpm_run.specs.Ending.{ending_of}
 use Rattle.cpm_run.specs.Settled.{Streams}
 
 -- what a program showed and left is that of the machine run alone by these keys for so many steps
 pub record IsRunBy (system : Disk) (start : MachineState) (steps : ℕ) (keys : List Key) (t : ProgramPlay) (io : Streams) : Type 0 where
   pub text : Appends io.before io.written (console_text (alone_by system keys steps start))
-  pub ending : t.ran.ending ≡ ending_of (alone_by system keys steps start)
-  pub drives : t.ran.drives ≡ images_of (alone_by system keys steps start).session.disks
+  pub ending : t.ending ≡ ending_of (alone_by system keys steps start)
+  pub drives : t.drives ≡ images_of (alone_by system keys steps start).session.disks
 
 -- A program that was played by a script which never waits, and doesn't stop where it is idle, did what all keys of that script say, for all its steps.
 abbrev pub PlainScriptsRunTheirKeys : Type 0

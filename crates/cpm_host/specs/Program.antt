@@ -25,16 +25,15 @@ use Rattle.cpm_play.specs.Wanting.{AreWanted, HasNoLongWait}
 use Rattle.cpm_play.specs.declared.cued.CuedKeys.{CuedKeys}
 use Rattle.cpm_play.specs.declared.live.LiveError.{LiveError}
 use Rattle.cpm_play.specs.declared.live.LivePlay.{LivePlay}
-use Rattle.cpm_run.specs.Illegal.{bytes_at_pc}
+use Rattle.cpm_run.specs.Ending.{ending_of}
 use Rattle.cpm_run.specs.Settled.{AreUntouched, Streams}
+use Rattle.cpm_store.specs.Files.{StoreName}
 use Rattle.cpm_run.specs.declared.error.RunError.TheVariants.{FileRefused}
 use Rattle.cpm_host.specs.Refusals.{host_error_of_live}
-use Rattle.cpm_host.specs.declared.ending.Ending.{Ending}
 use Rattle.cpm_host.specs.declared.error.HostError.{HostError}
 use Rattle.cpm_host.specs.declared.error.HostError.TheVariants.{OpeningRefused, OutOfMemory, ProgramTooLong, RunRefused}
 use Rattle.cpm_host.specs.declared.program.ProgramPlay.{ProgramPlay}
 use Rattle.cpm_host.specs.declared.program.ProgramStart.{ProgramStart}
-use Rattle.cpm_host.specs.declared.program.Script.{Script}
 use Rattle.cpm_host.specs.declared.program.Source.{Source}
 use Rattle.cpm_host.specs.declared.program.Source.TheVariants.{Cues, Typed}
 
@@ -84,18 +83,18 @@ pub record AreFit (cues : List Cue) : Type 0 where
   pub few : key_count cues ≤ most_keys
 
 -- what is told of a script that is refused, in the file of this name
-abbrev pub IsScriptTold : (name : List ℕ) → ScriptError → HostError → Type 0
+abbrev pub IsScriptTold : StoreName → ScriptError → HostError → Type 0
 IsScriptTold name (Line number fault) (RunRefused (FileRefused (read.Script shown line told))) =
     (shown.bytes ≡ shown_of (chars name)) × (line ≡ number) × (told ≡ fault)
 IsScriptTold name (Line number fault) _ = ⊥
 IsScriptTold name script_error.OutOfMemory e = e ≡ OutOfMemory
 
 -- how a script is refused: for its first line with a fault, with the name of its file as it is shown
-abbrev pub IsCueRefusal : Script → HostError → Type 0
-IsCueRefusal s (RunRefused (FileRefused (read.Script shown line fault))) =
-    (shown.bytes ≡ shown_of (chars s.name.now)) × (cues s.text.now ≡ Err (line, fault))
-IsCueRefusal s OutOfMemory = ⊤
-IsCueRefusal s _ = ⊥
+abbrev pub IsCueRefusal : StoreName → (text : List ℕ) → HostError → Type 0
+IsCueRefusal name text (RunRefused (FileRefused (read.Script shown line fault))) =
+    (shown.bytes ≡ shown_of (chars name)) × (cues text ≡ Err (line, fault))
+IsCueRefusal name text OutOfMemory = ⊤
+IsCueRefusal name text _ = ⊥
 
 -- ---- what it shows and leaves
 
@@ -103,13 +102,11 @@ IsCueRefusal s _ = ⊥
 abbrev pub console_text : MachineState → List ℕ
 console_text s = s.session.console.screen
 
-abbrev pub ending_of : MachineState → Ending
-ending_of s = record { ended = s.ended; count = s.count; pc = s.session.regs.pc; at_pc = bytes_at_pc s }
-
 -- what a machine came to that was played so
 abbrev pub play_of : MachineState → LivePlay → ProgramPlay
 play_of s live = record {
-  ran = record { ending = ending_of s; drives = images_of s.session.disks };
+  ending = ending_of s;
+  drives = images_of s.session.disks;
   keys = live.keys;
   steps = live.steps;
   waits = (look_of s).waiting;
@@ -121,8 +118,8 @@ pub record IsRehearsed (system : Disk) (start : MachineState) (steps : ℕ) (c :
   pub within : t.steps ≤ steps
   pub keys : IsCued system start steps c.waits_from c.cues.now t.keys.items
   pub given : AreGiven (key_count c.cues.now) t.steps t.keys.items
-  pub ending : t.ran.ending ≡ ending_of (alone_by system t.keys.items t.steps start)
-  pub drives : t.ran.drives ≡ images_of (alone_by system t.keys.items t.steps start).session.disks
+  pub ending : t.ending ≡ ending_of (alone_by system t.keys.items t.steps start)
+  pub drives : t.drives ≡ images_of (alone_by system t.keys.items t.steps start).session.disks
   pub ends : HasEndedCued system start steps c.waits_from c.stops_idle t.keys.items t.steps (alone_by system t.keys.items t.steps start)
   pub waits : t.waits ≡ waits_at system start t.keys.items t.steps
   pub replays : script (recorded t.keys.items) ≡ Ok t.keys.items
@@ -142,8 +139,8 @@ pub record IsPlayedLive (system : Disk) (start : MachineState) (steps most : ℕ
   pub given : AreGiven most t.steps t.keys.items
   pub read : AreTypedKeysRead io.unread io.left t.keys.items
   pub text : Appends io.before io.written (console_text (alone_by system t.keys.items t.steps start))
-  pub ending : t.ran.ending ≡ ending_of (alone_by system t.keys.items t.steps start)
-  pub drives : t.ran.drives ≡ images_of (alone_by system t.keys.items t.steps start).session.disks
+  pub ending : t.ending ≡ ending_of (alone_by system t.keys.items t.steps start)
+  pub drives : t.drives ≡ images_of (alone_by system t.keys.items t.steps start).session.disks
   pub ends : HasReason system start steps most io.unread io.left t.keys.items t.steps (alone_by system t.keys.items t.steps start)
   -- each key came where the machine run alone wants one, and it never waits for long before it ends
   pub wanted : AreWanted system start t.keys.items
@@ -171,7 +168,7 @@ pub record IsCutCued (system : Disk) (start : MachineState) (steps : ℕ) (c : C
   pub error : LiveError
   pub told : e ≡ host_error_of_live error
   pub now : MachineState
-  pub short : IsCutOff system steps (key_count c.cues.now) start now io.before io.written io.unrecorded io.record_now error
+  pub short : IsCutOff system steps c.waits_from c.cues.now start now io.before io.written io.unrecorded io.record_now error
   pub unread : io.left ≡ io.unread
 
 -- nor by keys that were typed

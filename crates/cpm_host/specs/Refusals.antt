@@ -1,5 +1,6 @@
 -- The codes of refusals, and what a refused command line becomes.
-use Rattle.std.specs.Prelude.{⊤}
+use Rattle.std.specs.Prelude.{⊤, ◌≡◌, ℕ, List, chars}
+use Rattle.cpm_command_line.specs.Shown.{shown_of}
 use Rattle.cpm_command_line.specs.declared.fault.UsageError.{UsageError}
 use Rattle.cpm_command_line.specs.declared.fault.UsageError.TheVariants as usage
 use Rattle.cpm_host.specs.declared.error.HostError.{HostError}
@@ -46,16 +47,17 @@ code_of_command OutOfMemory = code.OutOfMemory
 code_of_command (OpeningRefused fault) = code.Machine
 code_of_command (ProgramTooLong count) = code.Machine
 
--- what a file that is not read comes to
-abbrev pub IsFileRefusal : HostError → Type 0
-IsFileRefusal (FileUnreadable name reason) = ⊤
-IsFileRefusal OutOfMemory = ⊤
-IsFileRefusal _ = ⊥
+-- what a file of this name that is not read comes to
+abbrev pub IsFileRefusal : (name : List ℕ) → HostError → Type 0
+IsFileRefusal name (FileUnreadable shown reason) = shown.bytes ≡ shown_of (chars name)
+IsFileRefusal name OutOfMemory = ⊤
+IsFileRefusal name _ = ⊥
 
--- what a file that is not written comes to
-abbrev pub IsOutRefusal : HostError → Type 0
-IsOutRefusal (FileUnwritable name reason) = ⊤
-IsOutRefusal _ = ⊥
+-- what a file of this name that is not written comes to
+abbrev pub IsOutRefusal : (name : List ℕ) → HostError → Type 0
+IsOutRefusal name (FileUnwritable shown reason) = shown.bytes ≡ shown_of (chars name)
+IsOutRefusal name OutOfMemory = ⊤
+IsOutRefusal name _ = ⊥
 
 -- what words that can't be read come to
 abbrev pub IsWordRefusal : HostError → Type 0

@@ -4,8 +4,6 @@
 
 mod asm;
 mod asm_listing;
-mod at_pc;
-mod ending;
 mod error;
 mod input;
 pub mod laws;
@@ -26,14 +24,13 @@ pub use cpm_machine::{End, Tail};
 pub use cpm_play::{CuedKeys, NoWatcher, Progress, Watcher};
 pub use cpm_refusals::RefusalCode;
 pub use cpm_run::{
-    IllegalBytes, RecordFile, Report, RunError, RunOptions, RunStage, RunWatcher, SessionReport,
-    run_host,
+    Ending, IllegalBytes, RecordFile, Report, RunError, RunOptions, RunStage, RunWatcher,
+    SessionReport, end_word, run_host,
 };
 pub use cpm_script::{Cue, Key, LineFault, MOST_KEYS, ScriptError, key_line, read_keys};
 pub use cpm_store::{MemoryStore, Store, StoreError};
-pub use ending::Ending;
 pub use error::HostError;
 pub use input::{MOST_FILE, read_whole};
 pub use list::run_list;
-pub use program::{ProgramPlay, ProgramResult, ProgramStart, Script, Source, cues_of, run_program};
+pub use program::{ProgramPlay, ProgramStart, Source, cues_of, run_program};
 pub use tail::tail_of;

@@ -11,7 +11,6 @@ ghost use Rattle.cpm_host.specs.Program.{AreFit, IsCueRefusal, IsCutCued, IsFitS
 ghost use Rattle.cpm_host.specs.Program.{IsProgramPlayRefusal, IsProgramRefusal, IsScriptTold};
 ghost use Rattle.cpm_host.specs.Program.{drives_or_blank, machine_of, play_of, program_given, with_tail_if_any};
 
-use crate::ending::Ending;
 use crate::error::HostError;
 use cpm_batch::ReadError;
 use cpm_command_line::shown;
@@ -21,18 +20,11 @@ use cpm_machine::{
     Closed, MOST_DRIVES, MOST_PROGRAM, MOST_QUOTA, Machine, OpenError, Opening, Tail,
 };
 use cpm_play::{CuedKeys, LivePlay, Watcher, play_cues, play_live};
-use cpm_run::RunError;
+use cpm_run::{Ending, RunError};
 use cpm_script::laws::{cues_in_order, recorded_keys};
 use cpm_script::{Cue, Key, ScriptError, read_cues};
 use std::alloc::Global;
 use std::io::{Read, Write};
-
-/// A key script: the name of its file, and its text.
-#[derive(Clone, Copy, Debug)]
-pub struct Script<'a> {
-    pub name: &'a str,
-    pub text: &'a [u8],
-}
 
 /// The refusal of the script in a file of this name.
 fn script_refused(name: &str, error: ScriptError) -> HostError
@@ -50,18 +42,18 @@ fn script_refused(name: &str, error: ScriptError) -> HostError
     }
 }
 
-/// What a script says, whose lines may wait.
+/// What the key script in a file of this name says by its text, whose lines may wait.
 ///
 /// `FileRefused` names its first line with a fault. `OutOfMemory` comes only where memory is refused.
-pub fn cues_of(alloc: Global, script: Script<'_>) -> Result<Vec<Cue>, HostError>
-    ensures cues { IfOk result (λ v. cues script.entry.text.now ≡ Ok (all_said v)) }
+pub fn cues_of(alloc: Global, name: &str, text: &[u8]) -> Result<Vec<Cue>, HostError>
+    ensures cues { IfOk result (λ v. cues text.now ≡ Ok (all_said v)) }
     ensures fit { IfOk result (λ v. AreFit v.items) }
-    ensures refusal { IfErr result (IsCueRefusal script.entry) }
+    ensures refusal { IfErr result (IsCueRefusal name.now text.now) }
 {
     cues_in_order();
-    match read_cues(alloc, script.text) {
+    match read_cues(alloc, text) {
         Ok(cues) => Ok(cues),
-        Err(error) => Err(script_refused(script.name, error)),
+        Err(error) => Err(script_refused(name, error)),
     }
 }
 
@@ -102,18 +94,12 @@ impl ProgramStart {
     }
 }
 
-/// What a program came to.
-#[derive(Drop)]
-pub struct ProgramResult {
-    pub ending: Ending,
-    /// The drives A to D as it left them.
-    pub drives: [Option<Image>; 4],
-}
-
 /// What a program came to, and by which keys: it is the machine run alone by these for so many steps.
 #[derive(Drop)]
 pub struct ProgramPlay {
-    pub ran: ProgramResult,
+    pub ending: Ending,
+    /// The drives A to D as it left them.
+    pub drives: [Option<Image>; 4],
     /// The keys that came, each with the count of steps at which it did.
     pub keys: Vec<Key>,
     pub steps: u64,
@@ -184,7 +170,8 @@ fn play_of(machine: Machine, live: LivePlay) -> ProgramPlay
     let waits = machine.look().waiting;
     let Closed { drives, .. } = machine.finish();
     ProgramPlay {
-        ran: ProgramResult { ending, drives },
+        ending,
+        drives,
         keys: live.keys,
         steps: live.steps,
         waits,

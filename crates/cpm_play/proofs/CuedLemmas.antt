@@ -1,10 +1,12 @@
 -- A session that is played by a script that may wait: one more cue, and where it ends.
-use Rattle.std.proofs.Common.{◌≡◌, ℕ, ◌+◌, ◌-◌, ◌<◌, ◌≤◌, max, Bool, true, false, true≢false, ◌⊎◌, inl, inr, ⊎_elim, Option, List, [], ◌∷◌, ◌++◌, length, refl, sym, ap, ◌∙◌, subst, arith}
+use Rattle.std.proofs.Common.{◌≡◌, ℕ, ◌+◌, ◌-◌, ◌<◌, ◌≤◌, max, min, Bool, true, false, true≢false, ◌⊎◌, inl, inr, ⊎_elim, Option, List, [], ◌∷◌, ◌++◌, length, refl, sym, ap, ◌∙◌, subst, arith}
 use Rattle.std.proofs.lemmas.Bool.{cases_lt}
 use Rattle.std.proofs.lemmas.Bool.Decides.{nat_tests}
 use Rattle.std.specs.Io.KnownBytes.{Appends}
 use Rattle.cpm_geom.specs.Disk.{Disk}
 use Rattle.cpm_script.specs.Recording.{key_line}
+use Rattle.cpm_script.specs.declared.cue.Cue.{Cue}
+use Rattle.cpm_script.specs.declared.cue.Cue.TheVariants.{Key as Timed, Wait, Press}
 use Rattle.cpm_script.specs.declared.script.Key.{Key}
 use Rattle.cpm_machine.specs.Calls.{state_behind}
 use Rattle.cpm_machine.specs.MachineState.{MachineState}
@@ -15,7 +17,7 @@ use Rattle.cpm_machine.specs.declared.reply.Look.{Look}
 use Rattle.cpm_machine.specs.Step.{after, is_running}
 use Rattle.cpm_machine.proofs.AloneLaws.{after-behind}
 use Rattle.cpm_machine.proofs.PressLaws.{alone-add}
-use Rattle.cpm_play.specs.Cued.{HasEndedCued, HasIdled, HasMissed, HasNoWait, HasPressed, HasExecuted, HasStopped, IsCutOff, IsPressCut, IsRunCut, last_count, runs_at, screen_at, waits_at}
+use Rattle.cpm_play.specs.Cued.{HasEndedCued, HasIdled, HasMissed, HasNoWait, HasPressed, HasExecuted, HasStopped, IsCued, IsCuedFrom, IsCuedUpTo, IsCutOff, IsPressCut, IsUntaken, StaysCued, key_count, last_count, runs_at, screen_at, waits_at}
 use Rattle.cpm_play.specs.Live.{IsGoing}
 use Rattle.cpm_play.specs.declared.live.LiveError.{LiveError}
 use Rattle.cpm_play.specs.declared.live.LiveError.TheVariants.{Unreadable, Unwritable, Unrecorded, OutOfMemory}
@@ -104,26 +106,6 @@ module _ {system : Disk} {steps most : ℕ} {start now : MachineState} {before w
   going-run k next written_then fits run =
       going-turn system steps most start now before written unrecorded record_now keys done going k (after system k now) next written_then fits refl run.state run.text
 
-  -- what is left where they are cut short
-  pub going-cut : (next : MachineState) (written_then : Option (List ℕ)) (e : LiveError) → IsRunCut system (steps - done) now next written written_then e →
-      IsCutOff system steps most start next before written_then unrecorded record_now e
-  going-cut next written_then (Unreadable e) cut = cut.2
-  going-cut next written_then (Unrecorded e) cut = absurd cut.2
-  going-cut next written_then (Unwritable e) cut =
-      (keys, going-text system steps most start now before written unrecorded record_now keys done going cut.0 (after system cut.0 now) cut.1 refl cut.2, going.noted)
-  going-cut next written_then OutOfMemory cut =
-      (keys, going-come system steps most start next before written_then unrecorded record_now keys (done + cut.0) (going-run cut.0 next written_then cut.1 cut.2), going.noted)
-
-  pub going-press-cut : (next : MachineState) (written_then record_then : Option (List ℕ)) (e : LiveError) → IsPressCut system (steps - done) now next written written_then record_now record_then e →
-      IsCutOff system steps most start next before written_then unrecorded record_then e
-  going-press-cut next written_then record_then (Unreadable e) cut = cut
-  going-press-cut next written_then record_then (Unrecorded e) cut =
-      (keys, going-come system steps most start next before written_then unrecorded record_now keys (done + cut.0) (going-run cut.0 next written_then cut.1 cut.2))
-  going-press-cut next written_then record_then (Unwritable e) cut =
-      subst (λ r. IsCutOff system steps most start next before written_then unrecorded r (Unwritable e)) (sym cut.1) (going-cut next written_then (Unwritable e) cut.0)
-  going-press-cut next written_then record_then OutOfMemory cut =
-      subst (λ r. IsCutOff system steps most start next before written_then unrecorded r OutOfMemory) (sym cut.1) (going-cut next written_then OutOfMemory cut.0)
-
   -- where it ends
   run-ended : (k : ℕ) (next : MachineState) (written_then : Option (List ℕ)) → HasExecuted system k now next written written_then → is_running now.ended ≡ false → is_running next.ended ≡ false
   run-ended k next written_then run ended = ap (λ (s : MachineState). is_running s.ended) run.state ∙ after-ended system k now ended
@@ -188,3 +170,69 @@ module _ {system : Disk} {steps most : ℕ} {start now : MachineState} {before w
         let last = goes.1 in
         subst Q (sym goes.0) (⊎_elim (λ (all : done_now ≡ steps). inl all)
         (λ rest. ⊎_elim (λ ended. inr ended) (λ waits. let from = waits.0 in inl (omega arith)) rest) idled.why)
+
+-- ---- where it is cut short
+
+-- a script may stop at any cue that comes no sooner than it was followed
+pub cued-stops : (system : Disk) (start : MachineState) (until most waits_from : ℕ) (given : List Key) (from mark : ℕ) (cues : List Cue) → until ≤ from → IsCuedFrom system start until most waits_from given from mark cues given
+cued-stops system start until most waits_from given from mark [] past = refl
+cued-stops system start until most waits_from given from mark (Timed k ∷ cues) past = inr (λ comes. let less = comes.0 in omega arith, refl)
+cued-stops system start until most waits_from given from mark (Press b ∷ cues) past = inr (λ comes. let less = comes.0 in omega arith, refl)
+cued-stops system start until most waits_from given from mark (Wait text ∷ cues) past = inr (λ at met. let late = met.next.later in let less = met.within in omega arith, refl)
+
+-- after all steps the keys so far are the script's
+pub cued-whole : (system : Disk) (start : MachineState) (steps done waits_from : ℕ) (cues : List Cue) (keys : List Key) → done ≤ steps → StaysCued system start steps done waits_from cues keys → IsCued system start steps waits_from cues keys
+cued-whole system start steps done waits_from cues keys within cued =
+    let all : min steps (steps + 1) ≡ steps = omega arith in
+    subst (λ n. IsCuedFrom system start steps n waits_from [] 0 0 cues keys) all (cued steps within (omega arith))
+
+module _ {system : Disk} {steps : ℕ} (waits_from : ℕ) (cues : List Cue) {start now : MachineState} {before written unrecorded record_now : Option (List ℕ)} {keys : List Key} {done : ℕ}
+    (going : IsGoing system steps (key_count cues) start now before written unrecorded record_now keys done) where
+  -- after so many steps more, where these are the keys so far
+  pub going-cut : (next : MachineState) (written_then : Option (List ℕ)) (e : LiveError) (k : ℕ) → k ≤ steps - done → IsUntaken (after system k now) next written written_then e →
+      IsCuedUpTo system start steps (done + k) waits_from cues keys → IsCutOff system steps waits_from cues start next before written_then unrecorded record_now e
+  unfolding going-come going-text
+  going-cut next written_then (Unreadable e) k fits cut cued = cut
+  going-cut next written_then (Unrecorded e) k fits cut cued = absurd cut
+  going-cut next written_then (Unwritable e) k fits cut cued =
+      (keys, record { text = going-text system steps (key_count cues) start now before written unrecorded record_now keys done going k (after system k now) fits refl cut; cued = cued }, going.noted)
+  going-cut next written_then OutOfMemory k fits cut cued = (
+    keys,
+    record { come = going-come system steps (key_count cues) start next before written_then unrecorded record_now keys (done + k) (going-run going k next written_then fits cut); cued = cued },
+    going.noted,
+  )
+
+  -- on the way to a key
+  pub going-press-cut : (key : Key) (next : MachineState) (written_then record_then : Option (List ℕ)) (e : LiveError) → done ≤ key.count → key.count < steps →
+      IsPressCut system (key.count - done) now next written written_then record_now record_then e →
+      ((until : ℕ) → done ≤ until → until ≤ key.count → IsCuedUpTo system start steps until waits_from cues keys) →
+      (runs_at system start keys key.count ≡ true → IsCuedUpTo system start steps key.count waits_from cues (keys ++ key ∷ [])) →
+      IsCutOff system steps waits_from cues start next before written_then unrecorded record_then e
+  unfolding going-come
+  going-press-cut key next written_then record_then (Unreadable e) low early cut cued comes = cut
+  going-press-cut key next written_then record_then (Unrecorded e) low early cut cued comes =
+      let k = key.count - done in
+      let there : done + k ≡ key.count = omega arith in
+      let runs : runs_at system start keys key.count ≡ true =
+      subst (λ n. runs_at system start keys n ≡ true) there (going-runs going k ∙ sym (ap (λ (s : MachineState). is_running s.ended) cut.0.state) ∙ cut.1) in
+      let P : ℕ → Type 0 = λ n. IsGoing system steps (key_count cues) start next before written_then unrecorded record_now keys n in
+      let went : IsGoing system steps (key_count cues) start next before written_then unrecorded record_now keys key.count =
+      subst P there (going-run going k next written_then (omega arith) cut.0) in (
+        keys,
+        record {
+          by = record {
+            come = going-come system steps (key_count cues) start next before written_then unrecorded record_now keys key.count went;
+            cued = cued key.count low (omega arith);
+          };
+          key = key;
+          comes = comes runs;
+        },
+      )
+  going-press-cut key next written_then record_then (Unwritable e) low early cut cued comes =
+      let less = cut.0.1 in
+      subst (λ r. IsCutOff system steps waits_from cues start next before written_then unrecorded r (Unwritable e)) (sym cut.1)
+      (going-cut next written_then (Unwritable e) cut.0.0 (omega arith) cut.0.2 (cued (done + cut.0.0) (omega arith) (omega arith)))
+  going-press-cut key next written_then record_then OutOfMemory low early cut cued comes =
+      let less = cut.0.1 in
+      subst (λ r. IsCutOff system steps waits_from cues start next before written_then unrecorded r OutOfMemory) (sym cut.1)
+      (going-cut next written_then OutOfMemory cut.0.0 (omega arith) cut.0.2 (cued (done + cut.0.0) (omega arith) (omega arith)))

@@ -1,5 +1,5 @@
 -- A script that is followed, cue by cue.
-use Rattle.std.proofs.Common.{◌≡◌, ℕ, suc, ◌+◌, ◌-◌, ◌^◌, ◌<◌, ◌≤◌, ◌==◌, ◌||◌, max, not, Bool, true, false, true≢false, ◌⊎◌, inl, inr, ⊎_elim, Option, List, [], ◌∷◌, ◌++◌, length, drop, Vec, refl, sym, ap, ◌∙◌, subst, arith}
+use Rattle.std.proofs.Common.{◌≡◌, ℕ, suc, ◌+◌, ◌-◌, ◌^◌, ◌<◌, ◌≤◌, ◌==◌, ◌||◌, max, min, not, Bool, true, false, true≢false, ◌⊎◌, inl, inr, ⊎_elim, Option, List, [], ◌∷◌, ◌++◌, length, drop, Vec, refl, sym, ap, ◌∙◌, subst, arith}
 use Rattle.std.proofs.lemmas.Bool.{cases_lt}
 use Rattle.std.proofs.lemmas.Bool.Decides.{nat_tests}
 use Rattle.std.proofs.lemmas.List.{drop-append-le, drop_all, length_push, length-append, nil_from_length}
@@ -14,13 +14,13 @@ use Rattle.cpm_machine.specs.Serve.{look_of, takes_key}
 use Rattle.cpm_machine.specs.Step.{after, is_running}
 use Rattle.cpm_machine.proofs.GrantLaws.{after-add}
 use Rattle.cpm_machine.proofs.PressLaws.{alone-pressed}
-use Rattle.cpm_play.specs.Cued.{AreAscii, Comes, HasIdled, HasMissed, HasNoWait, HasPressed, HasShown, IsCued, IsCuedFrom, IsCueMet, key_count, last_count, looks_back, runs_at, screen_at, waits_at}
+use Rattle.cpm_play.specs.Cued.{AreAscii, Comes, HasIdled, HasMissed, HasNoWait, HasPressed, HasShown, IsBusyFrom, IsCuedFrom, IsCuedUpTo, IsCueMet, StaysCued, key_count, last_count, looks_back, runs_at, screen_at, waits_at}
 use Rattle.cpm_play.specs.Live.{IsGoing}
 use Rattle.cpm_play.specs.Playing.{presses_of, IsFresh}
 use Rattle.cpm_play.specs.Shown.{HasGrown, IsAwaited, IsKeptOrFound, StandsFor}
 use Rattle.cpm_play.specs.declared.shown.Shown.{Shown}
 use Rattle.cpm_play.proofs.AloneLemmas.{after-ended, after-pending, presses-more}
-use Rattle.cpm_play.proofs.CuedLemmas.{going-run, going-runs, going-waits, idle-busy, idle-going, idle-none, idle-shows, idle-waits, last-more}
+use Rattle.cpm_play.proofs.CuedLemmas.{cued-stops, going-run, going-runs, going-waits, idle-busy, idle-going, idle-none, idle-shows, idle-waits, last-more}
 use Rattle.cpm_play.proofs.GoingLemmas.{going-key, going-start}
 use Rattle.cpm_play.proofs.RunLemmas.{bare, ended-waits}
 use Rattle.cpm_play.proofs.ShownLemmas.{held-shown, shown-held}
@@ -67,7 +67,7 @@ pub record IsFollowing (system : Disk) (start : MachineState) (steps waits_from 
   pub going : IsGoing system steps most start now before written unrecorded record_now keys done
   pub mark : ℕ
   pub marked : mark ≤ length (screen_at system start keys done)
-  pub cued : (ks : List Key) → IsCuedFrom system start steps waits_from keys done mark rest ks → IsCued system start steps waits_from cues ks
+  pub cued : (until : ℕ) → done ≤ until → until ≤ steps → (ks : List Key) → IsCuedFrom system start until (min steps (until + 1)) waits_from keys done mark rest ks → IsCuedUpTo system start steps until waits_from cues ks
   pub kept : looks_back rest ≡ true → StandsFor shown (drop mark (screen_at system start keys done)) × Awaits shown rest
   pub busy : HasNoWait system start keys (max waits_from (last_count 0 keys)) done
   pub ascii : AreAscii rest
@@ -82,7 +82,7 @@ follow-start system start steps waits_from cues written record_now keys shown fr
       going = going-start system steps (key_count cues) start written record_now fresh;
       mark = 0;
       marked = omega arith;
-      cued = λ ks is. is;
+      cued = λ until low high ks is. is;
       kept = λ looks. (subst (StandsFor shown) (sym fresh.screen) nothing, λ text awaited. subst (IsAwaited text) (sym same) awaited);
       busy = λ i low high. absurd (omega arith);
       ascii = ascii;
@@ -100,9 +100,10 @@ pub record IsKeyCue (system : Disk) (start : MachineState) (steps waits_from mos
   pub ascii : key.byte < 128
   pub others_ascii : AreAscii others
   pub room : length keys + suc (key_count others) ≤ most
-  pub cued : (ks : List Key) →
-      (Comes system start steps keys key.count × IsCuedFrom system start steps waits_from (keys ++ key ∷ []) key.count (length (screen_at system start keys key.count)) others ks)
-      ⊎ ((Comes system start steps keys key.count → ⊥) × (ks ≡ keys)) → IsCued system start steps waits_from cues ks
+  pub cued : (until : ℕ) → done ≤ until → until ≤ steps → (ks : List Key) →
+      (Comes system start (min steps (until + 1)) keys key.count
+      × IsCuedFrom system start until (min steps (until + 1)) waits_from (keys ++ key ∷ []) key.count (length (screen_at system start keys key.count)) others ks)
+      ⊎ ((Comes system start until keys key.count → ⊥) × (ks ≡ keys)) → IsCuedUpTo system start steps until waits_from cues ks
 
 module _ {system : Disk} {start : MachineState} {steps waits_from most : ℕ} {cues : List Cue} {now : MachineState} {before written unrecorded record_now : Option (List ℕ)}
     {keys : List Key} {done : ℕ} {shown : Shown} where
@@ -144,6 +145,18 @@ module _ {system : Disk} {start : MachineState} {steps waits_from most : ℕ} {c
         let room : length now.session.console.keys < 4096 = omega arith in
         grind (arith, nat_tests)
 
+    -- one that has not come so far
+    pub key-cued : key.count < steps → (until : ℕ) → done ≤ until → until ≤ key.count → IsCuedUpTo system start steps until waits_from cues keys
+    key-cued within until past high = cue.cued until past (omega arith) keys (inr (λ comes. let less = comes.0 in omega arith, refl))
+
+    -- and one that comes there, if no other does
+    pub key-comes : key.count < steps → runs_at system start keys key.count ≡ true → IsCuedUpTo system start steps key.count waits_from cues (keys ++ key ∷ [])
+    key-comes within runs =
+        let more = keys ++ key ∷ [] in
+        let mark = length (screen_at system start keys key.count) in
+        cue.cued key.count cue.later (omega arith) more
+        (inl ((omega arith, runs), cued-stops system start key.count (min steps (key.count + 1)) waits_from more key.count mark others (omega arith)))
+
     -- a key that comes
     pub follow-pressed : (next : MachineState) (written_then record_then : Option (List ℕ)) (more : List Key) (count : ℕ) (left : Shown) → key.count < steps → steps < 2 ^ 64 → count ≡ key.count →
         HasPressed system key (key.count - done) now next written written_then record_now record_then → more ≡ keys ++ key ∷ [] → StandsFor left [] → left.cues.now ≡ others →
@@ -161,15 +174,15 @@ module _ {system : Disk} {start : MachineState} {steps waits_from most : ℕ} {c
         let same = screen-pressed system start keys more key is in
         let mark : ℕ = length (screen_at system start keys key.count) in
         let marks : length (screen_at system start more key.count) ≡ mark = ap length same in
-        let runs : Comes system start steps keys key.count =
-        (within, subst (λ n. runs_at system start keys n ≡ true) there (going-runs going k ∙ pressed.runs)) in
+        let runs : runs_at system start keys key.count ≡ true = subst (λ n. runs_at system start keys n ≡ true) there (going-runs going k ∙ pressed.runs) in
         let longer : length more ≡ length keys + 1 = ap length is ∙ length_push keys key in
         let Q : ℕ → Type 0 = λ n. IsFollowing system start steps waits_from most cues next before written_then unrecorded record_then more n others left in
         subst Q (sym at) (record {
           going = going-key system steps most start reached before written_then unrecorded record_now keys key.count went key.byte next record_then more cue.ascii (omega arith) (omega arith) is pressed.state pressed.noted;
           mark = mark;
           marked = omega arith;
-          cued = λ ks h. cue.cued ks (inl (runs, subst (λ gs. IsCuedFrom system start steps waits_from gs key.count mark others ks) is h));
+          cued = λ until past high ks h.
+              cue.cued until (omega arith) high ks (inl ((omega arith, runs), subst (λ gs. IsCuedFrom system start until (min steps (until + 1)) waits_from gs key.count mark others ks) is h));
           kept = λ looks. (subst (StandsFor left) (sym (drop_all mark (screen_at system start more key.count) (omega arith))) nothing, λ text awaited. subst (IsAwaited text) (sym awaits) awaited);
           busy = λ i from until. let last = ap (last_count 0) is ∙ last-more 0 keys key in absurd (omega arith);
           ascii = cue.others_ascii;
@@ -215,13 +228,26 @@ module _ {system : Disk} {start : MachineState} {steps waits_from most : ℕ} {c
           subst (λ r. IsGoing system steps most start next before written_then unrecorded r more done_now) (sym still.1)
           (subst (λ ks. IsGoing system steps most start next before written_then unrecorded record_now ks done_now) (sym still.0) went)
 
-      pub missed-cued : IsCued system start steps waits_from cues more
-      missed-cued = cue.cued more (inr (never, still.0))
+      pub missed-cued : StaysCued system start steps done_now waits_from cues more
+      missed-cued until past high = let low = missed.low in cue.cued until (omega arith) high more (inr (λ comes. never (let less = comes.0 in omega arith, comes.1), still.0))
 
       pub missed-busy : (is_running next.ended ≡ false) ⊎ HasNoWait system start more (max waits_from (last_count 0 more)) done_now
       missed-busy = subst (λ ks. (is_running next.ended ≡ false) ⊎ HasNoWait system start ks (max waits_from (last_count 0 ks)) done_now) (sym still.0) ((⊎_elim (λ past. inr (let P : ℕ → Type 0 = λ n. HasNoWait system start keys (max waits_from (last_count 0 keys)) n in subst P (sym past.1) following.busy)) (λ ended. inl ended.2) missed.why))
 
   -- ---- waits
+
+  -- one that has not come so far
+  pub wait-cued : {text : Vec ℕ Global} {others : List Cue} (following : IsFollowing system start steps waits_from most cues now before written unrecorded record_now keys done (Wait text ∷ others) shown) (until : ℕ) →
+      done ≤ until → until ≤ steps → IsBusyFrom system (max waits_from done) until done now → IsCuedUpTo system start steps until waits_from cues keys
+  wait-cued {text} {others} following until low high busy = following.cued until low high keys (inr (never, refl))
+    where
+      never : (at : ℕ) → IsCueMet system start until waits_from keys done following.mark text.items at → ⊥
+      never at met =
+          let late = met.next.later in
+          let there : done + (at - done) ≡ at = omega arith in
+          let P : ℕ → Type 0 = λ n. waits_at system start keys n ≡ false in
+          let still : waits_at system start keys at ≡ false = subst P there (going-waits following.going (at - done) ∙ busy at late met.within) in
+          true≢false (sym met.next.waits ∙ still)
 
   -- steps up to a wait that counts, whose text was kept if it is looked for
   module _ {text : Vec ℕ Global} {others : List Cue} (following : IsFollowing system start steps waits_from most cues now before written unrecorded record_now keys done (Wait text ∷ others) shown)
@@ -277,11 +303,11 @@ module _ {system : Disk} {start : MachineState} {steps waits_from most : ℕ} {c
           let longer : length (screen_at system start keys done_now) ≡ length (screen_at system start keys done) + length (after system (done_now - done) now).session.console.screen =
           ap length grows ∙ length-append (screen_at system start keys done) (after system (done_now - done) now).session.console.screen in
           omega arith;
-      cued = λ ks h. following.cued ks (inl (
+      cued = λ until past high ks h. following.cued until (let low = idled.low in omega arith) high ks (inl (
         done_now,
         record {
           next = record { later = let low = idled.low in let counted = counts within waits in omega arith; waits = waits-there ∙ waits; first = none-before };
-          within = within;
+          within = omega arith;
           shown = shown-there (looks_back (Wait text ∷ others)) refl found;
         },
         h,
@@ -332,21 +358,29 @@ module _ {system : Disk} {start : MachineState} {steps waits_from most : ℕ} {c
             let found = shown-here (looks_back (Wait text ∷ others)) refl (subst P here met.shown) in
             ⊎_elim (λ still. true≢false (sym waits ∙ still)) (λ lacks. lacks found) other
 
+    unmet-cued : (steps ≤ done_now) ⊎ (((look_of next).waiting ≡ false) ⊎ (IsKeptOrFound left text.items → ⊥)) → StaysCued system start steps done_now waits_from cues keys
+    unmet-cued why until past high =
+        let low = idled.low in
+        following.cued until (omega arith) high keys (inr (
+          λ at met. never-met why at (record { next = met.next; within = let less = met.within in omega arith; shown = met.shown }),
+          refl,
+        ))
+
     -- the same of the slice that is looked for
     module _ (needle : List ℕ) (is_text : needle ≡ text.items) where
       pub follow-found : done_now < steps → ((look_of next).waiting ≡ true) × IsKeptOrFound left needle →
           IsFollowing system start steps waits_from most cues next before written_then unrecorded record_now keys (done_now) others left
       follow-found within met = follow-met within met.0 (subst (IsKeptOrFound left) is_text met.1)
 
-      pub unfound-cued : ((look_of next).waiting ≡ false) ⊎ (IsKeptOrFound left needle → ⊥) → IsCued system start steps waits_from cues keys
-      unfound-cued why = following.cued keys (inr (never-met (inr (⊎_elim (λ still. inl still) (λ lacks. inr (λ held. lacks (subst (IsKeptOrFound left) (sym is_text) held))) why)), refl))
+      pub unfound-cued : ((look_of next).waiting ≡ false) ⊎ (IsKeptOrFound left needle → ⊥) → StaysCued system start steps done_now waits_from cues keys
+      unfound-cued why = unmet-cued (inr (⊎_elim (λ still. inl still) (λ lacks. inr (λ held. lacks (subst (IsKeptOrFound left) (sym is_text) held))) why))
 
-    pub past-cued : steps ≤ done_now → IsCued system start steps waits_from cues keys
-    past-cued past = following.cued keys (inr (never-met (inl past), refl))
+    pub past-cued : steps ≤ done_now → StaysCued system start steps done_now waits_from cues keys
+    past-cued past = unmet-cued (inl past)
 
 -- behind the last cue
 pub follow-end : {system : Disk} {start : MachineState} {steps waits_from most : ℕ} {cues : List Cue} {now : MachineState} {before written unrecorded record_now : Option (List ℕ)}
-    {keys : List Key} {done : ℕ} {rest : List Cue} {shown : Shown} → rest ≡ [] → IsFollowing system start steps waits_from most cues now before written unrecorded record_now keys done rest shown → IsCued system start steps waits_from cues keys
-follow-end {system} {start} {steps} {waits_from} {most} {cues} {now} {before} {written} {unrecorded} {record_now} {keys} {done} {rest} {shown} none following =
-    let P : List Cue → Type 0 = λ r. IsCuedFrom system start steps waits_from keys done following.mark r keys in
-    following.cued keys (subst P (sym none) refl)
+    {keys : List Key} {done : ℕ} {rest : List Cue} {shown : Shown} → rest ≡ [] → IsFollowing system start steps waits_from most cues now before written unrecorded record_now keys done rest shown → StaysCued system start steps done waits_from cues keys
+follow-end {system} {start} {steps} {waits_from} {most} {cues} {now} {before} {written} {unrecorded} {record_now} {keys} {done} {rest} {shown} none following until past high =
+    let P : List Cue → Type 0 = λ r. IsCuedFrom system start until (min steps (until + 1)) waits_from keys done following.mark r keys in
+    following.cued until past high keys (subst P (sym none) refl)

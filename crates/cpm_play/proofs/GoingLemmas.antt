@@ -61,7 +61,7 @@ gone-key system start keys done byte console list now ascii fits gone =
       typed = typed-more 0 done keys key gone.typed gone.come (omega arith) refl fits ascii;
     }
 
-gone-turn : (system : Disk) (start : MachineState) (keys : List Key) (done k : ℕ) (console list : List ℕ) (now : MachineState) →
+pub gone-turn : (system : Disk) (start : MachineState) (keys : List Key) (done k : ℕ) (console list : List ℕ) (now : MachineState) →
     HasGone system start keys done console list now → HasGone system start keys (done + k) console list (after system k now)
 gone-turn system start keys done k console list now gone = record {
   state = sym (after-behind system console list k now) ∙ ap (after system k) gone.state ∙ sym (alone-add system (presses_of keys) done k start (λ i past. none-after done i keys gone.come past));
@@ -134,7 +134,7 @@ module _ (system : Disk) (steps most : ℕ) (start now : MachineState) (before w
       }
 
   -- which there was, where the writer fails
-  pub going-text : (k : ℕ) (turned : MachineState) → k ≤ steps - done → turned ≡ after system k now → HasText turned → HadText system steps most start keys
+  unfoldable pub going-text : (k : ℕ) (turned : MachineState) → k ≤ steps - done → turned ≡ after system k now → HasText turned → HadText system steps most start keys
   going-text k turned fits is text =
       let within = going.within in
       let there = gone-turn system start keys done k going.console going.list now going.gone in
@@ -169,5 +169,5 @@ module _ (system : Disk) (steps most : ℕ) (start now : MachineState) (before w
   pub going-waiting : (look_of now).waiting ≡ waits_at system start keys done
   going-waiting = sym (waits-behind going.console going.list now) ∙ ap (λ (s : MachineState). (look_of s).waiting) going.gone.state
 
-  pub going-come : HasCome system steps most start now before written keys
+  unfoldable pub going-come : HasCome system steps most start now before written keys
   going-come = record { done = done; within = going.within; given = going-given; text = going-shown; ending = going-ending }

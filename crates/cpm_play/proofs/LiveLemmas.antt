@@ -12,7 +12,7 @@ use Rattle.cpm_machine.specs.Serve.{keyed, takes_key}
 use Rattle.cpm_machine.specs.Step.{after, is_running}
 use Rattle.cpm_machine.specs.Until.{can_go_on, executed_until}
 use Rattle.cpm_machine.proofs.GrantLaws.{longest-is}
-use Rattle.cpm_play.specs.Live.{AreTypedKeysRead, HasPaused, HasReason, IsCutShort, IsGoing, IsNotGiven, IsUnreadable, IsUnwritable, bytes_of}
+use Rattle.cpm_play.specs.Live.{AreTypedKeysRead, HasPaused, HasReadOneMore, HasReason, IsCutShort, IsGoing, IsNotGiven, IsUnreadable, IsUnwritable, bytes_of}
 use Rattle.cpm_play.specs.declared.live.LiveError.{LiveError}
 use Rattle.cpm_play.specs.declared.live.LiveError.TheVariants.{Unreadable, Unwritable, Unrecorded, OutOfMemory}
 use Rattle.cpm_play.specs.Pacing.{without_list, without_text}
@@ -80,8 +80,8 @@ module _ (system : Disk) (steps most : ℕ) (start now : MachineState) (before w
         }
 
     -- what it is now
-    live-paused : HasPaused system steps most start now before written keys
-    live-paused = record {
+    live-paused : length keys < most → HasPaused system steps most start now before written keys
+    live-paused room = record {
       come = record {
         done = done;
         within = live.going.within;
@@ -90,26 +90,32 @@ module _ (system : Disk) (steps most : ℕ) (start now : MachineState) (before w
         ending = going-ending system steps most start now before written unrecorded record_now keys done live.going;
       };
       wants = wants;
+      room = room;
       wanted = live.watched.wanted;
     }
 
     -- why it is cut short: the reader failed
-    pub live-unread : (left_then : Option (List ℕ)) (e : LiveError) → IsUnreadable e → HasReadKeys left left_then [] →
+    pub live-unread : (left_then : Option (List ℕ)) (e : LiveError) → length keys < most → IsUnreadable e → HasReadKeys left left_then [] →
         IsCutShort system steps most start now before written unrecorded record_now unread left_then e
-    live-unread left_then (Unreadable e) is none =
-        (keys, live-paused, live.going.noted, subst (λ v. HasReadKeys unread left_then v) (append-nil (bytes_of keys)) (read_more unread left left_then (bytes_of keys) [] live.read none))
-    live-unread left_then (Unwritable e) is none = absurd is
-    live-unread left_then (Unrecorded e) is none = absurd is
-    live-unread left_then OutOfMemory is none = absurd is
+    live-unread left_then (Unreadable e) room is none =
+        (keys, live-paused room, live.going.noted, subst (λ v. HasReadKeys unread left_then v) (append-nil (bytes_of keys)) (read_more unread left left_then (bytes_of keys) [] live.read none))
+    live-unread left_then (Unwritable e) room is none = absurd is
+    live-unread left_then (Unrecorded e) room is none = absurd is
+    live-unread left_then OutOfMemory room is none = absurd is
 
-    -- a key was not given
-    pub live-not-given : (next : MachineState) (record_then left_then : Option (List ℕ)) (e : LiveError) → next ≡ now → IsNotGiven e record_now record_then →
-        IsCutShort system steps most start next before written unrecorded record_then unread left_then e
-    live-not-given next record_then left_then (Unreadable e) same is = absurd is
-    live-not-given next record_then left_then (Unwritable e) same is = absurd is
-    live-not-given next record_then left_then (Unrecorded e) same is = (keys, subst (λ s. HasPaused system steps most start s before written keys) (sym same) live-paused)
-    live-not-given next record_then left_then OutOfMemory same is =
-        (keys, subst (λ s. HasPaused system steps most start s before written keys) (sym same) live-paused, subst (λ o. Appends unrecorded o (recorded keys)) (sym is) live.going.noted)
+    -- a key that was read was not given
+    pub live-not-given : (byte : ℕ) (next : MachineState) (record_then left_then : Option (List ℕ)) (e : LiveError) → length keys < most → HasReadKeys left left_then (byte ∷ []) → next ≡ now →
+        IsNotGiven e record_now record_then → IsCutShort system steps most start next before written unrecorded record_then unread left_then e
+    live-not-given byte next record_then left_then e room reads same =
+        let paused : HasPaused system steps most start next before written keys = subst (λ s. HasPaused system steps most start s before written keys) (sym same) (live-paused room) in
+        by_error e paused (byte, read_more unread left left_then (bytes_of keys) (byte ∷ []) live.read reads)
+      where
+        by_error : (e : LiveError) → HasPaused system steps most start next before written keys → HasReadOneMore unread left_then keys → IsNotGiven e record_now record_then →
+            IsCutShort system steps most start next before written unrecorded record_then unread left_then e
+        by_error (Unreadable e) paused more is = absurd is
+        by_error (Unwritable e) paused more is = absurd is
+        by_error (Unrecorded e) paused more is = (keys, paused, more)
+        by_error OutOfMemory paused more is = (keys, paused, subst (λ o. Appends unrecorded o (recorded keys)) (sym is) live.going.noted, more)
 
     -- no key came any more
     quit : (left_then : Option (List ℕ)) → HasQuit left left_then [] → HasQuit unread left_then (bytes_of keys)

@@ -37,12 +37,12 @@ runs-before system start steps n before later order fits runs = by_test (runs_at
         absurd (true≢false (sym runs ∙ ap (λ ps. is_running (alone system ps steps start).ended) (presses-append before later) ∙ last))
 
 plain-from : (system : Disk) (start : MachineState) (steps waits_from last n mark : ℕ) (before keys given : List Key) → IsInOrder n keys → AreBy last keys → last < steps → runs_at system start (before ++ keys) steps ≡ true →
-    IsCuedFrom system start steps waits_from before n mark (map Timed keys) given → given ≡ before ++ keys
+    IsCuedFrom system start steps steps waits_from before n mark (map Timed keys) given → given ≡ before ++ keys
 plain-from system start steps waits_from last n mark before [] given order by fits runs is = is ∙ sym (append-nil before)
 plain-from system start steps waits_from last n mark before (k ∷ keys) given order by fits runs (inl come) =
     let low : n ≤ k.count = order.0 in
     let at : max n k.count ≡ k.count = omega arith in
-    let P : ℕ → Type 0 = λ m. IsCuedFrom system start steps waits_from (before ++ (let key : Key = record { count = m; byte = k.byte } in key) ∷ []) m (length (screen_at system start before m)) (map Timed keys) given in
+    let P : ℕ → Type 0 = λ m. IsCuedFrom system start steps steps waits_from (before ++ (let key : Key = record { count = m; byte = k.byte } in key) ∷ []) m (length (screen_at system start before m)) (map Timed keys) given in
     let joined : (before ++ k ∷ []) ++ keys ≡ before ++ k ∷ keys = append_assoc before (k ∷ []) keys in
     plain-from system start steps waits_from last k.count (length (screen_at system start before k.count)) (before ++ k ∷ []) keys given order.1 by.1 fits
     (ap (λ ks. runs_at system start ks steps) joined ∙ runs) (subst P at come.1)
@@ -68,13 +68,13 @@ record AreFirst (system : Disk) (start : MachineState) (steps : ℕ) (keys came 
   why : (steps ≤ at) ⊎ ((at ≤ steps) × (runs_at system start came at ≡ false))
 
 came-from : (system : Disk) (start : MachineState) (steps waits_from n mark : ℕ) (before keys came : List Key) → IsInOrder n keys →
-    IsCuedFrom system start steps waits_from before n mark (map Timed keys) came → AreFirst system start steps (before ++ keys) came
+    IsCuedFrom system start steps steps waits_from before n mark (map Timed keys) came → AreFirst system start steps (before ++ keys) came
 came-from system start steps waits_from n mark before [] came order is =
     record { rest = []; at = steps; joined = ap (λ ks. ks ++ []) (sym is); later = tt; why = inl (omega arith) }
 came-from system start steps waits_from n mark before (k ∷ keys) came order (inl come) =
     let low : n ≤ k.count = order.0 in
     let at : max n k.count ≡ k.count = omega arith in
-    let P : ℕ → Type 0 = λ m. IsCuedFrom system start steps waits_from (before ++ (let key : Key = record { count = m; byte = k.byte } in key) ∷ []) m (length (screen_at system start before m)) (map Timed keys) came in
+    let P : ℕ → Type 0 = λ m. IsCuedFrom system start steps steps waits_from (before ++ (let key : Key = record { count = m; byte = k.byte } in key) ∷ []) m (length (screen_at system start before m)) (map Timed keys) came in
     let first = came-from system start steps waits_from k.count (length (screen_at system start before k.count)) (before ++ k ∷ []) keys came order.1 (subst P at come.1) in
     record { rest = first.rest; at = first.at; joined = sym (append_assoc before (k ∷ []) keys) ∙ first.joined; later = first.later; why = first.why }
 came-from system start steps waits_from n mark before (k ∷ keys) came order (inr never) =

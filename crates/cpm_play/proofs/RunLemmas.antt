@@ -1,5 +1,5 @@
 -- Steps that are executed in turns, whose output is taken after each, and those up to a wait.
-use Rattle.std.proofs.Common.{◌≡◌, ℕ, ◌+◌, ◌-◌, ◌<◌, ◌≤◌, ◌&&◌, nat_le, not, min, Bool, true, false, true≢false, ◌⊎◌, inl, inr, ⊎_elim, Option, List, [], ◌++◌, length, refl, sym, ap, ap₂, ◌∙◌, subst, arith, append-nil}
+use Rattle.std.proofs.Common.{◌≡◌, ℕ, ◌+◌, ◌-◌, ◌<◌, ◌≤◌, ◌&&◌, nat_le, not, max, min, Bool, true, false, true≢false, ◌⊎◌, inl, inr, ⊎_elim, Option, List, [], ◌++◌, length, refl, sym, ap, ap₂, ◌∙◌, subst, arith, append-nil}
 use Rattle.std.proofs.lemmas.Bool.{cases_lt}
 use Rattle.std.specs.Io.KnownBytes.{Appends}
 use Rattle.cpm_geom.specs.Disk.{Disk}
@@ -12,7 +12,7 @@ use Rattle.cpm_machine.specs.Step.{after, can_step, is_running}
 use Rattle.cpm_machine.specs.ToWait.{can_work, executed_to_wait}
 use Rattle.cpm_machine.proofs.AloneLaws.{after-behind}
 use Rattle.cpm_machine.proofs.GrantLaws.{after-add, longest-is}
-use Rattle.cpm_play.specs.Cued.{HasIdled, HasExecuted, HasStopped, IsBusyFor, IsRunCut, IsOutputTaken, IsUntaken}
+use Rattle.cpm_play.specs.Cued.{HasIdled, HasExecuted, HasStopped, IsBusyFor, IsBusyFrom, IsIdleCut, IsRunCut, IsOutputTaken, IsUntaken}
 use Rattle.cpm_play.specs.declared.live.LiveError.{LiveError}
 use Rattle.cpm_play.specs.declared.live.LiveError.TheVariants.{Unreadable, Unwritable, Unrecorded, OutOfMemory}
 use Rattle.cpm_play.specs.Pacing.{without_list, without_text}
@@ -75,17 +75,18 @@ module _ (system : Disk) (k : ℕ) (old mid : MachineState) (before middle : Opt
       subst (λ s. HasExecuted system k old s before middle) (sym same) run
 
   -- one that is cut short
-  pub run-cut : (steps j : ℕ) (turned next : MachineState) (written : Option (List ℕ)) (e : LiveError) → k + j ≤ steps → turned ≡ after system j mid → IsUntaken turned next middle written e →
-      IsRunCut system steps old next before written e
-  run-cut steps j turned next written (Unreadable e) fits is cut = absurd cut
-  run-cut steps j turned next written (Unrecorded e) fits is cut = absurd cut
-  run-cut steps j turned next written (Unwritable e) fits is cut = (
-    k + j,
-    fits,
-    λ none. cut (ap (λ (s : MachineState). s.session.console.screen) is
-        ∙ both_empty (after system k old).session.console.screen (after system j mid).session.console.screen (sym (ap (λ (s : MachineState). s.session.console.screen) (run-on j)) ∙ none)),
-  )
-  run-cut steps j turned next written OutOfMemory fits is cut = (k + j, fits, run-more j turned next written is cut)
+  run-untaken : (j : ℕ) (turned next : MachineState) (written : Option (List ℕ)) (e : LiveError) → turned ≡ after system j mid → IsUntaken turned next middle written e →
+      IsUntaken (after system (k + j) old) next before written e
+  run-untaken j turned next written (Unreadable e) is cut = absurd cut
+  run-untaken j turned next written (Unrecorded e) is cut = absurd cut
+  run-untaken j turned next written (Unwritable e) is cut =
+      λ none. cut (ap (λ (s : MachineState). s.session.console.screen) is
+      ∙ both_empty (after system k old).session.console.screen (after system j mid).session.console.screen (sym (ap (λ (s : MachineState). s.session.console.screen) (run-on j)) ∙ none))
+  run-untaken j turned next written OutOfMemory is cut = run-more j turned next written is cut
+
+  pub run-cut : (to_wait : Bool) (steps j : ℕ) (turned next : MachineState) (written : Option (List ℕ)) (e : LiveError) → k + j ≤ steps → turned ≡ after system j mid → IsUntaken turned next middle written e →
+      (to_wait ≡ true → IsBusyFor system (k + j) old) → IsRunCut to_wait system steps old next before written e
+  run-cut to_wait steps j turned next written e fits is cut busy = (k + j, fits, run-untaken j turned next written e is cut, busy)
 
   -- what is kept grows with what is shown
   pub kept-more : (j : ℕ) (turned : MachineState) (start kept more : Shown) → turned ≡ after system j mid → HasGrown start kept (after system k old).session.console.screen →
@@ -217,11 +218,35 @@ run-all true system steps k old now busy all = (busy refl, inl all)
 
 -- ---- a pause, and then steps up to a wait
 
+-- where those of the pause are cut short
+pub pause-short : (system : Disk) (steps waits_from done pause : ℕ) (old next : MachineState) (before written : Option (List ℕ)) (e : LiveError) → done ≤ steps → pause ≡ min waits_from steps - done →
+    IsRunCut false system pause old next before written e → IsIdleCut system steps waits_from done old next before written e
+pause-short system steps waits_from done pause old next before written e within paused cut =
+    let less = cut.1 in
+    (cut.0, omega arith, cut.2, λ i low high. absurd (omega arith))
+
 module _ (system : Disk) (steps waits_from done pause k j : ℕ) (old mid next : MachineState) (before middle written : Option (List ℕ))
     (within_steps : done ≤ steps) (paused : pause ≡ min waits_from steps - done) (fits : k ≤ pause) (run : HasExecuted system k old mid before middle) where
+  -- none of the steps behind the pause waits
+  pause-busy : (n : ℕ) → IsBusyFor system n mid → IsBusyFrom system (max waits_from done) (done + k + n) done old
+  pause-busy n busy i low high =
+      let at : k + (i - done - k) ≡ i - done = omega arith in
+      let P : ℕ → Type 0 = λ m. (look_of (after system m old)).waiting ≡ false in
+      let far : MachineState = after system k old in
+      subst P at (ap (λ (s : MachineState). (look_of s).waiting) (run-on system k old mid before middle run (i - done - k))
+      ∙ waits-behind far.session.console.screen far.session.console.printer (after system (i - done - k) mid) ∙ busy (i - done - k) (omega arith))
+
   -- where the steps behind the pause are cut short
-  pub pause-cut : (e : LiveError) → IsRunCut system (steps - (done + k)) mid next middle written e → IsRunCut system (steps - done) old next before written e
-  pause-cut e cut = run-cut system k old mid before middle run (steps - done) cut.0 (after system cut.0 mid) next written e (let less = cut.1 in omega arith) refl cut.2
+  pub pause-cut : (e : LiveError) → IsRunCut true system (steps - (done + k)) mid next middle written e → IsIdleCut system steps waits_from done old next before written e
+  pause-cut e cut =
+      let n = cut.0 in
+      let less = cut.1 in
+      let at : done + k + n ≡ done + (k + n) = omega arith in (
+        k + n,
+        omega arith,
+        run-untaken system k old mid before middle run n (after system n mid) next written e refl cut.2,
+        subst (λ (m : ℕ). IsBusyFrom system (max waits_from done) m done old) at (pause-busy n (cut.3 refl)),
+      )
 
   module _ (stopped : HasStopped false system pause k old mid) (fits_then : j ≤ steps - (done + k)) (run_then : HasExecuted system j mid next middle written)
       (stopped_then : HasStopped true system (steps - (done + k)) j mid next) where
@@ -235,12 +260,7 @@ module _ (system : Disk) (steps waits_from done pause k j : ℕ) (old mid next :
       run =
           let P : ℕ → Type 0 = λ n. HasExecuted system n old next before written in
           subst P (sym together) (run-more system k old mid before middle run j (after system j mid) next written refl run_then);
-      busy = λ i low high.
-          let at : k + (i - done - k) ≡ i - done = omega arith in
-          let P : ℕ → Type 0 = λ n. (look_of (after system n old)).waiting ≡ false in
-          let far : MachineState = after system k old in
-          subst P at (ap (λ (s : MachineState). (look_of s).waiting) (run-on system k old mid before middle run (i - done - k))
-          ∙ waits-behind far.session.console.screen far.session.console.printer (after system (i - done - k) mid) ∙ stopped_then.0 (i - done - k) (omega arith));
+      busy = pause-busy j stopped_then.0;
       why = ⊎_elim (λ (all : j ≡ steps - (done + k)). inl (omega arith))
           (λ rest. ⊎_elim (λ ended. inr (inl ended)) waits rest) stopped_then.1;
     }

@@ -1,6 +1,6 @@
 -- One machine that is played by a script that may wait: which keys come by the script, where the session ends, and what its parts do.
 -- All of it is own: this project's form of key scripts.
-use Rattle.std.specs.Prelude.{◌≡◌, ℕ, ◌-◌, ◌<◌, ◌≤◌, max, Bool, true, false, ◌||◌, not, List, [], ◌∷◌, ◌++◌, length, map, drop, ◌==◌, Option, ◌⊎◌}
+use Rattle.std.specs.Prelude.{◌≡◌, ℕ, ◌+◌, ◌-◌, ◌<◌, ◌≤◌, max, min, Bool, true, false, ◌||◌, not, List, [], ◌∷◌, ◌++◌, length, map, drop, ◌==◌, Option, ◌⊎◌}
 use Rattle.std.specs.Io.KnownBytes.{Appends}
 use Rattle.memchr.specs.Find.{OccursAt}
 use Rattle.cpm_geom.specs.Disk.{Disk}
@@ -51,46 +51,32 @@ pub record IsCueMet (system : Disk) (start : MachineState) (steps waits_from : �
 -- The keys of the rest of a script after those that were given, where its next cue counts from this count on,
 -- and so many bytes had been shown when the last key came. A key that does not come is the end of the script,
 -- and so is a text that has not been shown where the machine next waits: while it waits it shows nothing more. A wait before `waits_from` steps does not count.
-abbrev pub IsCuedFrom : Disk → MachineState → (steps waits_from : ℕ) → (given : List Key) → (from mark : ℕ) → List Cue → List Key → Type 0
-IsCuedFrom system start steps waits_from given from mark [] keys = keys ≡ given
-IsCuedFrom system start steps waits_from given from mark (Timed k ∷ cues) keys =
+-- All that comes within `least` steps is there, and nothing else but what comes within `most`.
+abbrev pub IsCuedFrom : Disk → MachineState → (least most waits_from : ℕ) → (given : List Key) → (from mark : ℕ) → List Cue → List Key → Type 0
+IsCuedFrom system start least most waits_from given from mark [] keys = keys ≡ given
+IsCuedFrom system start least most waits_from given from mark (Timed k ∷ cues) keys =
     let at = max from k.count in
-    (Comes system start steps given at
-    × IsCuedFrom system start steps waits_from (given ++ record { count = at; byte = k.byte } ∷ []) at (length (screen_at system start given at)) cues keys)
-    ⊎ ((Comes system start steps given at → ⊥) × (keys ≡ given))
-IsCuedFrom system start steps waits_from given from mark (Press b ∷ cues) keys =
-    (Comes system start steps given from
-    × IsCuedFrom system start steps waits_from (given ++ record { count = from; byte = b } ∷ []) from (length (screen_at system start given from)) cues keys)
-    ⊎ ((Comes system start steps given from → ⊥) × (keys ≡ given))
-IsCuedFrom system start steps waits_from given from mark (Wait text ∷ cues) keys =
-    ((at : ℕ) × IsCueMet system start steps waits_from given from mark text.items at × IsCuedFrom system start steps waits_from given at mark cues keys)
-    ⊎ (((at : ℕ) → IsCueMet system start steps waits_from given from mark text.items at → ⊥) × (keys ≡ given))
+    let shown = length (screen_at system start given at) in
+    (Comes system start most given at
+    × IsCuedFrom system start least most waits_from (given ++ record { count = at; byte = k.byte } ∷ []) at shown cues keys)
+    ⊎ ((Comes system start least given at → ⊥) × (keys ≡ given))
+IsCuedFrom system start least most waits_from given from mark (Press b ∷ cues) keys =
+    let shown = length (screen_at system start given from) in
+    (Comes system start most given from
+    × IsCuedFrom system start least most waits_from (given ++ record { count = from; byte = b } ∷ []) from shown cues keys)
+    ⊎ ((Comes system start least given from → ⊥) × (keys ≡ given))
+IsCuedFrom system start least most waits_from given from mark (Wait text ∷ cues) keys =
+    ((at : ℕ) × IsCueMet system start most waits_from given from mark text.items at × IsCuedFrom system start least most waits_from given at mark cues keys)
+    ⊎ (((at : ℕ) → IsCueMet system start least waits_from given from mark text.items at → ⊥) × (keys ≡ given))
 
 -- the keys of a script, for at most so many steps, where waits count from this step on
 abbrev pub IsCued : Disk → MachineState → (steps waits_from : ℕ) → List Cue → List Key → Type 0
-IsCued system start steps waits_from cues keys = IsCuedFrom system start steps waits_from [] 0 0 cues keys
+IsCued system start steps waits_from cues keys = IsCuedFrom system start steps steps waits_from [] 0 0 cues keys
 
--- ---- where a session ends
-
--- It ends where the machine has, and else after its steps. One that stops where it is idle ends sooner,
--- where the machine next waits after the last key, if waits count there.
-abbrev pub HasEndedCued : Disk → MachineState → (steps waits_from : ℕ) → (stops_idle : Bool) → List Key → ℕ → MachineState → Type 0
-HasEndedCued system start steps waits_from false keys done now = (done ≡ steps) ⊎ (is_running now.ended ≡ false)
-HasEndedCued system start steps waits_from true keys done now =
-    (is_running now.ended ≡ false)
-    ⊎ (HasNoWait system start keys (max waits_from (last_count 0 keys)) done
-    × ((done ≡ steps) ⊎ ((waits_from ≤ done) × (waits_at system start keys done ≡ true))))
-
--- Why it was not played to its end, and what it had come to. The writer fails where there is text, and all keys are recorded.
--- The record fails at a key that is not pressed, and all is shown; where memory is refused all is shown and recorded.
-abbrev pub IsCutOff : Disk → (steps most : ℕ) → (start now : MachineState) → (before written unrecorded record_now : Option (List ℕ)) → LiveError → Type 0
-IsCutOff system steps most start now before written unrecorded record_now OutOfMemory =
-    (keys : List Key) × HasCome system steps most start now before written keys × Appends unrecorded record_now (recorded keys)
-IsCutOff system steps most start now before written unrecorded record_now (Unwritable e) =
-    (keys : List Key) × HadText system steps most start keys × Appends unrecorded record_now (recorded keys)
-IsCutOff system steps most start now before written unrecorded record_now (Unrecorded e) =
-    (keys : List Key) × HasCome system steps most start now before written keys
-IsCutOff system steps most start now before written unrecorded record_now (Unreadable e) = ⊥
+-- Its keys so far, in a session that has executed so many of its steps: all that come before that count, and of those that come at that count all, some of
+-- the first, or none.
+abbrev pub IsCuedUpTo : Disk → MachineState → (steps done waits_from : ℕ) → List Cue → List Key → Type 0
+IsCuedUpTo system start steps done waits_from cues keys = IsCuedFrom system start done (min steps (done + 1)) waits_from [] 0 0 cues keys
 
 -- ---- what can be played
 
@@ -109,7 +95,54 @@ looks_back (Timed k ∷ cues) = false
 looks_back (Press b ∷ cues) = false
 looks_back (Wait text ∷ cues) = not (length text.items == 0) || looks_back cues
 
+-- ---- where a session ends
+
+-- It ends where the machine has, and else after its steps. One that stops where it is idle ends sooner,
+-- where the machine next waits after the last key, if waits count there.
+abbrev pub HasEndedCued : Disk → MachineState → (steps waits_from : ℕ) → (stops_idle : Bool) → List Key → ℕ → MachineState → Type 0
+HasEndedCued system start steps waits_from false keys done now = (done ≡ steps) ⊎ (is_running now.ended ≡ false)
+HasEndedCued system start steps waits_from true keys done now =
+    (is_running now.ended ≡ false)
+    ⊎ (HasNoWait system start keys (max waits_from (last_count 0 keys)) done
+    × ((done ≡ steps) ⊎ ((waits_from ≤ done) × (waits_at system start keys done ≡ true))))
+
+-- ---- where one was cut short
+
+-- it has come so far by the script's keys so far, and showed all of its text
+pub record HasComeByCues (system : Disk) (steps waits_from : ℕ) (cues : List Cue) (start now : MachineState) (before written : Option (List ℕ))
+    (keys : List Key) : Type 0 where
+  pub come : HasCome system steps (key_count cues) start now before written keys
+  pub cued : IsCuedUpTo system start steps come.done waits_from cues keys
+
+-- and so far a key comes
+pub record HasComeToKey (system : Disk) (steps waits_from : ℕ) (cues : List Cue) (start now : MachineState) (before written : Option (List ℕ))
+    (keys : List Key) : Type 0 where
+  pub by : HasComeByCues system steps waits_from cues start now before written keys
+  pub key : Key
+  pub comes : IsCuedUpTo system start steps by.come.done waits_from cues (keys ++ key ∷ [])
+
+-- it had text to show by the script's keys so far
+pub record HadTextByCues (system : Disk) (steps waits_from : ℕ) (cues : List Cue) (start : MachineState) (keys : List Key) : Type 0 where
+  pub text : HadText system steps (key_count cues) start keys
+  pub cued : IsCuedUpTo system start steps text.done waits_from cues keys
+
+-- Why it was not played to its end, and what it had come to. The writer fails where there is text, and all keys are recorded.
+-- The record fails at a key that comes and is not pressed, and all is shown; where memory is refused all is shown and recorded.
+abbrev pub IsCutOff : Disk → (steps waits_from : ℕ) → List Cue → (start now : MachineState)
+    → (before written unrecorded record_now : Option (List ℕ)) → LiveError → Type 0
+IsCutOff system steps waits_from cues start now before written unrecorded record_now OutOfMemory =
+    (keys : List Key) × HasComeByCues system steps waits_from cues start now before written keys × Appends unrecorded record_now (recorded keys)
+IsCutOff system steps waits_from cues start now before written unrecorded record_now (Unwritable e) =
+    (keys : List Key) × HadTextByCues system steps waits_from cues start keys × Appends unrecorded record_now (recorded keys)
+IsCutOff system steps waits_from cues start now before written unrecorded record_now (Unrecorded e) =
+    (keys : List Key) × HasComeToKey system steps waits_from cues start now before written keys
+IsCutOff system steps waits_from cues start now before written unrecorded record_now (Unreadable e) = ⊥
+
 -- ---- the parts of a session
+
+-- from so many of its steps on these are the keys of the script, as far as the session goes
+abbrev pub StaysCued : Disk → MachineState → (steps done waits_from : ℕ) → List Cue → List Key → Type 0
+StaysCued system start steps done waits_from cues keys = (until : ℕ) → done ≤ until → until ≤ steps → IsCuedUpTo system start steps until waits_from cues keys
 
 -- the output of a state was taken: a writer got the console bytes
 pub record IsOutputTaken (old now : MachineState) (before written : Option (List ℕ)) : Type 0 where
@@ -131,16 +164,26 @@ HasExecuted system k old now before written = IsOutputTaken (after system k old)
 abbrev pub IsBusyFor : Disk → ℕ → MachineState → Type 0
 IsBusyFor system k s = (i : ℕ) → i < k → (look_of (after system i s)).waiting ≡ false
 
+-- it does not wait for a key at the counts from one up to another, where this is the state at the count `done`
+abbrev pub IsBusyFrom : Disk → (from until done : ℕ) → MachineState → Type 0
+IsBusyFrom system from until done s = (i : ℕ) → from ≤ i → i < until → (look_of (after system (i - done) s)).waiting ≡ false
+
 -- the steps up to where it waits for a key and waits count, or to its end; else all
 pub record HasIdled (system : Disk) (steps waits_from done done_now : ℕ) (old now : MachineState) (before written : Option (List ℕ)) : Type 0 where
   pub low : done ≤ done_now
   pub run : HasExecuted system (done_now - done) old now before written
-  pub busy : (i : ℕ) → max waits_from done ≤ i → i < done_now → (look_of (after system (i - done) old)).waiting ≡ false
+  pub busy : IsBusyFrom system (max waits_from done) done_now done old
   pub why : (done_now ≡ steps) ⊎ (is_running now.ended ≡ false) ⊎ ((waits_from ≤ done_now) × ((look_of now).waiting ≡ true))
 
--- why not all of so many steps were executed, and what was
-abbrev pub IsRunCut : Disk → ℕ → (old now : MachineState) → (before written : Option (List ℕ)) → LiveError → Type 0
-IsRunCut system steps old now before written e = (k : ℕ) × (k ≤ steps) × IsUntaken (after system k old) now before written e
+-- why not all of so many steps were executed, and what was: where they are to go up to a wait, there was none so far
+abbrev pub IsRunCut : (to_wait : Bool) → Disk → ℕ → (old now : MachineState) → (before written : Option (List ℕ)) → LiveError → Type 0
+IsRunCut to_wait system steps old now before written e =
+    (k : ℕ) × (k ≤ steps) × IsUntaken (after system k old) now before written e × (to_wait ≡ true → IsBusyFor system k old)
+
+-- why those up to a wait that counts were not, and what was: it did not wait so far, where waits count
+abbrev pub IsIdleCut : Disk → (steps waits_from done : ℕ) → (old now : MachineState) → (before written : Option (List ℕ)) → LiveError → Type 0
+IsIdleCut system steps waits_from done old now before written e =
+    (k : ℕ) × (k ≤ steps - done) × IsUntaken (after system k old) now before written e × IsBusyFrom system (max waits_from done) (done + k) done old
 
 -- so many steps were executed, after which the machine still runs, and a key was recorded and pressed
 pub record HasPressed (system : Disk) (key : Key) (k : ℕ) (old now : MachineState) (before written unrecorded record_now : Option (List ℕ)) : Type 0 where
@@ -155,14 +198,15 @@ pub record HasMissed (system : Disk) (key : Key) (steps done done_now : ℕ) (ol
   pub run : HasExecuted system (done_now - done) old now before written
   pub why : ((steps ≤ key.count) × (done_now ≡ done)) ⊎ ((key.count < steps) × (done_now ≤ key.count) × (is_running now.ended ≡ false))
 
--- why a key was not pressed after at most so many steps: not all of them were executed, or memory was refused, and nothing was recorded;
--- or it can't be recorded, and all is shown
+-- why a key was not pressed after so many steps: not all of them were executed, or memory was refused, and nothing was recorded;
+-- or it can't be recorded where the machine runs, and all is shown
 abbrev pub IsPressCut : Disk → ℕ → (old now : MachineState) → (before written unrecorded record_now : Option (List ℕ)) → LiveError → Type 0
-IsPressCut system steps old now before written unrecorded record_now (Unrecorded e) = (k : ℕ) × (k ≤ steps) × HasExecuted system k old now before written
+IsPressCut system steps old now before written unrecorded record_now (Unrecorded e) =
+    HasExecuted system steps old now before written × (is_running now.ended ≡ true)
 IsPressCut system steps old now before written unrecorded record_now (Unwritable e) =
-    IsRunCut system steps old now before written (Unwritable e) × (record_now ≡ unrecorded)
+    IsRunCut false system steps old now before written (Unwritable e) × (record_now ≡ unrecorded)
 IsPressCut system steps old now before written unrecorded record_now OutOfMemory =
-    IsRunCut system steps old now before written OutOfMemory × (record_now ≡ unrecorded)
+    IsRunCut false system steps old now before written OutOfMemory × (record_now ≡ unrecorded)
 IsPressCut system steps old now before written unrecorded record_now (Unreadable e) = ⊥
 
 -- as far as a session was run on, and why: for all steps, to the machine's end, or to where it waits for a key

@@ -1,5 +1,5 @@
 -- One machine that is played live: its keys come as it wants them, and what it then has shown, recorded and become. All of it is own.
-use Rattle.std.specs.Prelude.{⊤, ◌≡◌, ℕ, ◌≤◌, List, [], ◌∷◌, length, map, Option, false, ◌⊎◌}
+use Rattle.std.specs.Prelude.{⊤, ◌≡◌, ℕ, ◌<◌, ◌≤◌, List, [], ◌∷◌, ◌++◌, length, map, Option, false, ◌⊎◌}
 use Rattle.std.specs.Io.KnownBytes.{Appends, IsAtEnd}
 use Rattle.cpm_geom.specs.Disk.{Disk}
 use Rattle.cpm_script.specs.Recording.{AreTyped, recorded}
@@ -80,14 +80,20 @@ pub record HadText (system : Disk) (steps most : ℕ) (start : MachineState) (ke
   pub given : AreGiven most done keys
   pub text : HasText (alone_by system keys done start)
 
--- and so far a key is wanted, and each of these was
+-- and so far a key is wanted, of which it may have one more, and each of these was
 pub record HasPaused (system : Disk) (steps most : ℕ) (start now : MachineState) (before written : Option (List ℕ)) (keys : List Key) : Type 0 where
   pub come : HasCome system steps most start now before written keys
   pub wants : IsKeyWanted system start keys come.done
+  pub room : length keys < most
   pub wanted : AreWanted system start keys
 
--- Why it was not played to its end, and what it had come to. The reader fails where a key is wanted, and all is shown and recorded; so it is where memory is
--- refused. The writer fails where there is text, and all keys are recorded. The record fails at a key that is not pressed, and all is shown.
+-- these keys were read, and one more
+abbrev pub HasReadOneMore : Option (List ℕ) → Option (List ℕ) → List Key → Type 0
+HasReadOneMore unread left keys = (b : ℕ) × HasReadKeys unread left (bytes_of keys ++ b ∷ [])
+
+-- Why it was not played to its end, and what it had come to. The reader fails where a key is wanted, and all is shown and recorded. The writer fails where
+-- there is text, and all keys are recorded. The record fails at a key that was read and is not pressed, and all is shown. Memory is refused for such a key,
+-- and all is shown and recorded.
 abbrev pub IsCutShort : Disk → (steps most : ℕ) → (start now : MachineState)
     → (before written unrecorded record_now unread left : Option (List ℕ)) → LiveError → Type 0
 IsCutShort system steps most start now before written unrecorded record_now unread left (Unreadable e) =
@@ -95,11 +101,12 @@ IsCutShort system steps most start now before written unrecorded record_now unre
     × HasReadKeys unread left (bytes_of keys)
 IsCutShort system steps most start now before written unrecorded record_now unread left OutOfMemory =
     (keys : List Key) × HasPaused system steps most start now before written keys × Appends unrecorded record_now (recorded keys)
+    × HasReadOneMore unread left keys
 IsCutShort system steps most start now before written unrecorded record_now unread left (Unwritable e) =
     (keys : List Key) × HadText system steps most start keys × AreWanted system start keys × Appends unrecorded record_now (recorded keys)
     × HasReadKeys unread left (bytes_of keys)
 IsCutShort system steps most start now before written unrecorded record_now unread left (Unrecorded e) =
-    (keys : List Key) × HasPaused system steps most start now before written keys
+    (keys : List Key) × HasPaused system steps most start now before written keys × HasReadOneMore unread left keys
 
 -- ---- the errors of its parts
 

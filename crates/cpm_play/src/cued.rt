@@ -6,7 +6,8 @@ ghost use Rattle.cpm_script.specs.Recording.{recorded};
 ghost use Rattle.cpm_machine.specs.Serve.{look_of, takes_key};
 ghost use Rattle.cpm_machine.specs.Step.{after, is_running};
 ghost use Rattle.cpm_play.specs.Cued.{AreAscii, HasEndedCued, HasIdled, HasMissed, HasNoWait, HasPressed, HasExecuted, HasStopped};
-ghost use Rattle.cpm_play.specs.Cued.{IsCued, IsCutOff, IsPressCut, IsRunCut, IsOutputTaken, IsUntaken, key_count, last_count, looks_back, waits_at};
+ghost use Rattle.cpm_play.specs.Cued.{IsCued, IsCutOff, IsIdleCut, IsPressCut, IsRunCut, IsOutputTaken, IsUntaken, StaysCued, key_count, last_count};
+ghost use Rattle.cpm_play.specs.Cued.{looks_back, waits_at};
 ghost use Rattle.cpm_play.specs.Live.{AreGiven, IsGoing};
 ghost use Rattle.cpm_play.specs.Pacing.{without_text};
 ghost use Rattle.cpm_play.specs.Playing.{EndsAs, HasText, IsFresh, IsQuiet, alone_by};
@@ -129,7 +130,7 @@ fn run<W: Write, T: Watcher>(
     ensures run { IfOk result (λ k. HasExecuted system.now k machine.old machine.new (W.contents out.old) (W.contents out.new)) }
     ensures stopped { IfOk result (λ k. HasStopped to_wait system.now steps k machine.old machine.new) }
     ensures kept { IfOk result (λ k. keeps ≡ true → HasGrown shown.old shown.new (after system.now k machine.old).session.console.screen) }
-    ensures refused { IfErr result (IsRunCut system.now steps machine.old machine.new (W.contents out.old) (W.contents out.new)) }
+    ensures refused { IfErr result (IsRunCut to_wait system.now steps machine.old machine.new (W.contents out.old) (W.contents out.new)) }
 {
     let mut executed = 0;
     while executed < steps {
@@ -193,8 +194,9 @@ impl LivePlay {
         ensures missed { IfOk result (λ comes. comes ≡ false → HasMissed system.now key steps self.old.steps self.new.steps machine.old machine.new
             (W.contents out.old) (W.contents out.new)) }
         ensures still { IfOk result (λ comes. comes ≡ false → (self.new.keys.items ≡ self.old.keys.items) × (S.contents record.new ≡ S.contents record.old)) }
-        ensures refused { IfErr result (IsPressCut system.now (steps - self.old.steps) machine.old machine.new
+        ensures refused { IfErr result (IsPressCut system.now (key.count - self.old.steps) machine.old machine.new
             (W.contents out.old) (W.contents out.new) (S.contents record.old) (S.contents record.new)) }
+        ensures early { OnErr result (key.count < steps) }
     {
         if key.count >= steps {
             return Ok(false);
@@ -230,7 +232,8 @@ impl LivePlay {
         ensures still { self.new.keys.items ≡ self.old.keys.items }
         ensures kept { OnOk result (keeps ≡ true
             → HasGrown shown.old shown.new (after system.now (self.new.steps - self.old.steps) machine.old).session.console.screen) }
-        ensures refused { IfErr result (IsRunCut system.now (steps - self.old.steps) machine.old machine.new (W.contents out.old) (W.contents out.new)) }
+        ensures refused { IfErr result (IsIdleCut system.now steps waits_from self.old.steps
+            machine.old machine.new (W.contents out.old) (W.contents out.new)) }
     {
         let pause = waits_from.min(steps).saturating_sub(self.steps);
         self.steps += run(
@@ -260,11 +263,11 @@ fn follow<W: Write, S: Write, T: Watcher>(
     requires few { key_count cued.cues.now ≤ most_keys }
     ensures going { IfOk result (λ live. IsGoing system.now steps (key_count cued.entry.cues.now) machine.old machine.new
         (W.contents out.old) (W.contents out.new) (S.contents record.old) (S.contents record.new) live.keys.items live.steps) }
-    ensures keys { IfOk result (λ live. IsCued system.now machine.old steps cued.entry.waits_from cued.entry.cues.now live.keys.items) }
+    ensures keys { IfOk result (λ live. StaysCued system.now machine.old steps live.steps cued.entry.waits_from cued.entry.cues.now live.keys.items) }
     ensures busy { IfOk result (λ live. (is_running machine.new.ended ≡ false)
         ⊎ HasNoWait system.now machine.old live.keys.items (max cued.entry.waits_from (last_count 0 live.keys.items)) live.steps) }
-    ensures refused { IfErr result (IsCutOff system.now steps (key_count cued.entry.cues.now) machine.old machine.new (W.contents out.old) (W.contents out.new)
-        (S.contents record.old) (S.contents record.new)) }
+    ensures refused { IfErr result (IsCutOff system.now steps cued.entry.waits_from cued.entry.cues.now machine.old machine.new
+        (W.contents out.old) (W.contents out.new) (S.contents record.old) (S.contents record.new)) }
 {
     let mut live = LivePlay {
         keys: Vec::new(alloc),
@@ -334,8 +337,8 @@ pub fn play_cues<W: Write, S: Write, T: Watcher>(
     ensures ends { IfOk result (λ live. HasEndedCued system.now machine.old steps cued.entry.waits_from cued.entry.stops_idle
         live.keys.items live.steps machine.new) }
     ensures waits { IfOk result (λ live. (look_of machine.new).waiting ≡ waits_at system.now machine.old live.keys.items live.steps) }
-    ensures refused { IfErr result (IsCutOff system.now steps (key_count cued.entry.cues.now) machine.old machine.new (W.contents out.old) (W.contents out.new)
-        (S.contents record.old) (S.contents record.new)) }
+    ensures refused { IfErr result (IsCutOff system.now steps cued.entry.waits_from cued.entry.cues.now machine.old machine.new
+        (W.contents out.old) (W.contents out.new) (S.contents record.old) (S.contents record.new)) }
 {
     let mut live = follow(alloc, system, machine, steps, cued, out, record, watcher)?;
     // One that does not stop where it is idle runs on as if waits counted from its end on.

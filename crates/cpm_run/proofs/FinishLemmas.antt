@@ -6,15 +6,9 @@ use Rattle.cpm_batch.specs.Outputs.{SessionOutput, left_by}
 use Rattle.cpm_batch.specs.declared.output.SessionFiles.{SessionFiles}
 use Rattle.cpm_config.specs.declared.config.SessionConfig.{SessionConfig}
 use Rattle.cpm_drives.specs.Disks.{images_of}
-use Rattle.cpm_flags.specs.declared.regs.Regs.{Regs}
 use Rattle.cpm_geom.specs.Disk.{Disk}
-use Rattle.cpm_memory.specs.Contents.{Contents, run_at}
 use Rattle.cpm_slots.specs.Host.{Host, SlotState, slot_at}
 use Rattle.cpm_machine.specs.MachineState.{MachineState}
-use Rattle.cpm_machine.specs.Serve.{look_of}
-use Rattle.cpm_machine.specs.declared.reply.Closed.{Closed}
-use Rattle.cpm_machine.specs.declared.reply.End.{End}
-use Rattle.cpm_machine.specs.declared.reply.Look.{Look}
 use Rattle.cpm_play.specs.Players.{AllDiffer, AllPlayed, ids_of}
 use Rattle.cpm_play.specs.ScriptedSlots.{IsNone}
 use Rattle.cpm_play.specs.Playing.{IsPlayed}
@@ -22,7 +16,9 @@ use Rattle.cpm_play.specs.declared.player.Player.{Player}
 use Rattle.cpm_play.specs.declared.player.Player.TheVariants.{Playing}
 use Rattle.cpm_play.specs.declared.scripted_slot.ScriptedSlot.{ScriptedSlot}
 use Rattle.cpm_run.proofs.PlayLemmas.{all_ended}
-use Rattle.cpm_run.specs.Illegal.{bytes_at_pc}
+use Rattle.cpm_run.proofs.EndingLemmas.{ending_same}
+use Rattle.cpm_run.specs.Ending.{ending_of}
+use Rattle.cpm_run.specs.declared.ending.Ending.{Ending}
 use Rattle.cpm_run.specs.Playing.{AllEnded, AreFinished, HavePlayers, IsClosed, files_by, report_by}
 use Rattle.cpm_run.specs.Run.{ReportEntry, files_left, session_output, report_view, reported_of, reports_of, run_of, start_of}
 use Rattle.cpm_run.specs.declared.report.SessionReport.{SessionReport}
@@ -30,40 +26,31 @@ use Rattle.cpm_run.specs.Settled.{SettledSession}
 
 -- ---- one session
 
-abbrev reported : SessionConfig → End → ℕ → ℕ → ℕ → List ℕ → ReportEntry
-reported s ended count bytes pc at_pc = record { name = string_bytes s.name; ended = ended; count = count; bytes = bytes; pc = pc; at_pc = at_pc }
+abbrev reported : SessionConfig → Ending → ℕ → ReportEntry
+reported s ending bytes = record { name = string_bytes s.name; ending = ending; bytes = bytes }
 
--- the same registers, and the same memory
-bytes_are : (s t : MachineState) → s.session.regs ≡ t.session.regs → s.memory ≡ t.memory → bytes_at_pc s ≡ bytes_at_pc t
-bytes_are s t regs memory = ap (λ (m : Contents). run_at m s.session.regs.pc 4) memory ∙ ap (λ (r : Regs). run_at t.memory r.pc 4) regs
-
-report_is : (system : Disk) (is : List SettledSession) (i : SettledSession) (s : SessionConfig) (p : ScriptedSlot) (closed : Closed) (last : MachineState) → i.session ≡ s → closed.look ≡ look_of last
-    → IsPlayed system i.keys i.steps (start_of is i) last p.console.items p.list.items → report_by s p closed (bytes_at_pc last) ≡ reported_of i.session (run_of system is i)
-unfolding look_of run_of
-report_is system is i s p closed last same look played =
-    let ended = ap (λ (l : Look). l.ended) look ∙ played.ended in
-    let count = ap (λ (l : Look). l.count) look ∙ played.count in
-    let pc = ap (λ (l : Look). l.regs.pc) look ∙ ap (λ (r : Regs). r.pc) played.regs in
+report_is : (system : Disk) (is : List SettledSession) (i : SettledSession) (s : SessionConfig) (p : ScriptedSlot) (last : MachineState) → i.session ≡ s
+    → IsPlayed system i.keys i.steps (start_of is i) last p.console.items p.list.items → report_by s p (ending_of last) ≡ reported_of i.session (run_of system is i)
+unfolding run_of
+report_is system is i s p last same played =
     let t = run_of system is i in
-    let at_pc = bytes_are last t played.regs played.memory in
-    ap (λ (x : SessionConfig). reported x closed.look.ended closed.look.count (length p.console.items) closed.look.regs.pc (bytes_at_pc last)) (sym same)
-    ∙ ap (λ (e : End). reported i.session e closed.look.count (length p.console.items) closed.look.regs.pc (bytes_at_pc last)) ended
-    ∙ ap (λ (n : ℕ). reported i.session t.ended n (length p.console.items) closed.look.regs.pc (bytes_at_pc last)) count
-    ∙ ap (λ (xs : List ℕ). reported i.session t.ended t.count (length xs) closed.look.regs.pc (bytes_at_pc last)) played.screen
-    ∙ ap (λ (n : ℕ). reported i.session t.ended t.count (length t.session.console.screen) n (bytes_at_pc last)) pc
-    ∙ ap (λ (xs : List ℕ). reported i.session t.ended t.count (length t.session.console.screen) t.session.regs.pc xs) at_pc
+    let ends = ending_same t last (record { count = played.count; ended = played.ended; regs = played.regs; memory = played.memory; disks = played.disks }) in
+    ap (λ (x : SessionConfig). reported x (ending_of last) (length p.console.items)) (sym same)
+    ∙ ap (λ (e : Ending). reported i.session e (length p.console.items)) ends
+    ∙ ap (λ (xs : List ℕ). reported i.session (ending_of t) (length xs)) played.screen
 
 abbrev output : SessionConfig → List ℕ → List ℕ → List (Option Disk) → SessionOutput
 output s console list drives = record { session = s; console = console; list = list; drives = drives }
 
-files_is : (system : Disk) (is : List SettledSession) (i : SettledSession) (s : SessionConfig) (p : ScriptedSlot) (closed : Closed) (last : MachineState) → i.session ≡ s → closed.drives ≡ images_of last.session.disks
-    → IsPlayed system i.keys i.steps (start_of is i) last p.console.items p.list.items → files_by s p closed ≡ session_output i.session (run_of system is i)
+files_is : (system : Disk) (is : List SettledSession) (i : SettledSession) (s : SessionConfig) (p : ScriptedSlot) (last : MachineState) → i.session ≡ s
+    → IsPlayed system i.keys i.steps (start_of is i) last p.console.items p.list.items → files_by s p (images_of last.session.disks) ≡ session_output i.session (run_of system is i)
 unfolding run_of
-files_is system is i s p closed last same drives played =
-    ap (λ (t : SessionConfig). output t p.console.items p.list.items closed.drives) (sym same)
-    ∙ ap (λ (xs : List ℕ). output i.session xs p.list.items closed.drives) played.screen
-    ∙ ap (λ (xs : List ℕ). output i.session (run_of system is i).session.console.screen xs closed.drives) played.printer
-    ∙ ap (λ (ds : List (Option Disk)). output i.session (run_of system is i).session.console.screen (run_of system is i).session.console.printer ds) (drives ∙ ap images_of played.disks)
+files_is system is i s p last same played =
+    let drives = images_of last.session.disks in
+    ap (λ (t : SessionConfig). output t p.console.items p.list.items drives) (sym same)
+    ∙ ap (λ (xs : List ℕ). output i.session xs p.list.items drives) played.screen
+    ∙ ap (λ (xs : List ℕ). output i.session (run_of system is i).session.console.screen xs drives) played.printer
+    ∙ ap (λ (ds : List (Option Disk)). output i.session (run_of system is i).session.console.screen (run_of system is i).session.console.printer ds) (ap images_of played.disks)
 
 -- ---- one after another
 
@@ -88,23 +75,23 @@ is_at is sessions k s same below found =
     let next : suc k ≡ k + 1 = omega arith in
     subst (λ (n : ℕ). IsAt is k n s) next (there is sessions k s same below found)
 
--- the scripted slot, what is left of its slot, and the bytes at its program counter
-who_of : ScriptedSlot → Option (ScriptedSlot × Closed × List ℕ) → ScriptedSlot
+-- the scripted slot, how its slot ended, and the drives that it left
+who_of : ScriptedSlot → Option (ScriptedSlot × Ending × List (Option Disk)) → ScriptedSlot
 who_of p None = p
 who_of p (Some x) = x.0
 
-what_of : Closed → Option (ScriptedSlot × Closed × List ℕ) → Closed
-what_of c None = c
-what_of c (Some x) = x.1
+how_of : Ending → Option (ScriptedSlot × Ending × List (Option Disk)) → Ending
+how_of e None = e
+how_of e (Some x) = x.1
 
-bytes_of : List ℕ → Option (ScriptedSlot × Closed × List ℕ) → List ℕ
-bytes_of xs None = xs
-bytes_of xs (Some x) = x.2
+drives_of : List (Option Disk) → Option (ScriptedSlot × Ending × List (Option Disk)) → List (Option Disk)
+drives_of ds None = ds
+drives_of ds (Some x) = x.2
 
-not_both : (x : ScriptedSlot × Closed × List ℕ) → None ≡ Some x → ⊥
+not_both : (x : ScriptedSlot × Ending × List (Option Disk)) → None ≡ Some x → ⊥
 not_both x same = cc
 
-pub none_there : (r : Option (ScriptedSlot × Closed × List ℕ)) → ((x : ScriptedSlot × Closed × List ℕ) → r ≡ Some x → ⊥) → r ≡ None
+pub none_there : (r : Option (ScriptedSlot × Ending × List (Option Disk))) → ((x : ScriptedSlot × Ending × List (Option Disk)) → r ≡ Some x → ⊥) → r ≡ None
 none_there None none = refl
 none_there (Some x) none = absurd (none x refl)
 
@@ -131,15 +118,15 @@ IsFinishing sessions k start now players rest reports files = (system : Disk) (i
     → IsFinishedTo system is k now rest reports files
 
 -- what closing the next slot says
-abbrev pub ClosesNextSlot : Host → Host → List Player → Option (ScriptedSlot × Closed × List ℕ) → List Player → Type 0
+abbrev pub ClosesNextSlot : Host → Host → List Player → Option (ScriptedSlot × Ending × List (Option Disk)) → List Player → Type 0
 ClosesNextSlot old new rest r left = (p : ScriptedSlot) (ps : List Player) (s : MachineState) → rest ≡ Playing p ∷ ps → slot_at p.id.0 old.slots ≡ Some s → IsClosed p ps s old new r left
 
-module _ (sessions : List SessionConfig) (k : ℕ) (s : SessionConfig) (start : List SlotState) (old new : Host) (players : List Player) (r : Option (ScriptedSlot × Closed × List ℕ)) (left : List Player) (below : k < length sessions) (at : s ≡ get_or sessions k s) where
-  finish_one : (q : ScriptedSlot) (closed : Closed) (bytes : List ℕ) (rest : List Player) (reports : List SessionReport) (files : List SessionFiles) (report : SessionReport) (file : SessionFiles) (system : Disk) (is : List SettledSession)
-      → map (λ i. i.session) is ≡ sessions → IsFinishedTo system is k old.slots rest reports files → ClosesNextSlot old new rest r left → r ≡ Some (q, closed, bytes) → report_view report ≡ report_by s q closed bytes
-      → left_by file ≡ files_by s q closed → IsFinishedTo system is (k + 1) new.slots left (reports ++ report ∷ []) (files ++ file ∷ [])
-  unfolding who_of what_of bytes_of
-  finish_one q closed bytes rest reports files report file system is same h closing got one other =
+module _ (sessions : List SessionConfig) (k : ℕ) (s : SessionConfig) (start : List SlotState) (old new : Host) (players : List Player) (r : Option (ScriptedSlot × Ending × List (Option Disk))) (left : List Player) (below : k < length sessions) (at : s ≡ get_or sessions k s) where
+  finish_one : (q : ScriptedSlot) (ending : Ending) (drives : List (Option Disk)) (rest : List Player) (reports : List SessionReport) (files : List SessionFiles) (report : SessionReport) (file : SessionFiles) (system : Disk) (is : List SettledSession)
+      → map (λ i. i.session) is ≡ sessions → IsFinishedTo system is k old.slots rest reports files → ClosesNextSlot old new rest r left → r ≡ Some (q, ending, drives) → report_view report ≡ report_by s q ending
+      → left_by file ≡ files_by s q drives → IsFinishedTo system is (k + 1) new.slots left (reports ++ report ∷ []) (files ++ file ∷ [])
+  unfolding who_of how_of drives_of
+  finish_one q ending drives rest reports files report file system is same h closing got one other =
       let a = is_at is sessions k s same below at in
       go a rest h.differ (subst (λ (xs : List SettledSession). AllEnded system is old.slots xs rest) a.first h.ended) closing
     where
@@ -151,15 +138,14 @@ module _ (sessions : List SessionConfig) (k : ℕ) (s : SessionConfig) (start : 
           let p = e.slot in
           let apart : AllDiffer (Playing p ∷ ps) = subst (λ (y : Player). AllDiffer (y ∷ ps)) e.plays differ in
           let c = close p ps e.last (ap (λ (y : Player). y ∷ ps) e.plays) e.stands in
-          let pair : Some (q, closed, bytes) ≡ Some (p, c.closed, bytes_at_pc e.last) = sym got ∙ c.result in
-          let who : q ≡ p = ap (who_of q) pair in
-          let what : closed ≡ c.closed = ap (what_of closed) pair in
-          let which : bytes ≡ bytes_at_pc e.last = ap (bytes_of bytes) pair in
+          let same : Some (q, ending, drives) ≡ Some (p, ending_of e.last, images_of e.last.session.disks) = sym got ∙ c.result in
+          let who : q ≡ p = ap (who_of q) same in
+          let how : ending ≡ ending_of e.last = ap (how_of ending) same in
+          let what : drives ≡ images_of e.last.session.disks = ap (drives_of drives) same in
           let row : report_view report ≡ reported_of a.input.session (run_of system is a.input) =
-          one ∙ ap (λ (x : ScriptedSlot). report_by s x closed bytes) who ∙ ap (λ (x : Closed). report_by s p x bytes) what ∙ ap (λ (xs : List ℕ). report_by s p c.closed xs) which
-          ∙ report_is system is a.input s p c.closed e.last a.session c.look e.played in
+          one ∙ ap (λ (x : ScriptedSlot). report_by s x ending) who ∙ ap (λ (x : Ending). report_by s p x) how ∙ report_is system is a.input s p e.last a.session e.played in
           let out : left_by file ≡ session_output a.input.session (run_of system is a.input) =
-          other ∙ ap (λ (x : ScriptedSlot). files_by s x closed) who ∙ ap (λ (x : Closed). files_by s p x) what ∙ files_is system is a.input s p c.closed e.last a.session c.drives e.played in
+          other ∙ ap (λ (x : ScriptedSlot). files_by s x drives) who ∙ ap (λ (ds : List (Option Disk)). files_by s p ds) what ∙ files_is system is a.input s p e.last a.session e.played in
           record {
             differ = subst (λ (xs : List Player). AllDiffer xs) (sym c.left) apart.1;
             ended = subst (λ (xs : List Player). AllEnded system is new.slots (drop (k + 1) is) xs) (sym c.left) (ended_kept system is p old.slots new.slots (drop (k + 1) is) ps c.others apart.0 all.1);
@@ -169,13 +155,13 @@ module _ (sessions : List SessionConfig) (k : ℕ) (s : SessionConfig) (start : 
                 ∙ sym (map-append (λ i. session_output i.session (run_of system is i)) (take k is) (a.input ∷ [])) ∙ ap (map (λ i. session_output i.session (run_of system is i))) (sym a.more);
           }
 
-  pub finishing_more : (q : ScriptedSlot) (closed : Closed) (bytes : List ℕ) (rest : List Player) (reports more : List SessionReport) (files others : List SessionFiles) (report : SessionReport) (file : SessionFiles)
-      → IsFinishing sessions k start old.slots players rest reports files → ClosesNextSlot old new rest r left → r ≡ Some (q, closed, bytes) → report_view report ≡ report_by s q closed bytes → left_by file ≡ files_by s q closed
+  pub finishing_more : (q : ScriptedSlot) (ending : Ending) (drives : List (Option Disk)) (rest : List Player) (reports more : List SessionReport) (files others : List SessionFiles) (report : SessionReport) (file : SessionFiles)
+      → IsFinishing sessions k start old.slots players rest reports files → ClosesNextSlot old new rest r left → r ≡ Some (q, ending, drives) → report_view report ≡ report_by s q ending → left_by file ≡ files_by s q drives
       → more ≡ reports ++ report ∷ [] → others ≡ files ++ file ∷ [] → IsFinishing sessions (k + 1) start new.slots players left more others
-  finishing_more q closed bytes rest reports more files others report file h closing got one other pushed added = λ system is same all.
+  finishing_more q ending drives rest reports more files others report file h closing got one other pushed added = λ system is same all.
       subst (λ (xs : List SessionReport). IsFinishedTo system is (k + 1) new.slots left xs others) (sym pushed)
       (subst (λ (xs : List SessionFiles). IsFinishedTo system is (k + 1) new.slots left (reports ++ report ∷ []) xs) (sym added)
-      (finish_one q closed bytes rest reports files report file system is same (h system is same all) closing got one other))
+      (finish_one q ending drives rest reports files report file system is same (h system is same all) closing got one other))
 
   -- where a session is left, its player is there, and its slot is closed
   pub finished_early : (rest : List Player) (reports : List SessionReport) (files : List SessionFiles) → IsFinishing sessions k start old.slots players rest reports files → ClosesNextSlot old new rest r left → r ≡ None
@@ -190,7 +176,7 @@ module _ (sessions : List SessionConfig) (k : ℕ) (s : SessionConfig) (start : 
       go system is a (x ∷ ps) all close =
           let e = all.0 in
           let c = close e.slot ps e.last (ap (λ (y : Player). y ∷ ps) e.plays) e.stands in
-          not_both (e.slot, c.closed, bytes_at_pc e.last) (sym none ∙ c.result)
+          not_both (e.slot, ending_of e.last, images_of e.last.session.disks) (sym none ∙ c.result)
 
 pub finished : (sessions : List SessionConfig) (k : ℕ) (start now : List SlotState) (players rest : List Player) (reports : List SessionReport) (files : List SessionFiles) → length sessions ≤ k
     → IsFinishing sessions k start now players rest reports files → AreFinished sessions start players reports files

@@ -1,4 +1,4 @@
-pub mod AtPcLemmas
+pub mod EndingLemmas
 pub mod FinishLemmas
 pub mod OrderLemmas
 pub mod PartLemmas

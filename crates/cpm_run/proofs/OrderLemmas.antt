@@ -38,7 +38,7 @@ one_more from count given keys k late r = record {
 
 module _ (system : Disk) (start : MachineState) (steps at : ℕ) where
   goes_on : (n : ℕ) (waited : Bool) (given : List Key) (from mark : ℕ) (cues : List Cue) (keys : List Key) → at ≤ n → CountsRise n (map cue_text cues) → PressesFollow waited (map cue_text cues)
-      → (waited ≡ true → at ≤ from) → IsCuedFrom system start steps at given from mark cues keys → GoesOn (max at from) given keys
+      → (waited ≡ true → at ≤ from) → IsCuedFrom system start steps steps at given from mark cues keys → GoesOn (max at from) given keys
   goes_on n waited given from mark [] keys low rise follow later h = no_more (max at from) given keys h
   goes_on n waited given from mark (Timed k ∷ cues) keys low rise follow later h =
       ⊎_elim (λ comes.
@@ -77,7 +77,7 @@ module _ (system : Disk) (start : MachineState) (steps at : ℕ) where
 
   -- keys that come first are left away
   pub own_from : (before given : List Key) (from mark : ℕ) (own : List Cue) (keys : List Key) → CountsRise at (map cue_text own) → PressesFollow false (map cue_text own)
-      → IsCuedFrom system start steps at given from mark (map Timed before ++ own) keys → (came : List Key) × (keys ≡ given ++ came) × IsInOrder at (drop (length before) came)
+      → IsCuedFrom system start steps steps at given from mark (map Timed before ++ own) keys → (came : List Key) × (keys ≡ given ++ came) × IsInOrder at (drop (length before) came)
   own_from [] given from mark own keys rise follow h =
       let r = goes_on at false given from mark own keys (omega arith) rise follow (λ e. absurd (true≢false (sym e))) h in
       (r.more, r.joined, order_from at (max at from) r.more (le-max_left at from) r.order)

@@ -19,14 +19,14 @@ use Rattle.cpm_machine.specs.declared.opening.OpenError.TheVariants as opening
 use Rattle.cpm_machine.specs.declared.opening.Opening.{Opening}
 use Rattle.cpm_slots.specs.Host.{Host, lacks_slot, new_host, quotas_of, refusal_of, room_fault, with_added, with_opened}
 use Rattle.cpm_store.specs.Files.{StoreFiles, WhereTold}
-use Rattle.cpm_store.specs.Log.{StoreAccess, AreNoWrites, LogLeadsBy, StopsAfter}
+use Rattle.cpm_store.specs.Log.{StoreAccess, LogLeadsBy, StopsAfter}
 use Rattle.cpm_store.specs.Writes.{NamedBytes, StopsAt, named_output}
 use Rattle.cpm_store.specs.declared.writes.Output.{Output}
 use Rattle.cpm_store.proofs.LogLemmas.{ran_then}
 use Rattle.cpm_run.specs.Playing.{ArePressable, IsPressableBy, IsSessionsRefusal}
 use Rattle.cpm_run.specs.Refusals.{run_error_of_reading}
 use Rattle.cpm_run.specs.Refusing.{FailsAtWrite, IsOutputAt, IsPlaceRefusal, IsRefusedAfterReading, IsRunRefusal, IsSettleRefusal, IsStoppedRun, IsWriteRefusal, LeavesAll, StopsAfterReading, StopsWriting}
-use Rattle.cpm_run.specs.Run.{AllAccepted, AreParts, GivesItsKeysAgain, IsFirstRefused, IsNamedRefusal, IsOpening, RunParts, config_fault, outputs_by, outputs_of, starts_read}
+use Rattle.cpm_run.specs.Run.{AllAccepted, AreParts, GivesItsKeysAgain, IsFirstRefused, IsNamedRefusal, IsOpening, RunParts, config_fault, outputs_by, starts_read}
 use Rattle.cpm_run.specs.Settled.{AreSettled, AreUntouched, SettledSession, Streams, TypedSession, starts_of}
 use Rattle.cpm_run.specs.Settling.{AreBelow80h, AreSettledBy, AreSound}
 use Rattle.cpm_run.specs.declared.error.RunError.{RunError}
@@ -114,7 +114,7 @@ pub reading_refused : (config : Config) (options : RunOptions) (io : Streams) (o
 reading_refused config options io old new (reading.File name) faultless h same = (faultless, ⊎_elim (λ m. absurd (cc)) (λ f. f) h, same)
 reading_refused config options io old new (reading.Image name count) faultless h same = (faultless, ⊎_elim (λ m. absurd (cc)) (λ f. f) h, same)
 reading_refused config options io old new (reading.Script name line fault) faultless h same = (faultless, ⊎_elim (λ m. absurd (cc)) (λ f. f) h, same)
-reading_refused config options io old new reading.OutOfMemory faultless h same = (faultless, inl same.same)
+reading_refused config options io old new reading.OutOfMemory faultless h same = (faultless, inl same)
 
 -- no session of that name can be typed at
 pub place_refused : (config : Config) (options : RunOptions) (io : Streams) (old new : Option StoreFiles) (e : RunError) → config_fault config ≡ None → IsPlaceRefusal config options e → LeavesAll io old new
@@ -144,13 +144,13 @@ settle_refused config options io system inputs old new e faultless read same r =
     by_error (refusal.OutputUnwritable reason) r = (after (refusal.OutputUnwritable reason) r, same)
     by_error (refusal.RecordUnwritable reason) r = (after (refusal.RecordUnwritable reason) r, same)
     by_error (refusal.TooManyKeys shown) r = (after (refusal.TooManyKeys shown) r, same)
-    by_error refusal.OutOfMemory r = (faultless, inl same)
+    by_error refusal.OutOfMemory r = (faultless, inr (inl (after refusal.OutOfMemory r, same)))
     by_error _ r = absurd r
 
 pub settle_stopped : {S : Type 0} → (does : S → StoreAccess → S → Type 0) (config : Config) (options : RunOptions) (io : Streams) (system : Disk) (inputs : List SessionInput) (old new : S) (e : RunError)
-    → config_fault config ≡ None → LogLeadsBy does AreNoWrites old new → LogLeadsBy does (AreRead config system inputs) old new → IsSettleRefusal config options io system inputs e
+    → config_fault config ≡ None → LogLeadsBy does (AreRead config system inputs) old new → IsSettleRefusal config options io system inputs e
     → IsStoppedRun does config options io old new e
-settle_stopped {S} does config options io system inputs old new e faultless unwritten calls r = by_error e r
+settle_stopped {S} does config options io system inputs old new e faultless calls r = by_error e r
   where
     after : (e : RunError) → IsSettleRefusal config options io system inputs e → StopsAfterReading does config options io old new e
     after e r = record { faultless = faultless; system = system; inputs = inputs; calls = calls; refused = r }
@@ -162,7 +162,7 @@ settle_stopped {S} does config options io system inputs old new e faultless unwr
     by_error (refusal.OutputUnwritable reason) r = after (refusal.OutputUnwritable reason) r
     by_error (refusal.RecordUnwritable reason) r = after (refusal.RecordUnwritable reason) r
     by_error (refusal.TooManyKeys shown) r = after (refusal.TooManyKeys shown) r
-    by_error refusal.OutOfMemory r = inl unwritten
+    by_error refusal.OutOfMemory r = inr (inl (after refusal.OutOfMemory r))
     by_error _ r = absurd r
 
 -- playing is refused: that is the same, since what was accepted isn't refused
@@ -179,7 +179,7 @@ play_settled config options io system inputs settled e h r =
     by_error : (e : RunError) → IsSessionsRefusal config (new_host system config.frames) (starts_read inputs) e → IsSettleRefusal config options io system inputs e
     by_error (refusal.SessionRefused name fault) r = (r.0, r.1, untouched fault name.bytes r.1)
     by_error (refusal.FramesExceeded name quotas frames) r = (r.0, r.1, r.2, untouched opening.NoFrames name.bytes r.2)
-    by_error refusal.OutOfMemory r = tt
+    by_error refusal.OutOfMemory r = inr (inr (record { judged = h.judged; typed = h.typed; heard = h.heard }))
     by_error _ r = absurd r
 
 -- want of memory is no fault of a file
@@ -199,11 +199,11 @@ none_in_input config log h = ⊎_elim (λ f. f) (λ t. none_in_sessions [] confi
 
 module _ {S : Type 0} (does : S → StoreAccess → S → Type 0) (config : Config) (options : RunOptions) (io : Streams) (start end : S) where
   -- where what is needed could not be read, or is not what it should be
-  pub reading_stopped : (e : ReadError) → LogLeadsBy does (StopsReading config e) start end → IsStoppedRun does config options io start end (run_error_of_reading e)
-  reading_stopped (reading.File name) h = (h.0, ⊎_elim (λ m. let is = m.0 in absurd (cc)) (λ f. f) h.1, h.2)
-  reading_stopped (reading.Image name count) h = (h.0, ⊎_elim (λ m. let is = m.0 in absurd (cc)) (λ f. f) h.1, h.2)
-  reading_stopped (reading.Script name line fault) h = (h.0, ⊎_elim (λ m. let is = m.0 in absurd (cc)) (λ f. f) h.1, h.2)
-  reading_stopped reading.OutOfMemory h = inl (h.0, ⊎_elim (λ m. m.1) (λ f. absurd (none_in_input config h.0 f)) h.1, h.2)
+  pub reading_stopped : (e : ReadError) → AreUntouched io → LogLeadsBy does (StopsReading config e) start end → IsStoppedRun does config options io start end (run_error_of_reading e)
+  reading_stopped (reading.File name) untouched h = (h.0, ⊎_elim (λ m. let is = m.0 in absurd (cc)) (λ f. f) h.1, h.2)
+  reading_stopped (reading.Image name count) untouched h = (h.0, ⊎_elim (λ m. let is = m.0 in absurd (cc)) (λ f. f) h.1, h.2)
+  reading_stopped (reading.Script name line fault) untouched h = (h.0, ⊎_elim (λ m. let is = m.0 in absurd (cc)) (λ f. f) h.1, h.2)
+  reading_stopped reading.OutOfMemory untouched h = inl ((h.0, ⊎_elim (λ m. m.1) (λ f. absurd (none_in_input config h.0 f)) h.1, h.2), untouched)
 
 -- ---- what was played
 
@@ -237,7 +237,7 @@ write_refused config options io parts old new ps place e faultless read played a
 
     by_error : (e : RunError) → IsWriteRefusal ps place e → IsRunRefusal config options io old new e
     by_error (refusal.WriteFault name) why = stops (refusal.WriteFault name) why
-    by_error refusal.OutOfMemory why = (faultless, inr (stops refusal.OutOfMemory why))
+    by_error refusal.OutOfMemory why = (faultless, inr (inr (stops refusal.OutOfMemory why)))
     by_error _ why = absurd why
 
 pub write_stopped : {S : Type 0} → (does : S → StoreAccess → S → Type 0) (config : Config) (options : RunOptions) (io : Streams) (parts : RunParts) (start between end : S) (ps : List NamedBytes) (place : ℕ) (e : RunError)
@@ -258,13 +258,10 @@ write_stopped {S} does config options io parts start between end ps place e faul
 
     by_error : (e : RunError) → IsWriteRefusal ps place e → IsStoppedRun does config options io start end e
     by_error (refusal.WriteFault name) why = fails (refusal.WriteFault name) why
-    by_error refusal.OutOfMemory why = inr (fails refusal.OutOfMemory why)
+    by_error refusal.OutOfMemory why = inr (inr (fails refusal.OutOfMemory why))
     by_error _ why = absurd why
 
 -- all that is written, over the system drive of the run
-pub outputs_are : (options : RunOptions) (parts : RunParts) (system : Disk) (ps : List NamedBytes) → system ≡ parts.system → ps ≡ outputs_of system options.records.now parts.settled → ps ≡ outputs_by options parts
-outputs_are options parts system ps same are = are ∙ ap (λ (d : Disk). outputs_of d options.records.now parts.settled) same
-
 -- the output at a place, as it is named
 pub output_at : (outputs : List Output) (place : ℕ) (o : Output) (shown : List ℕ) → place < length outputs → o ≡ get_or outputs place o → shown ≡ shown_of (chars o.name.now) → IsOutputAt (map named_output outputs) place shown
 output_at outputs place o shown within is told = record {

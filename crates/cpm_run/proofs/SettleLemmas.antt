@@ -128,7 +128,7 @@ pub came_sound : (system : Disk) (start : MachineState) (p : SessionPart) (own c
 came_sound system start p own cues came keys done steps said fit are by given joined late =
     let rise = subst (λ (cs : List CueText). CountsRise p.at cs) said fit.counts in
     let follow = subst (λ (cs : List CueText). PressesFollow false cs) said fit.presses in
-    let cued = subst (λ (cs : List Cue). IsCuedFrom system start p.limit p.at [] 0 0 cs came) are by in
+    let cued = subst (λ (cs : List Cue). IsCuedFrom system start p.limit p.limit p.at [] 0 0 cs came) are by in
     let r = own_from system start p.limit p.at p.before [] 0 0 own came rise follow cued in
     let says : map cue_text cues ≡ map Counted p.before ++ p.said = cues_say p.before own cues are ∙ ap (λ (cs : List CueText). map Counted p.before ++ cs) (sym said) in
     let n = cues_counted p cues says in

@@ -1,5 +1,5 @@
 -- From what was read of a run to what its sessions are played by.
-use Rattle.std.proofs.Common.{◌≡◌, ◌∙◌, ◌<◌, ◌≤◌, ◌+◌, ◌⊎◌, ℕ, suc, Bool, true, false, List, [], ◌∷◌, ◌++◌, Option, Some, None, length, map, refl, sym, subst, ap, arith, slice_get, get_or, take, drop, if◌then◌else◌, ◌==◌, ◌||◌}
+use Rattle.std.proofs.Common.{inl, inr, ◌≡◌, ◌∙◌, ◌<◌, ◌≤◌, ◌+◌, ◌⊎◌, ℕ, suc, Bool, true, false, List, [], ◌∷◌, ◌++◌, Option, Some, None, length, map, refl, sym, subst, ap, arith, slice_get, get_or, take, drop, if◌then◌else◌, ◌==◌, ◌||◌}
 use Rattle.std.specs.Prelude.{IsSome, is_some, not, nat_lt, option_map}
 use Rattle.std.specs.List.{All}
 use Rattle.std.proofs.lemmas.Bool.Decides.{nat_tests}
@@ -22,6 +22,7 @@ use Rattle.cpm_script.specs.declared.cue.Cue.{Cue}
 use Rattle.cpm_script.specs.declared.cue.Cue.TheVariants as cue
 use Rattle.cpm_script.specs.declared.script.Key.{Key}
 use Rattle.cpm_slots.specs.Host.{Host, new_host, room_fault, with_opened}
+use Rattle.cpm_play.specs.declared.live.LivePlay.{LivePlay}
 use Rattle.cpm_run.specs.Playing.{IsSessionsRefusal}
 use Rattle.cpm_run.specs.Refusing.{IsSettleRefusal}
 use Rattle.cpm_run.specs.Run.{AllAccepted, IsOpening, starts_read}
@@ -30,7 +31,6 @@ use Rattle.cpm_run.specs.Settling.{AreFitInputs, AreFitStarts, AreOpenable, IsFi
 use Rattle.cpm_run.specs.declared.error.RunError.{RunError}
 use Rattle.cpm_run.specs.declared.error.RunError.TheVariants as refusal
 use Rattle.cpm_run.specs.declared.options.RunOptions.{RunOptions}
-use Rattle.cpm_run.specs.declared.typed.TypedKeys.{TypedKeys}
 use Rattle.std.specs.Borrow.{Bor}
 
 -- ---- scripts that wait
@@ -193,7 +193,7 @@ pub sessions_refused : (config : Config) (options : RunOptions) (io : Streams) (
     → IsSessionsRefusal config (new_host system config.frames) (starts_read inputs) e → IsSettleRefusal config options io system inputs e
 sessions_refused config options io system inputs (refusal.SessionRefused name fault) untouched r = (r.0, r.1, untouched)
 sessions_refused config options io system inputs (refusal.FramesExceeded name quotas frames) untouched r = (r.0, r.1, r.2, untouched)
-sessions_refused config options io system inputs refusal.OutOfMemory untouched r = tt
+sessions_refused config options io system inputs refusal.OutOfMemory untouched r = inl untouched
 sessions_refused config options io system inputs _ untouched r = absurd r
 
 pub settle_refused : (config : Config) (options : RunOptions) (io : Streams) (system : Disk) (inputs : List SessionInput) (typed : Option TypedSession) (e : RunError)
@@ -202,16 +202,16 @@ pub settle_refused : (config : Config) (options : RunOptions) (io : Streams) (sy
     → IsSettlingRefusal system options.stops_idle typed config.sessions.items inputs e → IsSettleRefusal config options io system inputs e
 settle_refused config options io system inputs typed (refusal.TooManyKeys shown) judged heard r =
     record { judged = judged; typed = typed; heard = heard; over = record { done = r.done; input = r.input; rest = r.rest; order = r.order; settled = r.settled; before = r.before; over = r.refused } }
-settle_refused config options io system inputs typed refusal.OutOfMemory judged heard r = tt
+settle_refused config options io system inputs typed refusal.OutOfMemory judged heard r = inr (inr (record { judged = judged; typed = typed; heard = heard }))
 settle_refused config options io system inputs typed _ judged heard r = absurd r.refused
 
-pub settle_refused_as : (config : Config) (options : RunOptions) (io : Streams) (system : Disk) (inputs : List SessionInput) (typed heard : Option TypedKeys) (e : RunError) → typed ≡ heard
+pub settle_refused_as : (config : Config) (options : RunOptions) (io : Streams) (system : Disk) (inputs : List SessionInput) (typed heard : Option (ℕ × LivePlay)) (e : RunError) → typed ≡ heard
     → AllAccepted (starts_read inputs) (new_host system config.frames) (starts_read inputs) ⊎ AreUntouched io
     → IsTypedIfAny system config.sessions.items (option_map (λ n. n.now) options.typed) inputs io (typed_view heard)
     → IsSettlingRefusal system options.stops_idle (typed_view typed) config.sessions.items inputs e → IsSettleRefusal config options io system inputs e
 settle_refused_as config options io system inputs typed heard e same judged given r =
     settle_refused config options io system inputs (typed_view heard) e judged given
-    (subst (λ (t : Option TypedKeys). IsSettlingRefusal system options.stops_idle (typed_view t) config.sessions.items inputs e) same r)
+    (subst (λ (t : Option (ℕ × LivePlay)). IsSettlingRefusal system options.stops_idle (typed_view t) config.sessions.items inputs e) same r)
 
 -- where nothing is to be typed, nothing was
 pub nothing_heard : (config : Config) (options : RunOptions) (io : Streams) (system : Disk) (inputs : List SessionInput) → options.typed ≡ None → AreUntouched io

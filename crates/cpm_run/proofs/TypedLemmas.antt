@@ -1,5 +1,5 @@
 -- The session that is typed at.
-use Rattle.std.proofs.Common.{◌≡◌, ◌∙◌, ◌<◌, ◌≤◌, ◌+◌, ℕ, zero, suc, Bool, true, false, cond, List, [], ◌∷◌, Option, Some, None, length, map, refl, sym, subst, ap, arith, slice_get, get_or}
+use Rattle.std.proofs.Common.{◌≡◌, ◌∙◌, ◌<◌, ◌+◌, ℕ, suc, Bool, true, false, cond, List, [], ◌∷◌, Option, Some, inl, inr, length, map, refl, sym, subst, ap, arith, slice_get, get_or}
 use Rattle.std.specs.Prelude.{chars, option_map}
 use Rattle.std.specs.Borrow.{Bor}
 use Rattle.std.specs.List.{All, position_from}
@@ -11,24 +11,23 @@ use Rattle.cpm_batch.specs.declared.input.Input.{Input}
 use Rattle.cpm_command_line.specs.Shown.{shown_of}
 use Rattle.cpm_config.specs.Rules.{is_opened, is_session_named, origin_view, place_of, session_view}
 use Rattle.cpm_config.specs.declared.config.Config.{Config}
-use Rattle.cpm_config.specs.declared.config.Origin.{Origin}
 use Rattle.cpm_config.specs.declared.config.SessionConfig.{SessionConfig}
 use Rattle.cpm_geom.specs.Disk.{Disk}
 use Rattle.cpm_machine.specs.MachineState.{MachineState}
 use Rattle.cpm_play.specs.Live.{IsCutShort}
 use Rattle.cpm_play.specs.declared.live.LiveError.{LiveError}
 use Rattle.cpm_play.specs.declared.live.LiveError.TheVariants as live
+use Rattle.cpm_play.specs.declared.live.LivePlay.{LivePlay}
 use Rattle.cpm_script.specs.Script.{most_keys}
 use Rattle.cpm_slots.specs.Host.{new_host}
 use Rattle.cpm_run.specs.Refusals.{run_error_of_live}
 use Rattle.cpm_run.specs.Refusing.{IsForkOrigin, IsForkedSession, IsSettleRefusal, IsTypingCut, IsTypingRefusal}
 use Rattle.cpm_run.specs.Run.{AllAccepted, starts_read}
 use Rattle.cpm_run.specs.Settled.{IsTypedBy, IsTypedIfAny, Streams, most_steps, opening_of, typed_view}
-use Rattle.cpm_run.specs.Settling.{AreOpenable, BeginsAsConfigured, IsOpenable, IsTypedIn, IsTypedPlace, IsTypedPlaceOf}
+use Rattle.cpm_run.specs.Settling.{BeginsAsConfigured, IsOpenable, IsTypedIn, IsTypedPlace, IsTypedPlaceOf}
 use Rattle.cpm_run.specs.declared.error.RunError.{RunError}
 use Rattle.cpm_run.specs.declared.error.RunError.TheVariants as refusal
 use Rattle.cpm_run.specs.declared.options.RunOptions.{RunOptions}
-use Rattle.cpm_run.specs.declared.typed.TypedKeys.{TypedKeys}
 use Rattle.cpm_run.proofs.StageLemmas.{accepted_openable}
 
 -- ---- the place of a name
@@ -84,7 +83,7 @@ cut_as : (system : Disk) (start : StartInput) (io : Streams) (now : MachineState
 cut_as system start io now (live.Unreadable reason) cut = (now, cut)
 cut_as system start io now (live.Unwritable reason) cut = (now, cut)
 cut_as system start io now (live.Unrecorded reason) cut = (now, cut)
-cut_as system start io now live.OutOfMemory cut = tt
+cut_as system start io now live.OutOfMemory cut = inr (now, cut)
 
 pub typing_cut : (system : Disk) (start : StartInput) (io : Streams) (m now : MachineState) (e : LiveError) → m ≡ opening_of start
     → IsCutShort system most_steps most_keys m now io.before io.written io.unrecorded io.record_now io.unread io.left e → IsTypingRefusal system start io (run_error_of_live e)
@@ -143,18 +142,18 @@ here_openable config name place inputs i system here is accepted =
     slice_get-map (λ (x : SessionInput). x.start) (map given inputs) place ∙ ap (option_map (λ (x : SessionInput). x.start)) (given_there inputs place i here.within is) in
     all_there (λ b. IsOpened b → IsOpenable b) (starts_read (map given inputs)) place (start_view i.start) all there (here.opened i is)
 
-pub heard_at : (system : Disk) (config : Config) (options : RunOptions) (name : Bor (List ℕ)) (place : ℕ) (inputs : List Input) (i : Input) (io : Streams) (heard : TypedKeys)
-    → options.typed ≡ Some name → IsTypedHere config name.now place inputs → i ≡ get_or inputs place i → heard.place ≡ place
+pub heard_at : (system : Disk) (config : Config) (options : RunOptions) (name : Bor (List ℕ)) (place : ℕ) (inputs : List Input) (i : Input) (io : Streams) (heard : LivePlay)
+    → options.typed ≡ Some name → IsTypedHere config name.now place inputs → i ≡ get_or inputs place i
     → IsTypedBy system config.sessions.items name.now (start_view i.start) io heard.keys.items heard.steps
-    → IsTypedIfAny system config.sessions.items (option_map (λ n. n.now) options.typed) (map given inputs) io (typed_view (Some heard))
-heard_at system config options name place inputs i io heard asked here is same typed =
-    subst (λ (o : Option (Bor (List ℕ))). IsTypedIfAny system config.sessions.items (option_map (λ n. n.now) o) (map given inputs) io (typed_view (Some heard))) (sym asked) (
-      record { place = heard.place; keys = heard.keys.items; steps = heard.steps },
+    → IsTypedIfAny system config.sessions.items (option_map (λ n. n.now) options.typed) (map given inputs) io (typed_view (Some (place, heard)))
+heard_at system config options name place inputs i io heard asked here is typed =
+    subst (λ (o : Option (Bor (List ℕ))). IsTypedIfAny system config.sessions.items (option_map (λ n. n.now) o) (map given inputs) io (typed_view (Some (place, heard)))) (sym asked) (
+      record { place = place; keys = heard.keys.items; steps = heard.steps },
       refl,
       record {
         input = given i;
-        place = here.first ∙ ap (λ (n : ℕ). Some n) (sym same);
-        there = ap (slice_get (map given inputs)) same ∙ given_there inputs place i here.within is;
+        place = here.first;
+        there = given_there inputs place i here.within is;
         opened = here.opened i is;
         typed = typed;
       },
@@ -180,5 +179,5 @@ module _ (config : Config) (options : RunOptions) (name : Bor (List ℕ)) (place
   typing_refused (refusal.InputUnreadable reason) r = cut (refusal.InputUnreadable reason) r
   typing_refused (refusal.OutputUnwritable reason) r = cut (refusal.OutputUnwritable reason) r
   typing_refused (refusal.RecordUnwritable reason) r = cut (refusal.RecordUnwritable reason) r
-  typing_refused refusal.OutOfMemory r = tt
+  typing_refused refusal.OutOfMemory r = inr (inl (cut refusal.OutOfMemory r))
   typing_refused _ r = absurd r

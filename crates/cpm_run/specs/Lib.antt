@@ -1,4 +1,4 @@
-pub mod Illegal
+pub mod Ending
 pub mod Playing
 pub mod Refusals
 pub mod Refusing

@@ -11,11 +11,9 @@ use Rattle.cpm_script.specs.Fork.{keys_before}
 use Rattle.cpm_script.specs.declared.script.Key.{Key}
 use Rattle.cpm_slots.specs.Host.{Host, SlotState, refusal_of, slot_at, with_opened}
 use Rattle.cpm_machine.specs.MachineState.{MachineState, opened_machine}
-use Rattle.cpm_machine.specs.Serve.{look_of}
 use Rattle.cpm_machine.specs.declared.opening.Opening.{Opening}
 use Rattle.cpm_machine.specs.declared.opening.OpenError.{OpenError}
 use Rattle.cpm_machine.specs.declared.opening.OpenError.TheVariants.{NoFrames}
-use Rattle.cpm_machine.specs.declared.reply.Closed.{Closed}
 use Rattle.cpm_play.specs.Players.{fork_pages, forks_of}
 use Rattle.cpm_play.specs.Playing.{IsInOrder, IsPlayed}
 use Rattle.cpm_play.specs.ScriptedSlots.{IsNew, script_keys, steps_of}
@@ -26,7 +24,8 @@ use Rattle.cpm_play.specs.declared.scripted_slot.ScriptedSlot.{ScriptedSlot}
 use Rattle.cpm_run.specs.Run.{IsNamedRefusal, IsOpening, IsShortFor, IsShownAs, ReportEntry, files_left, name_at, pages_of_config, report_view}
 use Rattle.cpm_run.specs.Run.{reports_of, start_of}
 use Rattle.cpm_store.specs.Files.{StoreName}
-use Rattle.cpm_run.specs.Illegal.{bytes_at_pc}
+use Rattle.cpm_run.specs.Ending.{ending_of}
+use Rattle.cpm_run.specs.declared.ending.Ending.{Ending}
 use Rattle.cpm_run.specs.declared.report.SessionReport.{SessionReport}
 use Rattle.cpm_run.specs.declared.error.RunError.{RunError}
 use Rattle.cpm_run.specs.declared.error.RunError.TheVariants as refusal
@@ -166,40 +165,19 @@ AllEnded system inputs slots (i ∷ is) (p ∷ ps) = HasEnded system inputs slot
 AllEnded system inputs slots [] (p ∷ ps) = ⊥
 AllEnded system inputs slots (i ∷ is) [] = ⊥
 
--- the first of the scripted slots, with what is left of its slot, which was closed, and the bytes at its program counter
+-- the first of the scripted slots, with how its slot ended, which was closed, and the drives that it left
 pub record IsClosed (p : ScriptedSlot) (ps : List Player) (s : MachineState) (old new : Host)
-    (r : Option (ScriptedSlot × Closed × List ℕ)) (rest : List Player) : Type 0 where
-  pub closed : Closed
-  pub result : r ≡ Some (p, closed, bytes_at_pc s)
-  pub look : closed.look ≡ look_of s
-  pub drives : closed.drives ≡ images_of s.session.disks
+    (r : Option (ScriptedSlot × Ending × List (Option Disk))) (rest : List Player) : Type 0 where
+  pub result : r ≡ Some (p, ending_of s, images_of s.session.disks)
   pub left : rest ≡ ps
   pub others : (id : ℕ) → id ≢ p.id.0 → slot_at id new.slots ≡ slot_at id old.slots
 
 -- what is reported of a session, by what is left of it
-abbrev pub report_by : SessionConfig → ScriptedSlot → Closed → List ℕ → ReportEntry
-report_by session p closed at_pc = record {
-  name = string_bytes session.name;
-  ended = closed.look.ended;
-  count = closed.look.count;
-  bytes = length p.console.items;
-  pc = closed.look.regs.pc;
-  at_pc = at_pc;
-}
+abbrev pub report_by : SessionConfig → ScriptedSlot → Ending → ReportEntry
+report_by session p ending = record { name = string_bytes session.name; ending = ending; bytes = length p.console.items }
 
-abbrev pub files_by : SessionConfig → ScriptedSlot → Closed → SessionOutput
-files_by session p closed =
-    record { session = session; console = p.console.items; list = p.list.items; drives = closed.drives }
-
--- one more session that ended so is reported, and leaves its files
-pub record HasReported (session : SessionConfig) (p : ScriptedSlot) (closed : Closed) (at_pc : List ℕ)
-    (reports more : List SessionReport) (files others : List SessionFiles) : Type 0 where
-  pub report : SessionReport
-  pub reported : report_view report ≡ report_by session p closed at_pc
-  pub pushed : more ≡ reports ++ report ∷ []
-  pub file : SessionFiles
-  pub left : left_by file ≡ files_by session p closed
-  pub added : others ≡ files ++ file ∷ []
+abbrev pub files_by : SessionConfig → ScriptedSlot → List (Option Disk) → SessionOutput
+files_by session p drives = record { session = session; console = p.console.items; list = p.list.items; drives = drives }
 
 -- each session that ended so is reported, and leaves its files
 abbrev pub AreFinished : List SessionConfig → List SlotState → List Player → List SessionReport → List SessionFiles → Type 0

@@ -15,7 +15,7 @@ use Rattle.cpm_machine.specs.MachineState.{MachineState}
 use Rattle.cpm_machine.specs.declared.opening.OpenError.TheVariants.{NoFrames}
 use Rattle.cpm_play.specs.Live.{IsCutShort}
 use Rattle.cpm_play.specs.declared.live.LiveError.{LiveError}
-use Rattle.cpm_play.specs.declared.live.LiveError.TheVariants.{Unreadable, Unwritable, Unrecorded}
+use Rattle.cpm_play.specs.declared.live.LiveError.TheVariants.{Unreadable, Unwritable, Unrecorded, OutOfMemory}
 use Rattle.cpm_script.specs.Cues.{cued_key_count}
 use Rattle.cpm_script.specs.Script.{most_keys}
 use Rattle.cpm_slots.specs.Host.{new_host}
@@ -65,12 +65,12 @@ abbrev pub IsSessionCut : Disk → StartInput → Streams → LiveError → Type
 IsSessionCut system start io e = (now : MachineState)
     × IsCutShort system most_steps most_keys (opening_of start) now io.before io.written io.unrecorded io.record_now io.unread io.left e
 
--- how it is refused then
+-- how it is refused then; where memory is refused, either before a key is read, or for a key that was read
 abbrev pub IsTypingRefusal : Disk → StartInput → Streams → RunError → Type 0
 IsTypingRefusal system start io (refusal.InputUnreadable reason) = IsSessionCut system start io (Unreadable reason)
 IsTypingRefusal system start io (refusal.OutputUnwritable reason) = IsSessionCut system start io (Unwritable reason)
 IsTypingRefusal system start io (refusal.RecordUnwritable reason) = IsSessionCut system start io (Unrecorded reason)
-IsTypingRefusal system start io refusal.OutOfMemory = ⊤
+IsTypingRefusal system start io refusal.OutOfMemory = AreUntouched io ⊎ IsSessionCut system start io OutOfMemory
 IsTypingRefusal system start io _ = ⊥
 
 -- all openings were accepted, and then the session at which one typed was cut short
@@ -108,8 +108,14 @@ pub record HasTooManyKeys (config : Config) (options : RunOptions) (io : Streams
   pub heard : IsTypedIfAny system config.sessions.items (option_map (λ n. n.now) options.typed) inputs io typed
   pub over : IsOverfullIn system options.stops_idle typed config.sessions.items inputs shown
 
+-- all openings were accepted, or else no key was read; and what was typed was typed
+pub record HasBeenTyped (config : Config) (options : RunOptions) (io : Streams) (system : Disk) (inputs : List SessionInput) : Type 0 where
+  pub judged : AllAccepted (starts_read inputs) (new_host system config.frames) (starts_read inputs) ⊎ AreUntouched io
+  pub typed : Option TypedSession
+  pub heard : IsTypedIfAny system config.sessions.items (option_map (λ n. n.now) options.typed) inputs io typed
+
 -- How a run is refused once all was read: for the first session whose opening is refused, or because there is no room for the forks, before a key is read; or
--- then while one types, or for a session with too many keys; or if out of memory.
+-- then while one types, or for a session with too many keys; or if out of memory, before a key is read, while one types, or after it.
 abbrev pub IsSettleRefusal : Config → RunOptions → Streams → Disk → List SessionInput → RunError → Type 0
 IsSettleRefusal config options io system inputs (refusal.SessionRefused name fault) =
     (fault ≢ NoFrames) × IsNamedRefusal config.sessions.items (new_host system config.frames) (starts_read inputs) fault name.bytes × AreUntouched io
@@ -123,7 +129,8 @@ IsSettleRefusal config options io system inputs (refusal.OutputUnwritable reason
 IsSettleRefusal config options io system inputs (refusal.RecordUnwritable reason) =
     IsTypingCut config options io system inputs (refusal.RecordUnwritable reason)
 IsSettleRefusal config options io system inputs (refusal.TooManyKeys shown) = HasTooManyKeys config options io system inputs shown.bytes
-IsSettleRefusal config options io system inputs refusal.OutOfMemory = ⊤
+IsSettleRefusal config options io system inputs refusal.OutOfMemory =
+    AreUntouched io ⊎ IsTypingCut config options io system inputs refusal.OutOfMemory ⊎ HasBeenTyped config options io system inputs
 IsSettleRefusal config options io system inputs _ = ⊥
 
 -- so it was with what the files held
@@ -167,8 +174,8 @@ pub record LeavesAll (io : Streams) (old new : Option StoreFiles) : Type 0 where
 
 -- How a run is refused: for a number at the top, a fork, or a session that can't be typed at, before anything is read; then for the first fault of what is
 -- needed; then for the first session whose opening is refused, or because there is no room for the forks. Nothing was written then, and no key was read.
--- Afterwards it may be cut short while one types, or a forked session may have too many keys; then too nothing was written. And it may be out of memory, or a
--- file can't be written.
+-- Afterwards it may be cut short while one types, or a forked session may have too many keys; then too nothing was written. And a file can't be written. It may
+-- be out of memory before a key is read; once all was read, when nothing was written; or where files are written.
 abbrev pub IsRunRefusal : Config → RunOptions → Streams → Option StoreFiles → Option StoreFiles → RunError → Type 0
 IsRunRefusal config options io old new (refusal.ConfigRefused (Range place)) = (config_fault config ≡ Some place) × LeavesAll io old new
 IsRunRefusal config options io old new (refusal.NoSession name) = (config_fault config ≡ None) × IsNoSession config options name.bytes × LeavesAll io old new
@@ -177,7 +184,9 @@ IsRunRefusal config options io old new (refusal.NotOpened name) =
 IsRunRefusal config options io old new (refusal.FileRefused e) = (config_fault config ≡ None) × IsInputFault old config e × LeavesAll io old new
 IsRunRefusal config options io old new (refusal.WriteFault name) = StopsWriting config options io old new (refusal.WriteFault name)
 IsRunRefusal config options io old new refusal.OutOfMemory =
-    (config_fault config ≡ None) × ((new ≡ old) ⊎ StopsWriting config options io old new refusal.OutOfMemory)
+    (config_fault config ≡ None)
+    × (LeavesAll io old new ⊎ (IsRefusedAfterReading config options io old refusal.OutOfMemory × (new ≡ old))
+    ⊎ StopsWriting config options io old new refusal.OutOfMemory)
 IsRunRefusal config options io old new e = IsRefusedAfterReading config options io old e × (new ≡ old)
 
 -- Over any store: what is needed was read, then those before one of the files were written, writing that one failed, and no other call was made.
@@ -200,7 +209,8 @@ pub record StopsAfterReading {S : Type 0} (does : S → StoreAccess → S → Ty
   pub refused : IsSettleRefusal config options io system inputs e
 
 -- What calls a run that is refused has made of any store: none, where the configuration is refused or no session can be typed at; the reads up to the file
--- that is refused; all reads and the writes up to the one that failed; and else all reads. Where memory was refused before the writes, none that writes.
+-- that is refused; all reads and the writes up to the one that failed; and else all reads. Where memory was refused and not all was read, none that writes, and
+-- no key was read.
 abbrev pub IsStoppedRun : {S : Type 0} → (S → StoreAccess → S → Type 0) → Config → RunOptions → Streams → S → S → RunError → Type 0
 IsStoppedRun {S} does config options io old new (refusal.ConfigRefused e) = new ≡ old
 IsStoppedRun {S} does config options io old new (refusal.NoSession name) = new ≡ old
@@ -208,7 +218,8 @@ IsStoppedRun {S} does config options io old new (refusal.NotOpened name) = new �
 IsStoppedRun {S} does config options io old new (refusal.FileRefused e) = LogLeadsBy does (StopsAtInput config e) old new
 IsStoppedRun {S} does config options io old new (refusal.WriteFault name) = FailsAtWrite does config options io old new (refusal.WriteFault name)
 IsStoppedRun {S} does config options io old new refusal.OutOfMemory =
-    LogLeadsBy does AreNoWrites old new ⊎ FailsAtWrite does config options io old new refusal.OutOfMemory
+    (LogLeadsBy does AreNoWrites old new × AreUntouched io) ⊎ StopsAfterReading does config options io old new refusal.OutOfMemory
+    ⊎ FailsAtWrite does config options io old new refusal.OutOfMemory
 IsStoppedRun {S} does config options io old new e = StopsAfterReading does config options io old new e
 
 -- a device failed

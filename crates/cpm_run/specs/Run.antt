@@ -25,13 +25,13 @@ use Rattle.cpm_machine.specs.MachineState.{MachineState}
 use Rattle.cpm_machine.specs.declared.opening.Opening.{Opening}
 use Rattle.cpm_machine.specs.declared.opening.OpenError.{OpenError}
 use Rattle.cpm_machine.specs.declared.opening.OpenError.TheVariants.{NoFrames, NoSlot}
-use Rattle.cpm_machine.specs.declared.reply.End.{End}
 use Rattle.cpm_store.specs.Files.{StoreFiles, StoreName, WhereTold}
 use Rattle.cpm_store.specs.Log.{StoreAccess, AreWrites, LogLeadsBy, Then}
 use Rattle.cpm_store.specs.Writes.{NamedBytes, WritesAll}
 use Rattle.cpm_play.specs.Players.{HasRoomForForks, IsLackFor}
 use Rattle.cpm_play.specs.Playing.{alone_by}
-use Rattle.cpm_run.specs.Illegal.{bytes_at_pc}
+use Rattle.cpm_run.specs.Ending.{ending_of}
+use Rattle.cpm_run.specs.declared.ending.Ending.{Ending}
 use Rattle.cpm_run.specs.declared.options.RecordFile.{RecordFile}
 use Rattle.cpm_run.specs.declared.options.RunOptions.{RunOptions}
 use Rattle.cpm_run.specs.declared.report.Report.{Report}
@@ -61,28 +61,17 @@ session_output session s = record {
   drives = images_of s.session.disks;
 }
 
--- what is reported of it: its name, its end, its steps, the number of its console bytes, and its program counter with the bytes there
+-- what is reported of it: its name, how and where it ended, and the number of its console bytes
 pub record ReportEntry : Type 0 where
   pub name : StoreName
-  pub ended : End
-  pub count : ℕ
+  pub ending : Ending
   pub bytes : ℕ
-  pub pc : ℕ
-  pub at_pc : List ℕ
 
 abbrev pub reported_of : SessionConfig → MachineState → ReportEntry
-reported_of session s = record {
-  name = string_bytes session.name;
-  ended = s.ended;
-  count = s.count;
-  bytes = length s.session.console.screen;
-  pc = s.session.regs.pc;
-  at_pc = bytes_at_pc s;
-}
+reported_of session s = record { name = string_bytes session.name; ending = ending_of s; bytes = length s.session.console.screen }
 
 abbrev pub report_view : SessionReport → ReportEntry
-report_view r =
-    record { name = string_bytes r.name; ended = r.ended; count = r.count; bytes = r.bytes; pc = r.pc; at_pc = r.at_pc }
+report_view r = record { name = string_bytes r.name; ending = r.ending; bytes = r.bytes }
 
 -- ---- all sessions
 

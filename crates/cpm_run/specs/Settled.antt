@@ -1,6 +1,6 @@
 -- What the sessions of a run are played by: all their keys, each with its count, and their steps; and how these come of what was read and typed.
 -- All of it is own.
-use Rattle.std.specs.Prelude.{⊤, ◌≡◌, ◌≤◌, ◌^◌, ◌-◌, ℕ, max, Bool, true, false, ◌&&◌, ◌==◌, if◌then◌else◌, List, [], ◌∷◌, ◌++◌, length, map, drop, chars}
+use Rattle.std.specs.Prelude.{⊤, ◌≡◌, ◌≤◌, ◌^◌, ◌-◌, ℕ, max, Bool, true, false, ◌&&◌, ◌==◌, if◌then◌else◌, List, [], ◌∷◌, ◌++◌, length, map, drop}
 use Rattle.std.specs.Prelude.{Option, Some, None, slice_get, string_bytes}
 use Rattle.std.specs.Io.KnownBytes.{Appends}
 use Rattle.std.specs.Str.{bytes_eq}
@@ -16,6 +16,7 @@ use Rattle.cpm_play.specs.Cued.{HasEndedCued, IsCued, waits_at}
 use Rattle.cpm_play.specs.Live.{AreGiven, AreTypedKeysRead, HasReason}
 use Rattle.cpm_play.specs.Playing.{alone_by}
 use Rattle.cpm_play.specs.Wanting.{AreWanted, HasNoLongWait}
+use Rattle.cpm_play.specs.declared.live.LivePlay.{LivePlay}
 use Rattle.cpm_script.specs.Cues.{Counted, CueText, cue_text}
 use Rattle.cpm_script.specs.Fork.{keys_before}
 use Rattle.cpm_script.specs.Recording.{recorded}
@@ -23,7 +24,6 @@ use Rattle.cpm_script.specs.Script.{most_keys}
 use Rattle.cpm_script.specs.declared.cue.Cue.{Cue}
 use Rattle.cpm_script.specs.declared.script.Key.{Key}
 use Rattle.cpm_run.specs.declared.settled.SettledInput.{SettledInput}
-use Rattle.cpm_run.specs.declared.typed.TypedKeys.{TypedKeys}
 
 -- ---- what a session is played by
 
@@ -67,9 +67,9 @@ pub record TypedSession : Type 0 where
   pub keys : List Key
   pub steps : ℕ
 
-abbrev pub typed_view : Option TypedKeys → Option TypedSession
+abbrev pub typed_view : Option (ℕ × LivePlay) → Option TypedSession
 typed_view None = None
-typed_view (Some t) = Some (record { place = t.place; keys = t.keys.items; steps = t.steps })
+typed_view (Some t) = Some (record { place = t.0; keys = t.1.keys.items; steps = t.1.steps })
 
 -- what the session at a place says: the keys that were typed at it, or else what its script says
 abbrev pub said_at : Option TypedSession → ℕ → List CueText → List CueText

@@ -1,8 +1,6 @@
 //! A session that is played by itself, before the run.
-ghost use Rattle.std.specs.Prelude.{◌≡◌, ◌≤◌, ◌++◌, IfErr, IfOk, None, map};
+ghost use Rattle.std.specs.Prelude.{◌≡◌, ◌++◌, IfErr, IfOk, map};
 ghost use Rattle.cpm_batch.specs.Inputs.{IsOpened, start_view};
-ghost use Rattle.cpm_machine.specs.Opening.{opening_fault};
-ghost use Rattle.cpm_machine.specs.MachineState.{opened_machine};
 ghost use Rattle.cpm_play.specs.Playing.{IsFresh};
 ghost use Rattle.cpm_script.specs.declared.cue.Cue.TheVariants.{Key as Timed};
 ghost use Rattle.cpm_run.specs.Settled.{opening_of};

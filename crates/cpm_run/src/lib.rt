@@ -3,9 +3,9 @@
 #![tactic(auto)]
 
 mod alone;
-mod at_pc;
+mod digits;
+mod ending;
 mod error;
-mod illegal;
 mod options;
 mod part;
 mod play;
@@ -20,8 +20,8 @@ mod trial;
 mod typed;
 mod watcher;
 
+pub use ending::{Ending, IllegalBytes, end_word};
 pub use error::RunError;
-pub use illegal::IllegalBytes;
 pub use options::{RecordFile, RunOptions};
 pub use report::{Report, SessionReport};
 pub use run::run_host;

@@ -12,33 +12,27 @@ ghost use Rattle.cpm_play.specs.Players.{AllDiffer, IsPlayRefusal as IsForking};
 ghost use Rattle.cpm_play.specs.declared.player.Player.TheVariants.{Playing};
 ghost use Rattle.cpm_play.specs.declared.player.Player.{Player as PlayerValue};
 ghost use Rattle.cpm_play.specs.declared.scripted_slot.ScriptedSlot.{ScriptedSlot};
-ghost use Rattle.cpm_run.specs.Playing.{HavePlayers, AreFinished, ArePressable, HasReported, IsClosed, IsForksRefusal, IsOpeningRefusal};
+ghost use Rattle.cpm_run.specs.Playing.{HavePlayers, AreFinished, ArePressable, IsClosed, IsForksRefusal, IsOpeningRefusal};
 ghost use Rattle.cpm_run.specs.Playing.{IsSessionsRefusal, IsPrepared, IsSlotRefusal, IsStartRefusal, OpensSlot, files_by, report_by};
 ghost use Rattle.cpm_run.specs.Settled.{settled_view, starts_of};
 ghost use Rattle.cpm_run.specs.Run.{AllAccepted, HasForkRoom, IsFirstRefused, IsForkAt, IsShortFor, IsShownAs};
 ghost use Rattle.cpm_run.specs.Run.{files_left, fork_pages_in, forks_in, name_at, report_view, reports_of};
 
-use crate::at_pc::bytes_of_slot;
+use crate::ending::{Ending, ending_of_slot};
 use crate::error::RunError;
 use crate::quotas::pages_of_config;
 use crate::report::SessionReport;
-use crate::settled::{SettledInput, SettledInputs};
+use crate::settled::SettledInput;
 use cpm_batch::{SessionFiles, Start};
 use cpm_command_line::{ShownWord, shown};
 use cpm_config::{Config, SessionConfig};
-use cpm_machine::{Closed, OpenError, Opening};
+use cpm_geom::Image;
+use cpm_machine::{OpenError, Opening};
 use cpm_play::{Fork, PlayError, Player, ScriptedSlot, Watcher, play};
 use cpm_script::Key;
 use cpm_slots::{ForkError, Host, LEAST_FRAMES, MOST_FRAMES};
 use std::alloc::{AllocError, Global};
 use std::vec::IntoIter;
-
-/// What is left of all sessions: what is reported of each, and what is written.
-#[derive(Drop)]
-pub(crate) struct RunResults<'a> {
-    pub(crate) reports: Vec<SessionReport>,
-    pub(crate) files: Vec<SessionFiles<'a>>,
-}
 
 /// Why a session has no slot, if its opening is refused so.
 fn refused(session: &SessionConfig, fault: OpenError) -> RunError
@@ -175,20 +169,20 @@ fn prepare_all(
     Ok(players)
 }
 
-/// The next scripted slot, with what is left of its slot, which is closed, and the four bytes at its program counter.
+/// The next scripted slot, with how its slot ended, which is closed, and the drives that it left.
 fn next_closed(
     host: &mut Host,
     players: &mut IntoIter<Player>,
-) -> Option<(ScriptedSlot, Closed, [u8; 4])>
+) -> Option<(ScriptedSlot, Ending, [Option<Image>; 4])>
     ensures { (p : ScriptedSlot) (ps : List PlayerValue) (s : MachineState) → into_iter_items players.old ≡ Playing p ∷ ps
         → slot_at p.id.0 host.old.host.slots ≡ Some s → IsClosed p ps s host.old.host host.new.host result (into_iter_items players.new) }
 {
     let Player::Playing(slot) = players.next()? else {
         return None;
     };
-    let at_pc = bytes_of_slot(host, slot.id);
+    let ending = ending_of_slot(host, slot.id)?;
     match host.close(slot.id) {
-        Ok(closed) => Some((slot, closed, at_pc)),
+        Ok(closed) => Some((slot, ending, closed.drives)),
         Err(_) => None,
     }
 }
@@ -198,22 +192,18 @@ fn finish<'a>(
     alloc: Global,
     session: &'a SessionConfig,
     slot: ScriptedSlot,
-    closed: Closed,
-    at_pc: [u8; 4],
+    ending: Ending,
+    drives: [Option<Image>; 4],
 ) -> Result<(SessionReport, SessionFiles<'a>), AllocError>
-    ensures report { IfOk result (λ r. report_view r.0 ≡ report_by session.entry.now slot closed at_pc) }
-    ensures files { IfOk result (λ r. left_by r.1 ≡ files_by session.entry.now slot closed) }
+    ensures report { IfOk result (λ r. report_view r.0 ≡ report_by session.entry.now slot ending) }
+    ensures files { IfOk result (λ r. left_by r.1 ≡ files_by session.entry.now slot drives) }
 {
     let name = String::from_str(alloc, session.name.as_str())?;
-    let Closed { look, drives } = closed;
     let ScriptedSlot { console, list, .. } = slot;
     let report = SessionReport {
         name,
-        ended: look.ended,
-        count: look.count,
+        ending,
         bytes: console.len() as u64,
-        pc: look.regs.pc,
-        at_pc,
     };
     let files = SessionFiles {
         session,
@@ -224,75 +214,57 @@ fn finish<'a>(
     Ok((report, files))
 }
 
-impl<'a> RunResults<'a> {
-    /// Adds what is reported of a session that has ended so, and what is written.
-    fn add(
-        &mut self,
-        alloc: Global,
-        session: &'a SessionConfig,
-        ended: (ScriptedSlot, Closed, [u8; 4]),
-    ) -> Result<(), AllocError>
-        ensures { OnOk result (HasReported session.entry.now ended.0 ended.1 ended.2
-            self.old.reports.items self.new.reports.items self.old.files.items self.new.files.items) }
-    {
-        let (slot, closed, at_pc) = ended;
-        let (report, left) = finish(alloc, session, slot, closed, at_pc)?;
-        self.reports.push(report)?;
-        self.files.push(left)?;
-        Ok(())
-    }
-}
-
 /// What is reported of all sessions, and what is written, once their players have played them. Their slots are closed.
 fn finish_all<'a>(
     alloc: Global,
     host: &mut Host,
     sessions: &'a [SessionConfig],
     players: Vec<Player>,
-) -> Result<RunResults<'a>, AllocError>
+) -> Result<(Vec<SessionReport>, Vec<SessionFiles<'a>>), AllocError>
     requires { AllDiffer players.items }
-    ensures { IfOk result (λ played. AreFinished sessions.entry.now host.old.host.slots players.items played.reports.items played.files.items) }
+    ensures { IfOk result (λ left. AreFinished sessions.entry.now host.old.host.slots players.items left.0.items left.1.items) }
 {
-    let mut played = RunResults {
-        reports: Vec::new(alloc),
-        files: Vec::new(alloc),
-    };
+    let mut reports = Vec::new(alloc);
+    let mut files = Vec::new(alloc);
     let mut rest = players.into_iter();
     for session in sessions {
         let Some(ended) = next_closed(host, &mut rest) else {
-            return Ok(played);
+            return Ok((reports, files));
         };
-        played.add(alloc, session, ended)?;
+        let (slot, ending, drives) = ended;
+        let (report, left) = finish(alloc, session, slot, ending, drives)?;
+        reports.push(report)?;
+        files.push(left)?;
     }
-    Ok(played)
+    Ok((reports, files))
 }
 
 /// A host with the sessions of a configuration that aren't forked, and the players of all sessions.
 fn prepare_host(
     alloc: Global,
     config: &Config,
-    inputs: SettledInputs<'_>,
+    system: Image,
+    inputs: Vec<SettledInput<'_>>,
 ) -> Result<(Host, Vec<Player>), RunError>
     requires least { LEAST_FRAMES ≤ config.now.frames }
     requires most { config.now.frames ≤ MOST_FRAMES }
-    requires sessions { map (λ i. i.session) (map settled_view inputs.sessions.items) ≡ config.now.sessions.items }
-    ensures prepared { IfOk result (λ p. HavePlayers p.0.host.slots (map settled_view inputs.entry.sessions.items) p.1.items) }
+    requires sessions { map (λ i. i.session) (map settled_view inputs.items) ≡ config.now.sessions.items }
+    ensures prepared { IfOk result (λ p. HavePlayers p.0.host.slots (map settled_view inputs.entry.items) p.1.items) }
     ensures accepted { IfOk result (λ p. (all : List StartInput) → HasForkRoom all p.0.host
-        → AllAccepted all (new_host inputs.entry.system config.entry.now.frames) (starts_of (map settled_view inputs.entry.sessions.items))) }
+        → AllAccepted all (new_host system config.entry.now.frames) (starts_of (map settled_view inputs.entry.items))) }
     ensures short { IfOk result (λ p. (all : List StartInput) (fault : OpenErrorValue) (place : ℕ)
         → IsForkAt all place → IsShortFor p.0.host (forks_in all) (fork_pages_in all) fault
-        → IsFirstRefused all (new_host inputs.entry.system config.entry.now.frames) 0 (starts_of (map settled_view inputs.entry.sessions.items)) fault place) }
+        → IsFirstRefused all (new_host system config.entry.now.frames) 0 (starts_of (map settled_view inputs.entry.items)) fault place) }
     ensures differ { IfOk result (λ p. AllDiffer p.1.items) }
-    ensures system { IfOk result (λ p. p.0.host.system ≡ inputs.entry.system) }
-    ensures refusal { IfErr result (IsSessionsRefusal config.entry.now (new_host inputs.entry.system config.entry.now.frames)
-        (starts_of (map settled_view inputs.entry.sessions.items))) }
+    ensures system { IfOk result (λ p. p.0.host.system ≡ system) }
+    ensures refusal { IfErr result (IsSessionsRefusal config.entry.now (new_host system config.entry.now.frames)
+        (starts_of (map settled_view inputs.entry.items))) }
 {
-    let SettledInputs { system, sessions } = inputs;
     let mut host = match Host::new(alloc, system, config.frames) {
         Ok(host) => host,
         Err(_) => return Err(RunError::OutOfMemory),
     };
-    match prepare_all(alloc, &mut host, sessions) {
+    match prepare_all(alloc, &mut host, inputs) {
         Ok(players) => Ok((host, players)),
         Err(error) => Err(play_refusal(config, error)),
     }
@@ -302,22 +274,23 @@ fn prepare_host(
 pub(crate) fn play_all<'a, T: Watcher>(
     alloc: Global,
     config: &'a Config,
-    inputs: SettledInputs<'_>,
+    system: Image,
+    inputs: Vec<SettledInput<'_>>,
     watcher: &mut T,
-) -> Result<RunResults<'a>, RunError>
+) -> Result<(Vec<SessionReport>, Vec<SessionFiles<'a>>), RunError>
     requires least { LEAST_FRAMES ≤ config.now.frames }
     requires most { config.now.frames ≤ MOST_FRAMES }
     requires quantum { 1 ≤ config.now.quantum }
-    requires keys { ArePressable (map settled_view inputs.sessions.items) }
-    requires sessions { map (λ i. i.session) (map settled_view inputs.sessions.items) ≡ config.now.sessions.items }
-    ensures reports { IfOk result (λ p. map report_view p.reports.items ≡ reports_of inputs.entry.system (map settled_view inputs.entry.sessions.items)) }
-    ensures files { IfOk result (λ p. map left_by p.files.items ≡ files_left inputs.entry.system (map settled_view inputs.entry.sessions.items)) }
-    ensures accepted { OnOk result (AllAccepted (starts_of (map settled_view inputs.entry.sessions.items))
-        (new_host inputs.entry.system config.entry.now.frames) (starts_of (map settled_view inputs.entry.sessions.items))) }
-    ensures refusal { IfErr result (IsSessionsRefusal config.entry.now (new_host inputs.entry.system config.entry.now.frames)
-        (starts_of (map settled_view inputs.entry.sessions.items))) }
+    requires keys { ArePressable (map settled_view inputs.items) }
+    requires sessions { map (λ i. i.session) (map settled_view inputs.items) ≡ config.now.sessions.items }
+    ensures reports { IfOk result (λ p. map report_view p.0.items ≡ reports_of system (map settled_view inputs.entry.items)) }
+    ensures files { IfOk result (λ p. map left_by p.1.items ≡ files_left system (map settled_view inputs.entry.items)) }
+    ensures accepted { OnOk result (AllAccepted (starts_of (map settled_view inputs.entry.items))
+        (new_host system config.entry.now.frames) (starts_of (map settled_view inputs.entry.items))) }
+    ensures refusal { IfErr result (IsSessionsRefusal config.entry.now (new_host system config.entry.now.frames)
+        (starts_of (map settled_view inputs.entry.items))) }
 {
-    let (mut host, mut players) = prepare_host(alloc, config, inputs)?;
+    let (mut host, mut players) = prepare_host(alloc, config, system, inputs)?;
     match play(
         alloc,
         &mut host,
@@ -328,6 +301,6 @@ pub(crate) fn play_all<'a, T: Watcher>(
         Ok(()) => {}
         Err(error) => return Err(fork_refusal(config, error)),
     }
-    let played = finish_all(alloc, &mut host, config.sessions.as_slice(), players)?;
-    Ok(played)
+    let left = finish_all(alloc, &mut host, config.sessions.as_slice(), players)?;
+    Ok(left)
 }

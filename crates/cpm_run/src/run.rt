@@ -1,10 +1,10 @@
 //! A run of the sessions of a configuration: it is read, settled, played and written.
-ghost use Rattle.std.specs.Prelude.{◌≡◌, ◌<◌, ◌≤◌, ℕ, IfErr, IfOk, OnOk, length, map};
+ghost use Rattle.std.specs.Prelude.{◌≡◌, ◌<◌, ◌≤◌, ℕ, IfErr, IfOk, OnOk, map};
 ghost use Rattle.cpm_slots.specs.Host.{new_host};
 ghost use Rattle.cpm_store.specs.Files.{CountsFailure, WhereTold};
 ghost use Rattle.cpm_store.specs.Log.{AreWrites, LogLeadsBy, StopsAfter};
 ghost use Rattle.cpm_store.specs.Writes.{StopsAt, WritesAll, named_output};
-ghost use Rattle.cpm_run.specs.Playing.{ArePressable, IsSessionsRefusal};
+ghost use Rattle.cpm_run.specs.Playing.{IsSessionsRefusal};
 ghost use Rattle.cpm_run.specs.Refusing.{IsDeviceFault, IsRunRefusal, IsStoppedRun, IsWriteRefusal};
 ghost use Rattle.cpm_run.specs.Run.{AllAccepted, AreReportedOf, HasAccessed, HasRun, config_fault, outputs_of, top_fault};
 ghost use Rattle.cpm_run.specs.Settled.{settled_view, starts_of, streams};
@@ -12,16 +12,17 @@ ghost use Rattle.cpm_run.specs.Settling.{AreSound};
 
 use crate::error::RunError;
 use crate::options::RunOptions;
-use crate::play::{RunResults, play_all};
+use crate::play::play_all;
 use crate::records::{idle_of, records_of};
 use crate::report::Report;
-use crate::settled::SettledInputs;
+use crate::settled::SettledInput;
 use crate::stages::settle_inputs;
 use crate::typed::typed_place;
 use crate::watcher::{RunStage, RunWatcher};
 use cpm_batch::{outputs_of, read_inputs};
 use cpm_command_line::shown;
 use cpm_config::{Config, ConfigError, ConfigKey, Field};
+use cpm_geom::Image;
 use cpm_slots::{LEAST_FRAMES, MOST_FRAMES};
 use cpm_store::{Output, Store, StoreError, write_all};
 use std::alloc::Global;
@@ -77,26 +78,27 @@ fn play_inputs<'a, T: RunWatcher>(
     alloc: Global,
     config: &'a Config,
     options: RunOptions<'a>,
-    inputs: SettledInputs<'_>,
+    system: Image,
+    inputs: Vec<SettledInput<'_>>,
     watcher: &mut T,
 ) -> Result<(Report, Vec<Output<'a>>), RunError>
     requires least { LEAST_FRAMES ≤ config.now.frames }
     requires most { config.now.frames ≤ MOST_FRAMES }
     requires quantum { 1 ≤ config.now.quantum }
-    requires sound { AreSound (map settled_view inputs.sessions.items) }
-    requires sessions { map (λ i. i.session) (map settled_view inputs.sessions.items) ≡ config.now.sessions.items }
-    ensures reports { IfOk result (λ p. AreReportedOf inputs.entry.system (map settled_view inputs.entry.sessions.items) p.0) }
+    requires sound { AreSound (map settled_view inputs.items) }
+    requires sessions { map (λ i. i.session) (map settled_view inputs.items) ≡ config.now.sessions.items }
+    ensures reports { IfOk result (λ p. AreReportedOf system (map settled_view inputs.entry.items) p.0) }
     ensures outputs { IfOk result (λ p. map named_output p.1.items
-        ≡ outputs_of inputs.entry.system options.entry.records.now (map settled_view inputs.entry.sessions.items)) }
-    ensures accepted { OnOk result (AllAccepted (starts_of (map settled_view inputs.entry.sessions.items))
-        (new_host inputs.entry.system config.entry.now.frames) (starts_of (map settled_view inputs.entry.sessions.items))) }
-    ensures refusal { IfErr result (IsSessionsRefusal config.entry.now (new_host inputs.entry.system config.entry.now.frames)
-        (starts_of (map settled_view inputs.entry.sessions.items))) }
+        ≡ outputs_of system options.entry.records.now (map settled_view inputs.entry.items)) }
+    ensures accepted { OnOk result (AllAccepted (starts_of (map settled_view inputs.entry.items))
+        (new_host system config.entry.now.frames) (starts_of (map settled_view inputs.entry.items))) }
+    ensures refusal { IfErr result (IsSessionsRefusal config.entry.now (new_host system config.entry.now.frames)
+        (starts_of (map settled_view inputs.entry.items))) }
 {
     watcher.begin(RunStage::All);
-    let idle = idle_of(alloc, inputs.sessions.as_slice())?;
-    let mut records = records_of(alloc, options.records, inputs.sessions.as_slice())?;
-    let RunResults { reports, files } = play_all(alloc, config, inputs, watcher)?;
+    let idle = idle_of(alloc, inputs.as_slice())?;
+    let mut records = records_of(alloc, options.records, inputs.as_slice())?;
+    let (reports, files) = play_all(alloc, config, system, inputs, watcher)?;
     let mut outputs = outputs_of(alloc, files)?;
     outputs.append(&mut records)?;
     let report = Report {
@@ -148,11 +150,11 @@ pub fn run_host<'a, S: Store, I: Read, W: Write, R: Write, T: RunWatcher>(
         return Err(RunError::ConfigRefused(ConfigError::Range(place)));
     }
     let typed = typed_place(config, options)?;
-    let inputs = read_inputs(alloc, config, store)?;
+    let (system, inputs) = read_inputs(alloc, config, store)?;
     let settled = settle_inputs(
-        alloc, config, options, typed, inputs, input, out, record, watcher,
+        alloc, config, options, typed, &system, inputs, input, out, record, watcher,
     )?;
-    let (report, outputs) = play_inputs(alloc, config, options, settled, watcher)?;
+    let (report, outputs) = play_inputs(alloc, config, options, system, settled, watcher)?;
     write_files(outputs.as_slice(), store)?;
     Ok(report)
 }

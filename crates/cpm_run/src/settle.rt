@@ -3,7 +3,6 @@
 ghost use Rattle.std.specs.Prelude.{◌≡◌, ◌++◌, [], drop, IfErr, IfOk, map};
 ghost use Rattle.cpm_batch.specs.Inputs.{IsOpened, given, start_view, timed_keys};
 ghost use Rattle.cpm_script.specs.Cues.{all_said};
-ghost use Rattle.cpm_run.specs.Playing.{ArePressable};
 ghost use Rattle.cpm_run.specs.Settled.{AreSettled, HasPlayedKeys, HasSettledBy, IsSettled, opened_by, part_of, said_at, settled_view, starts_of, typed_view};
 ghost use Rattle.cpm_run.specs.Settling.{AreFitInputs, AreReady, AreSound, AreSoundKeys, IsFitInput, IsFitPart, IsOpenable, IsPartReady, IsPartRefusal};
 ghost use Rattle.cpm_run.specs.Settling.{IsSettlingRefusal, IsSoundAfter, part_view};
@@ -13,7 +12,6 @@ use crate::alone::{after_keys, machine_of};
 use crate::error::RunError;
 use crate::part::{Part, key_count, part_of, timed_keys};
 use crate::settled::SettledInput;
-use crate::typed::TypedKeys;
 use crate::watcher::{RunStage, RunWatcher};
 use cpm_batch::Input;
 use cpm_command_line::shown;
@@ -23,14 +21,6 @@ use cpm_play::{CuedKeys, LivePlay, play_cues};
 use cpm_script::{Key, MOST_KEYS};
 use std::alloc::{AllocError, Global};
 use std::io;
-
-/// What a session is played by.
-#[derive(Drop)]
-struct PartPlay {
-    keys: Vec<Key>,
-    steps: u64,
-    is_idle: bool,
-}
 
 /// Keys with others after them.
 fn joined(alloc: Global, first: &[Key], others: &[Key]) -> Result<Vec<Key>, AllocError>
@@ -53,19 +43,19 @@ pub(crate) fn keys_after(keys: &[Key], count: usize) -> &[Key]
     }
 }
 
-/// Plays a session by itself, by the keys that it has from before and by what it says.
+/// Plays a session by itself, by the keys that it has from before and by what it says. It gives its keys and steps, and whether it stopped idle.
 fn play_part<T: RunWatcher>(
     alloc: Global,
     system: &Image,
     part: Part<'_>,
     stops_idle: bool,
     watcher: &mut T,
-) -> Result<PartPlay, RunError>
+) -> Result<(LivePlay, bool), RunError>
     requires fit { IsFitPart (part_view part) }
     requires opened { IsOpened (start_view part.opened.now) }
     requires openable { IsOpenable (start_view part.opened.now) }
-    ensures played { IfOk result (λ p. HasPlayedKeys system.now (part_view part.entry) stops_idle p.keys.items p.steps p.is_idle) }
-    ensures sound { IfOk result (λ p. AreSoundKeys (part_view part.entry) p.keys.items p.steps) }
+    ensures played { IfOk result (λ p. HasPlayedKeys system.now (part_view part.entry) stops_idle p.0.keys.items p.0.steps p.1) }
+    ensures sound { IfOk result (λ p. AreSoundKeys (part_view part.entry) p.0.keys.items p.0.steps) }
     ensures refusal { IfErr result (λ e. e ≡ RunError.OutOfMemory) }
 {
     let Part {
@@ -104,15 +94,14 @@ fn play_part<T: RunWatcher>(
         return Err(RunError::OutOfMemory);
     };
     let own = keys_after(came.as_slice(), before.len());
-    Ok(PartPlay {
-        keys: joined(alloc, before.as_slice(), own)?,
-        steps: if stops_idle {
-            done.max(at.max(last))
-        } else {
-            steps
-        },
-        is_idle: stops_idle && machine.look().waiting,
-    })
+    let keys = joined(alloc, before.as_slice(), own)?;
+    let steps = if stops_idle {
+        done.max(at.max(last))
+    } else {
+        steps
+    };
+    let is_idle = stops_idle && machine.look().waiting;
+    Ok((LivePlay { keys, steps }, is_idle))
 }
 
 /// What a session is played by: the keys of its script as they are written, or those that come.
@@ -123,21 +112,23 @@ fn settle_part<T: RunWatcher>(
     part: Part<'_>,
     stops_idle: bool,
     watcher: &mut T,
-) -> Result<PartPlay, RunError>
+) -> Result<(LivePlay, bool), RunError>
     requires fit { IsFitPart (part_view part) }
     requires opened { IsOpened (start_view part.opened.now) }
     requires ready { IsPartReady stops_idle (all_said part.cues) (Some (start_view part.opened.now)) }
     ensures settled { IfOk result (λ p. HasSettledBy system.now (part_view part.entry) stops_idle (timed_keys (all_said part.entry.cues))
-        p.keys.items p.steps p.is_idle) }
-    ensures sound { IfOk result (λ p. AreSoundKeys (part_view part.entry) p.keys.items p.steps) }
+        p.0.keys.items p.0.steps p.1) }
+    ensures sound { IfOk result (λ p. AreSoundKeys (part_view part.entry) p.0.keys.items p.0.steps) }
     ensures refusal { IfErr result (λ e. e ≡ RunError.OutOfMemory) }
 {
     match timed_keys(alloc, part.cues.as_slice())? {
-        Some(own) if !stops_idle => Ok(PartPlay {
-            keys: joined(alloc, part.before.as_slice(), own.as_slice())?,
-            steps: part.steps,
-            is_idle: false,
-        }),
+        Some(own) if !stops_idle => {
+            let live = LivePlay {
+                keys: joined(alloc, part.before.as_slice(), own.as_slice())?,
+                steps: part.steps,
+            };
+            Ok((live, false))
+        }
         _ => {
             watcher.begin(RunStage::Alone(place));
             play_part(alloc, system, part, stops_idle, watcher)
@@ -152,7 +143,7 @@ fn settle_session<'a, T: RunWatcher>(
     system: &Image,
     input: Input<'a>,
     settled: &[SettledInput<'_>],
-    typed: &Option<TypedKeys>,
+    typed: &Option<(usize, LivePlay)>,
     stops_idle: bool,
     watcher: &mut T,
 ) -> Result<SettledInput<'a>, RunError>
@@ -176,17 +167,13 @@ fn settle_session<'a, T: RunWatcher>(
     if key_count(part.cues.as_slice()) > MOST_KEYS - before {
         return Err(RunError::TooManyKeys(shown(session.name.as_str())));
     }
-    let PartPlay {
-        keys,
-        steps,
-        is_idle,
-    } = settle_part(alloc, system, settled.len(), part, stops_idle, watcher)?;
+    let (live, is_idle) = settle_part(alloc, system, settled.len(), part, stops_idle, watcher)?;
     Ok(SettledInput {
         session,
         start,
-        keys,
+        keys: live.keys,
         before,
-        steps,
+        steps: live.steps,
         is_idle,
     })
 }
@@ -197,7 +184,7 @@ pub(crate) fn settle<'a, T: RunWatcher>(
     config: &Config,
     system: &Image,
     inputs: Vec<Input<'a>>,
-    typed: &Option<TypedKeys>,
+    typed: &Option<(usize, LivePlay)>,
     stops_idle: bool,
     watcher: &mut T,
 ) -> Result<Vec<SettledInput<'a>>, RunError>

@@ -1,8 +1,7 @@
-//! The sessions of a run with what they are played by.
+//! A session of a run with what it is played by.
 
 use cpm_batch::Start;
 use cpm_config::SessionConfig;
-use cpm_geom::Image;
 use cpm_script::Key;
 
 /// A session with what it is played by.
@@ -18,13 +17,4 @@ pub(crate) struct SettledInput<'a> {
     pub(crate) steps: u64,
     /// Whether it stopped idle where it was played by itself.
     pub(crate) is_idle: bool,
-}
-
-/// All sessions of a run with what they are played by.
-#[derive(Drop)]
-pub(crate) struct SettledInputs<'a> {
-    /// The image of the system drive.
-    pub(crate) system: Image,
-    /// The sessions in their order.
-    pub(crate) sessions: Vec<SettledInput<'a>>,
 }

@@ -1,5 +1,5 @@
 //! From what was read of a run to what its sessions are played by.
-ghost use Rattle.std.specs.Prelude.{◌≡◌, ◌≤◌, ◌⊎◌, [], false, None, IfErr, IfOk, OnOk, length, map, option_map};
+ghost use Rattle.std.specs.Prelude.{◌≡◌, ◌≤◌, [], false, None, IfErr, IfOk, map, option_map};
 ghost use Rattle.std.specs.List.{All};
 ghost use Rattle.cpm_batch.specs.Inputs.{given};
 ghost use Rattle.cpm_slots.specs.Host.{new_host};
@@ -8,18 +8,20 @@ ghost use Rattle.cpm_batch.specs.Inputs.{timed_keys};
 ghost use Rattle.std.specs.Prelude.{is_some, not};
 ghost use Rattle.cpm_run.specs.Refusing.{IsSettleRefusal};
 ghost use Rattle.cpm_run.specs.Run.{AllAccepted, starts_read};
-ghost use Rattle.cpm_run.specs.Settled.{AreUntouched, AreSettled, IsTypedIfAny, settled_view, streams, typed_view};
-ghost use Rattle.cpm_run.specs.Settling.{AreFitInputs, AreOpenable, ArePlain, AreSound, AreSettledBy, BeginsAsConfigured, IsTypedPlace};
+ghost use Rattle.cpm_run.specs.Settled.{IsTypedIfAny, settled_view, streams, typed_view};
+ghost use Rattle.cpm_run.specs.Settling.{AreFitInputs, ArePlain, AreSound, AreSettledBy, BeginsAsConfigured, IsTypedPlace};
 
 use crate::error::RunError;
 use crate::options::RunOptions;
 use crate::settle::settle;
-use crate::settled::SettledInputs;
+use crate::settled::SettledInput;
 use crate::trial::judge_openings;
-use crate::typed::{TypedKeys, type_at};
+use crate::typed::type_at;
 use crate::watcher::{RunStage, RunWatcher};
-use cpm_batch::{Input, Inputs, Start};
+use cpm_batch::{Input, Start};
 use cpm_config::Config;
+use cpm_geom::Image;
+use cpm_play::LivePlay;
 use cpm_script::Cue;
 use cpm_slots::{LEAST_FRAMES, MOST_FRAMES};
 use std::alloc::Global;
@@ -75,35 +77,33 @@ fn type_if_any<I: Read, W: Write, R: Write, T: RunWatcher>(
     config: &Config,
     options: RunOptions<'_>,
     typed: Option<usize>,
-    inputs: &Inputs<'_>,
+    system: &Image,
+    inputs: &[Input<'_>],
     input: &mut I,
     out: &mut W,
     record: &mut R,
     watcher: &mut T,
-) -> Result<Option<TypedKeys>, RunError>
+) -> Result<Option<(usize, LivePlay)>, RunError>
     requires place { IsTypedPlace config.now options typed }
-    requires sessions { map (λ i. i.session) (map given inputs.now.sessions.items) ≡ config.now.sessions.items }
-    requires starts { All BeginsAsConfigured (map given inputs.now.sessions.items) }
-    requires accepted { AllAccepted (starts_read (map given inputs.now.sessions.items)) (new_host inputs.now.system config.now.frames)
-        (starts_read (map given inputs.now.sessions.items)) }
-    ensures typed { IfOk result (λ t. IsTypedIfAny inputs.now.system config.now.sessions.items (option_map (λ n. n.now) options.entry.typed)
-        (map given inputs.now.sessions.items)
+    requires sessions { map (λ i. i.session) (map given inputs.now) ≡ config.now.sessions.items }
+    requires starts { All BeginsAsConfigured (map given inputs.now) }
+    requires accepted { AllAccepted (starts_read (map given inputs.now)) (new_host system.now config.now.frames)
+        (starts_read (map given inputs.now)) }
+    ensures typed { IfOk result (λ t. IsTypedIfAny system.now config.now.sessions.items (option_map (λ n. n.now) options.entry.typed)
+        (map given inputs.now)
         (streams (I.remaining input.old) (I.remaining input.new) (W.contents out.old) (W.contents out.new) (R.contents «record».old) (R.contents «record».new))
         (typed_view t)) }
     ensures refusal { IfErr result (IsSettleRefusal config.now options.entry
         (streams (I.remaining input.old) (I.remaining input.new) (W.contents out.old) (W.contents out.new) (R.contents «record».old) (R.contents «record».new))
-        inputs.now.system (map given inputs.now.sessions.items)) }
+        system.now (map given inputs.now)) }
 {
     let (Some(name), Some(place)) = (options.typed, typed) else {
         return Ok(None);
     };
     watcher.begin(RunStage::Typing);
-    let session = &inputs.sessions[place];
-    let system = &inputs.system;
-    let heard = type_at(
-        alloc, config, name, system, session, place, input, out, record,
-    )?;
-    Ok(Some(heard))
+    let session = &inputs[place];
+    let heard = type_at(alloc, config, name, system, session, input, out, record)?;
+    Ok(Some((place, heard)))
 }
 
 /// Judges all openings and forks before a session is played by itself; then settles all sessions, that at which one types first.
@@ -112,39 +112,37 @@ pub(crate) fn settle_inputs<'a, I: Read, W: Write, R: Write, T: RunWatcher>(
     config: &Config,
     options: RunOptions<'_>,
     typed: Option<usize>,
-    inputs: Inputs<'a>,
+    system: &Image,
+    inputs: Vec<Input<'a>>,
     input: &mut I,
     out: &mut W,
     record: &mut R,
     watcher: &mut T,
-) -> Result<SettledInputs<'a>, RunError>
+) -> Result<Vec<SettledInput<'a>>, RunError>
     requires least { LEAST_FRAMES ≤ config.now.frames }
     requires most { config.now.frames ≤ MOST_FRAMES }
     requires quantum { 1 ≤ config.now.quantum }
     requires place { IsTypedPlace config.now options typed }
-    requires sessions { map (λ i. i.session) (map given inputs.sessions.items) ≡ config.now.sessions.items }
-    requires starts { All BeginsAsConfigured (map given inputs.sessions.items) }
-    requires fit { AreFitInputs None [] (map given inputs.sessions.items) }
-    ensures system { IfOk result (λ s. s.system ≡ inputs.entry.system) }
+    requires sessions { map (λ i. i.session) (map given inputs.items) ≡ config.now.sessions.items }
+    requires starts { All BeginsAsConfigured (map given inputs.items) }
+    requires fit { AreFitInputs None [] (map given inputs.items) }
     ensures settled { IfOk result (λ s. AreSettledBy config.now options.entry
         (streams (I.remaining input.old) (I.remaining input.new) (W.contents out.old) (W.contents out.new) (R.contents «record».old) (R.contents «record».new))
-        inputs.entry.system (map given inputs.entry.sessions.items) (map settled_view s.sessions.items)) }
-    ensures sound { IfOk result (λ s. AreSound (map settled_view s.sessions.items)) }
+        system.now (map given inputs.entry.items) (map settled_view s.items)) }
+    ensures sound { IfOk result (λ s. AreSound (map settled_view s.items)) }
     ensures refusal { IfErr result (IsSettleRefusal config.now options.entry
         (streams (I.remaining input.old) (I.remaining input.new) (W.contents out.old) (W.contents out.new) (R.contents «record».old) (R.contents «record».new))
-        inputs.entry.system (map given inputs.entry.sessions.items)) }
+        system.now (map given inputs.entry.items)) }
 {
     let mut heard = None;
-    if plays_alone(options, inputs.sessions.as_slice()) {
-        judge_openings(alloc, config, &inputs)?;
+    let sessions = inputs.as_slice();
+    if plays_alone(options, sessions) {
+        judge_openings(alloc, config, system, sessions)?;
         heard = type_if_any(
-            alloc, config, options, typed, &inputs, input, out, record, watcher,
+            alloc, config, options, typed, system, sessions, input, out, record, watcher,
         )?;
     }
-    let Inputs { system, sessions } = inputs;
     let stops_idle = options.stops_idle;
-    let sessions = settle(
-        alloc, config, &system, sessions, &heard, stops_idle, watcher,
-    )?;
-    Ok(SettledInputs { system, sessions })
+    let settled = settle(alloc, config, system, inputs, &heard, stops_idle, watcher)?;
+    Ok(settled)
 }

@@ -10,9 +10,10 @@ ghost use Rattle.cpm_run.specs.Settling.{AreFitStarts, trial_of, trial_start};
 use crate::alone::copy_of;
 use crate::error::RunError;
 use crate::play::play_all;
-use crate::settled::{SettledInput, SettledInputs};
-use cpm_batch::{Input, Inputs, Start};
+use crate::settled::SettledInput;
+use cpm_batch::{Input, Start};
 use cpm_config::Config;
+use cpm_geom::Image;
 use cpm_play::NoWatcher;
 use cpm_slots::{LEAST_FRAMES, MOST_FRAMES};
 use std::alloc::{AllocError, Global};
@@ -52,22 +53,20 @@ fn trial_of<'a>(alloc: Global, inputs: &[Input<'a>]) -> Result<Vec<SettledInput<
 pub(crate) fn judge_openings(
     alloc: Global,
     config: &Config,
-    inputs: &Inputs<'_>,
+    system: &Image,
+    inputs: &[Input<'_>],
 ) -> Result<(), RunError>
     requires least { LEAST_FRAMES ≤ config.now.frames }
     requires most { config.now.frames ≤ MOST_FRAMES }
     requires quantum { 1 ≤ config.now.quantum }
-    requires fit { AreFitStarts [] (starts_read (map given inputs.now.sessions.items)) }
-    requires sessions { map (λ i. i.session) (map given inputs.now.sessions.items) ≡ config.now.sessions.items }
-    ensures accepted { OnOk result (AllAccepted (starts_read (map given inputs.now.sessions.items))
-        (new_host inputs.now.system config.now.frames) (starts_read (map given inputs.now.sessions.items))) }
-    ensures refusal { IfErr result (IsSessionsRefusal config.now (new_host inputs.now.system config.now.frames)
-        (starts_read (map given inputs.now.sessions.items))) }
+    requires fit { AreFitStarts [] (starts_read (map given inputs.now)) }
+    requires sessions { map (λ i. i.session) (map given inputs.now) ≡ config.now.sessions.items }
+    ensures accepted { OnOk result (AllAccepted (starts_read (map given inputs.now))
+        (new_host system.now config.now.frames) (starts_read (map given inputs.now))) }
+    ensures refusal { IfErr result (IsSessionsRefusal config.now (new_host system.now config.now.frames)
+        (starts_read (map given inputs.now))) }
 {
-    let trial = SettledInputs {
-        system: inputs.system.copy(alloc)?,
-        sessions: trial_of(alloc, inputs.sessions.as_slice())?,
-    };
-    play_all(alloc, config, trial, &mut NoWatcher)?;
+    let trial = trial_of(alloc, inputs)?;
+    play_all(alloc, config, system.copy(alloc)?, trial, &mut NoWatcher)?;
     Ok(())
 }

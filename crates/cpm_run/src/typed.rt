@@ -1,7 +1,7 @@
 //! A session that is typed at, before the others are played.
-ghost use Rattle.std.specs.Prelude.{◌≡◌, ◌<◌, Some, None, IfErr, IfOk, length, map, option_map};
-ghost use Rattle.cpm_batch.specs.Inputs.{IsOpened, given, start_view};
-ghost use Rattle.cpm_config.specs.Rules.{place_of, session_view};
+ghost use Rattle.std.specs.Prelude.{◌<◌, Some, None, IfErr, IfOk};
+ghost use Rattle.cpm_batch.specs.Inputs.{IsOpened, start_view};
+ghost use Rattle.cpm_config.specs.Rules.{place_of};
 ghost use Rattle.cpm_run.specs.Refusing.{IsPlaceRefusal, IsTypingRefusal};
 ghost use Rattle.cpm_run.specs.Settled.{IsTypedBy, streams};
 ghost use Rattle.cpm_run.specs.Settling.{IsOpenable, IsTypedPlace};
@@ -15,20 +15,9 @@ use cpm_command_line::shown;
 use cpm_config::{Config, Origin, place_of};
 use cpm_geom::Image;
 use cpm_play::{LivePlay, play_live};
-use cpm_script::{Key, MOST_KEYS};
+use cpm_script::MOST_KEYS;
 use std::alloc::Global;
 use std::io::{Read, Write};
-
-/// What was typed at a session.
-#[derive(Drop)]
-pub(crate) struct TypedKeys {
-    /// The place of the session.
-    pub(crate) place: usize,
-    /// The keys, each with the count at which it was accepted.
-    pub(crate) keys: Vec<Key>,
-    /// How many steps the session then has.
-    pub(crate) steps: u64,
-}
 
 /// The place of the session that is to be typed at, if one is.
 pub(crate) fn typed_place(
@@ -51,24 +40,23 @@ pub(crate) fn typed_place(
     }
 }
 
-/// Plays the session at a place by itself, by the keys that are typed, without a limit of steps.
+/// Plays a session by itself, by the keys that are typed, without a limit of steps. It gives these, each with the count at which it was accepted, and how many
+/// steps the session then has.
 pub(crate) fn type_at<I: Read, W: Write, R: Write>(
     alloc: Global,
     config: &Config,
     name: &str,
     system: &Image,
     session: &Input<'_>,
-    place: usize,
     input: &mut I,
     out: &mut W,
     record: &mut R,
-) -> Result<TypedKeys, RunError>
+) -> Result<LivePlay, RunError>
     requires opened { IsOpened (start_view session.now.start) }
     requires openable { IsOpenable (start_view session.now.start) }
     ensures typed { IfOk result (λ t. IsTypedBy system.now config.now.sessions.items name.now (start_view session.now.start)
         (streams (I.remaining input.old) (I.remaining input.new) (W.contents out.old) (W.contents out.new) (R.contents «record».old) (R.contents «record».new))
         t.keys.items t.steps) }
-    ensures place { IfOk result (λ t. t.place ≡ place) }
     ensures refusal { IfErr result (IsTypingRefusal system.now (start_view session.now.start)
         (streams (I.remaining input.old) (I.remaining input.new) (W.contents out.old) (W.contents out.new)
         (R.contents «record».old) (R.contents «record».new))) }
@@ -84,8 +72,7 @@ pub(crate) fn type_at<I: Read, W: Write, R: Write>(
         out,
         record,
     )?;
-    Ok(TypedKeys {
-        place,
+    Ok(LivePlay {
         keys,
         steps: last_fork(config, name).max(steps),
     })

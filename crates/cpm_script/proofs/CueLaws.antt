@@ -1,7 +1,7 @@
 -- What a script says: the same as before where no line waits, and in order.
 use Rattle.std.proofs.Common.{◌≡◌, ◌≢◌, ◌<◌, ◌≤◌, ◌+◌, ◌-◌, ℕ, zero, suc, Bool, true, false, List, [], ◌∷◌, ◌++◌, Option, Some, None, Result, Ok, Err, IfOk, map, length, arith, refl, ap, ◌∙◌, sym, subst, append_assoc, slice_get, nat_le}
-use Rattle.std.specs.Prelude.{⊤, ◌&&◌, ◌==◌, codes, is_some, if◌then◌else◌}
-use Rattle.std.specs.List.{after_first, before_first, cons_option}
+use Rattle.std.specs.Prelude.{⊤, ◌==◌, codes, if◌then◌else◌}
+use Rattle.std.specs.List.{after_first, before_first}
 use Rattle.std.specs.Option.{option_map_or}
 use Rattle.std.specs.Str.{bytes_eq}
 use Rattle.std.specs.Str.Lines.{lines}
@@ -9,7 +9,7 @@ use Rattle.std.proofs.lemmas.Bool.{false≢true, false_from_ne_true}
 use Rattle.std.proofs.lemmas.Bool.Decides.{nat_tests}
 use Rattle.std.proofs.lemmas.List.{map-append}
 use Rattle.std.proofs.lemmas.Slice.Eq.{bytes_eq-Decides}
-use Rattle.cpm_script.specs.Cues.{Awaited, Counted, Pressed, CueText, cues, cues_from, is_expect, is_wait_word, cued_key_count, last_cue_count, key_cue, quoted, cue_text}
+use Rattle.cpm_script.specs.Cues.{Awaited, Counted, Pressed, CueText, cues_from, is_expect, is_wait_word, cued_key_count, last_cue_count, key_cue, quoted}
 use Rattle.cpm_script.specs.Cues as cue
 use Rattle.cpm_script.specs.KeyText.{caret, control_key, count_of, keys_of, onto, plain_key}
 use Rattle.cpm_script.specs.Laws.{AreInOrder, CountsRise, CuesInOrder, KeysAreAscii, MeansTheSame, PlainScripts, PressesFollow}

@@ -1,11 +1,10 @@
--- Laws over the keys of forked sessions, of recorded ones, and of scripts with lines that wait. (own)
+-- Laws over the keys before a fork, of recorded ones, and of scripts with lines that wait. (own)
 use Rattle.std.specs.Prelude.{⊤, ◌≡◌, ◌≢◌, ℕ, ◌+◌, ◌<◌, ◌≤◌, Bool, true, false, List, [], ◌∷◌, ◌++◌, length, map, Result, Ok, Err, IfOk}
 use Rattle.std.specs.List.{All}
-use Rattle.cpm_script.specs.Cues.{Awaited, Counted, Pressed, CueText, cues, cued_key_count, cue_text}
-use Rattle.cpm_script.specs.Fork.{forked_cues, forked_script, keys_before}
+use Rattle.cpm_script.specs.Cues.{Awaited, Counted, Pressed, CueText, cues, cued_key_count}
+use Rattle.cpm_script.specs.Fork.{forked_cues, keys_before}
 use Rattle.cpm_script.specs.Recording.{AreTyped, recorded}
 use Rattle.cpm_script.specs.Script.{most_keys, script}
-use Rattle.cpm_script.specs.declared.cue.Cue.{Cue}
 use Rattle.cpm_script.specs.declared.fault.LineFault.{LineFault}
 use Rattle.cpm_script.specs.declared.fault.LineFault.TheVariants.{NoCount}
 use Rattle.cpm_script.specs.declared.script.Key.{Key}
@@ -14,18 +13,6 @@ use Rattle.cpm_script.specs.declared.script.Key.{Key}
 abbrev pub AreFrom : ℕ → List Key → Type 0
 AreFrom n [] = ⊤
 AreFrom n (k ∷ ks) = (n ≤ k.count) × AreFrom k.count ks
-
--- the keys that a parent had before a fork and then own ones, which come at its count or later, in order;
--- not too many in all
-pub record IsForked (at : ℕ) (before keys : List Key) : Type 0 where
-  pub own : List Key
-  pub joined : keys ≡ before ++ own
-  pub from_fork : AreFrom at own
-  pub room : length keys ≤ most_keys
-
--- the keys of a forked session are its parent's and then its own
-abbrev pub ForkedKeysInOrder : Type 0
-ForkedKeysInOrder = (at : ℕ) (before : List Key) (text : List ℕ) → length before ≤ most_keys → IfOk (forked_script at before text) (IsForked at before)
 
 -- the first keys are in order and come before a count, and the rest comes at that count or later, in order
 pub record IsCut (n at : ℕ) (keys first : List Key) : Type 0 where

@@ -1,12 +1,6 @@
-//! Laws of the keys of forked sessions, of recorded ones, and of scripts with lines that wait, as contracts.
+//! Laws of the keys before a fork, of recorded ones, and of scripts with lines that wait, as contracts.
 
-ghost use Rattle.cpm_script.specs.Laws.{CuesInOrder, ForkedCuesInOrder, ForkedKeysInOrder, KeysBeforeAreFirst, PlainScripts, RecordedKeys};
-
-/// The keys of a forked session are those that its parent had before the fork, and then its own, which come
-/// at the fork or later and in order; they are at most 4,096.
-pub fn forked_keys_in_order()
-    ensures { ForkedKeysInOrder }
-{}
+ghost use Rattle.cpm_script.specs.Laws.{CuesInOrder, ForkedCuesInOrder, KeysBeforeAreFirst, PlainScripts, RecordedKeys};
 
 /// The keys before a count are the first of a script whose counts do not fall, and the others come later.
 pub fn keys_before_are_first()

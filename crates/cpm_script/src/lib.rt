@@ -15,7 +15,7 @@ mod writing;
 pub use count::count_of;
 pub use cue::{Cue, read_cues};
 pub use fault::{LineFault, ScriptError};
-pub use fork::{keys_before, read_forked_keys};
+pub use fork::keys_before;
 pub use forked_cue::read_forked_cues;
 pub use keys::{are_keys, first_key};
 pub use lines::{first_line, without_return};

@@ -9,7 +9,7 @@ use Rattle.cpm_script.specs.declared.script.Key.{Key}
 use Rattle.cpm_play.specs.Cued.{HasEndedCued}
 use Rattle.cpm_play.specs.Laws.{IsSameRun}
 use Rattle.cpm_play.specs.Playing.{IsInOrder, alone_by}
-use Rattle.cpm_host.proofs.ProgramLemmas.{ending_same}
+use Rattle.cpm_run.proofs.EndingLemmas.{ending_same}
 use Rattle.cpm_host.proofs.laws.plain_scripts_run_their_keys.Goals as goal
 
 pub returns : goal.returns

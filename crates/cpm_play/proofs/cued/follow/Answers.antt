@@ -1,10 +1,10 @@
-use Rattle.std.proofs.Common.{◌≡◌, ◌∷◌, ◌∙◌, ap, inl, inr, arith, sym}
+use Rattle.std.proofs.Common.{◌≡◌, ◌∷◌, ◌∙◌, ap, inl, inr, arith, refl, sym}
 use Rattle.std.proofs.lemmas.List.{nil_from_length}
 use Rattle.std.proofs.lemmas.Result.{err_from_is_err_and}
 use Rattle.cpm_script.specs.declared.cue.Cue.TheVariants.{Wait, Press}
 use Rattle.cpm_play.specs.Cued.{looks_back}
 use Rattle.cpm_play.proofs.CuedLemmas.{going-cut, going-press-cut}
-use Rattle.cpm_play.proofs.FollowLemmas.{at-key, at-wait, follow-end, follow-found, follow-pressed, follow-start, missed-busy, missed-cued, missed-going, past-cued, takes-cue, unfound-cued, wait-busy, wait-going}
+use Rattle.cpm_play.proofs.FollowLemmas.{at-key, at-wait, follow-end, follow-found, follow-pressed, follow-start, key-comes, key-cued, missed-busy, missed-cued, missed-going, past-cued, takes-cue, unfound-cued, wait-busy, wait-cued, wait-going}
 use Rattle.cpm_play.proofs.cued.follow.Goals.{in-Key, in-Press, else-live-steps-via-then-live-steps+else-has_met, else-live-steps-via-else-live-steps}
 use Rattle.cpm_play.proofs.cued.follow.Goals as goal
 
@@ -85,7 +85,14 @@ returns-then-not-branch-clause-busy g c =
 pub returns-in_err-press-clause-refused : goal.returns-in_err-press-clause-refused
 returns-in_err-press-clause-refused g c =
     let p = err_from_is_err_and c.from_residual-in_err-press.result c.from_residual-in_err-press.ensures.1 in
-    rw (p.1, p.2) (going-press-cut c.loop-cue.invariant.going c.press.new.machine (g.W.Write.contents c.press.new.out) (g.S.Write.contents c.press.new.record) c.in_err-press.field-0.0 c.in_err-press.ensures.refused)
+    let cue = at-key c.in-Some.cue.now c.loop-cue.rest.now c.in-Some.after.now c.match-cue.count.0 c.match-cue.count.1 c.in-Some.ensures.cases.0
+    (elim c.match-cue.branch [
+      | in-Key w ↦ inl (w.in-Key.key, w.in-Key.is, ap (λ p. p.0) w.count-is ∙ w.max.ensures, ap (λ p. p.1) w.count-is)
+      | in-Press w ↦ inr (w.in-Press.is ∙ sym (ap (λ p. Press p.1) w.count-is), ap (λ p. p.0) w.count-is)
+    ]) c.loop-cue.invariant in
+    let early = c.in_err-press.ensures.early in
+    rw (p.1, p.2) (going-press-cut c.args.cued.waits_from c.args.cued.cues.now c.loop-cue.invariant.going _ c.press.new.machine (g.W.Write.contents c.press.new.out) (g.S.Write.contents c.press.new.record) c.in_err-press.field-0.0
+    cue.later early c.in_err-press.ensures.refused (key-cued c.loop-cue.invariant cue early) (key-comes c.loop-cue.invariant cue early))
 
 pub idle-requires-clause-quiet : goal.idle-requires-clause-quiet
 idle-requires-clause-quiet g c =
@@ -98,7 +105,12 @@ idle-requires-clause-within g c =
 pub returns-in_err-idle-in-Wait-clause-refused : goal.returns-in_err-idle-in-Wait-clause-refused
 returns-in_err-idle-in-Wait-clause-refused g c =
     let p = err_from_is_err_and c.from_residual.result c.from_residual.ensures.1 in
-    rw (p.1, p.2) (going-cut c.loop-cue.invariant.going c.idle.new.machine (g.W.Write.contents c.idle.new.out) c.in_err-idle-in-Wait.field-0.0 c.in_err-idle-in-Wait.ensures.refused)
+    let following = at-wait c.in-Some.cue.now c.in-Wait.text c.loop-cue.rest.now c.in-Some.after.now c.loop-cue.live.keys.items c.in-Some.ensures.cases.0 c.in-Wait.is refl c.loop-cue.invariant in
+    let cut = c.in_err-idle-in-Wait.ensures.refused in
+    let fits = cut.1 in
+    let within = c.loop-cue.invariant.going.within in
+    rw (p.1, p.2) (going-cut c.args.cued.waits_from c.args.cued.cues.now c.loop-cue.invariant.going c.idle.new.machine (g.W.Write.contents c.idle.new.out) c.in_err-idle-in-Wait.field-0.0 cut.0 cut.1 cut.2
+    (wait-cued following _ (omega arith) (omega arith) cut.3))
 
 pub loop-cue-preserved-then-has_met : goal.loop-cue-preserved-then-has_met
 loop-cue-preserved-then-has_met g c =

@@ -1,6 +1,6 @@
-use Rattle.std.proofs.Common.{inl, inr}
+use Rattle.std.proofs.Common.{inl, inr, arith}
 use Rattle.std.proofs.lemmas.Result.{err_from_is_err_and}
-use Rattle.cpm_play.proofs.CuedLemmas.{going-cut, idle-ends, idle-going}
+use Rattle.cpm_play.proofs.CuedLemmas.{cued-whole, going-cut, idle-ends, idle-going}
 use Rattle.cpm_play.proofs.GoingLemmas.{going-ending, going-given, going-shown, going-waiting}
 use Rattle.cpm_play.proofs.cued.play_cues.Goals.{then-cued, else-cued}
 use Rattle.cpm_play.proofs.cued.play_cues.Goals as goal
@@ -14,11 +14,15 @@ idle-requires-clause-within g c = c.in_ok-live.ensures.going.within
 pub returns-in_err-idle-clause-refused : goal.returns-in_err-idle-clause-refused
 returns-in_err-idle-clause-refused g c =
     let p = err_from_is_err_and c.from_residual-in_err-idle.result c.from_residual-in_err-idle.ensures.1 in
-    rw (p.1, p.2) (going-cut c.in_ok-live.ensures.going c.idle.new.machine (g.W.Write.contents c.idle.new.out) c.in_err-idle.field-0.0 c.in_err-idle.ensures.refused)
+    let cut = c.in_err-idle.ensures.refused in
+    let fits = cut.1 in
+    let within = c.in_ok-live.ensures.going.within in
+    rw (p.1, p.2) (going-cut c.args.cued.waits_from c.args.cued.cues.now c.in_ok-live.ensures.going c.idle.new.machine (g.W.Write.contents c.idle.new.out) c.in_err-idle.field-0.0 cut.0 cut.1 cut.2
+    (c.in_ok-live.ensures.keys _ (omega arith) (omega arith)))
 
 pub returns-clause-keys : goal.returns-clause-keys
 returns-clause-keys g c =
-    rw c.idle.ensures.still c.in_ok-live.ensures.keys
+    rw c.idle.ensures.still (cued-whole _ _ _ _ _ _ _ c.in_ok-live.ensures.going.within c.in_ok-live.ensures.keys)
 
 pub returns-clause-given : goal.returns-clause-given
 returns-clause-given g c =

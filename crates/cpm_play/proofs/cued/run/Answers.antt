@@ -118,5 +118,7 @@ returns-in_err-show_kept-clause-refused g c =
     ] in
     let p = err_from_is_err_and c.from_residual.result c.from_residual.ensures.1 in
     rw (p.1, p.2) (run-cut c.args.system.now l.executed c.args.machine.now l.machine (g.W.Write.contents c.args.out.now) (g.W.Write.contents l.out) l.invariant.run
-    c.args.steps c.if-to_wait.granted c.if-to_wait.machine c.show_kept.new.machine (g.W.Write.contents c.show_kept.new.out) c.in_err-show_kept.field-0.0
-    (let within = turned.within in let had = l.invariant.within in omega arith) turned.state c.in_err-show_kept.ensures.refused)
+    c.args.to_wait c.args.steps c.if-to_wait.granted c.if-to_wait.machine c.show_kept.new.machine (g.W.Write.contents c.show_kept.new.out) c.in_err-show_kept.field-0.0
+    (let within = turned.within in let had = l.invariant.within in omega arith) turned.state c.in_err-show_kept.ensures.refused
+    (λ waits. busy-more c.args.system.now l.executed c.if-to_wait.granted c.args.machine.now l.machine (g.W.Write.contents c.args.out.now) (g.W.Write.contents l.out) l.invariant.run
+    (l.invariant.busy waits) (turned.busy waits)))

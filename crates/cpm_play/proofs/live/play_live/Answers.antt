@@ -24,7 +24,8 @@ pub returns-in_err-byte-clause-refused : goal.returns-in_err-byte-clause-refused
 returns-in_err-byte-clause-refused g c =
     let p = err_from_is_err_and c.from_residual.result c.from_residual.ensures.1 in
     let wants = wanted-here c.loop-live.invariant.going c.loop-live.invariant.watched c.look.result c.look.ensures c.wants_key.result c.wants_key.ensures c.if-wants_key.true in
-    rw (p.1, p.2) (live-unread _ _ _ _ _ _ _ _ _ _ _ _ _ _ c.loop-live.invariant wants (g.I.Read.remaining c.hear.new.input) c.in_err-byte.field-0.0 c.in_err-byte.ensures.refused c.in_err-byte.ensures.none)
+    let room : length c.loop-live.live.keys.items < c.args.most_keys = let count = c.len.ensures in let less = c.if-len-most_keys.false in grind (arith, common_steps) in
+    rw (p.1, p.2) (live-unread _ _ _ _ _ _ _ _ _ _ _ _ _ _ c.loop-live.invariant wants (g.I.Read.remaining c.hear.new.input) c.in_err-byte.field-0.0 room c.in_err-byte.ensures.refused c.in_err-byte.ensures.none)
 
 pub returns-in_default-clause-input : goal.returns-in_default-clause-input
 returns-in_default-clause-input g c =
@@ -44,8 +45,10 @@ pub returns-in_err-give-clause-refused : goal.returns-in_err-give-clause-refused
 returns-in_err-give-clause-refused g c =
     let p = err_from_is_err_and c.from_residual-in_err-give.result c.from_residual-in_err-give.ensures.1 in
     let wants = wanted-here c.loop-live.invariant.going c.loop-live.invariant.watched c.look.result c.look.ensures c.wants_key.result c.wants_key.ensures c.if-wants_key.true in
-    rw (p.1, p.2) (live-not-given _ _ _ _ _ _ _ _ _ _ _ _ _ _ c.loop-live.invariant wants c.give.new.machine (g.S.Write.contents c.give.new.record) (g.I.Read.remaining c.hear.new.input) c.in_err-give.field-0.0
-    c.in_err-give.ensures.waits c.in_err-give.ensures.refused)
+    let room : length c.loop-live.live.keys.items < c.args.most_keys = let count = c.len.ensures in let less = c.if-len-most_keys.false in grind (arith, common_steps) in
+    let typed = rw c.in-Some.is at c.in_ok-byte.ensures.key in
+    rw (p.1, p.2) (live-not-given _ _ _ _ _ _ _ _ _ _ _ _ _ _ c.loop-live.invariant wants c.in-Some.byte c.give.new.machine (g.S.Write.contents c.give.new.record) (g.I.Read.remaining c.hear.new.input)
+    c.in_err-give.field-0.0 room typed.1 c.in_err-give.ensures.waits c.in_err-give.ensures.refused)
 
 pub loop-live-preserved-then-wants_key : goal.loop-live-preserved-then-wants_key
 loop-live-preserved-then-wants_key g c =

@@ -4,4 +4,4 @@ use Rattle.cpm_run.proofs.play.finish_all.Given as goal
 
 abbrev pub invariant-loop-session : goal.invariant-loop-session
 invariant-loop-session l =
-    IsFinishing l.sessions l.session-index l.fn.host.host.slots l.host.host.slots l.fn.players.items (into_iter_items l.rest) l.played.reports.items l.played.files.items
+    IsFinishing l.sessions l.session-index l.fn.host.host.slots l.host.host.slots l.fn.players.items (into_iter_items l.rest) l.reports.items l.files.items

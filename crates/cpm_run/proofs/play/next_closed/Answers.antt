@@ -8,12 +8,12 @@ use Rattle.cpm_run.proofs.play.next_closed.Goals as goal
 pub returns-in-Ok : goal.returns-in-Ok
 returns-in-Ok c = λ p ps s is at.
     let left = into_iter_items c.next.new.self in
-    first_closed p c.in-Playing.slot ps left (into_iter_items c.args.players.now) s c.args.host.now.host c.bytes_of_slot-at_pc.new.host.host c.close.new.self.host c.in-Ok.closed c.bytes_of_slot-at_pc.result is
-    (c.in_ok-slot.ensures.cases.0 ∙ ap (λ (x : Player). x ∷ left) c.in-Playing.is) at c.bytes_of_slot-at_pc.ensures.bytes (ap (λ (h : HostWithStore). h.host) c.bytes_of_slot-at_pc.ensures.host) c.in-Ok.ensures.closed
+    first_closed p c.in-Playing.slot ps left (into_iter_items c.args.players.now) s c.args.host.now.host c.ending_of_slot.new.host.host c.close.new.self.host c.in-Ok.closed c.in_ok-ending.ending is
+    (c.in_ok-slot.ensures.cases.0 ∙ ap (λ (x : Player). x ∷ left) c.in-Playing.is) at c.in_ok-ending.ensures.ending (ap (λ (h : HostWithStore). h.host) c.ending_of_slot.ensures.host) c.in-Ok.ensures.closed
     c.in-Ok.ensures.host
 
 pub returns-in-Err : goal.returns-in-Err
 returns-in-Err c = λ p ps s is at.
     let left = into_iter_items c.next.new.self in
-    absurd (first_closes p c.in-Playing.slot ps left (into_iter_items c.args.players.now) s c.args.host.now.host c.bytes_of_slot-at_pc.new.host.host c.in-Err.field-0 is
-    (c.in_ok-slot.ensures.cases.0 ∙ ap (λ (x : Player). x ∷ left) c.in-Playing.is) at (ap (λ (h : HostWithStore). h.host) c.bytes_of_slot-at_pc.ensures.host) c.in-Err.ensures.reply)
+    absurd (first_closes p c.in-Playing.slot ps left (into_iter_items c.args.players.now) s c.args.host.now.host c.ending_of_slot.new.host.host c.in-Err.field-0 is
+    (c.in_ok-slot.ensures.cases.0 ∙ ap (λ (x : Player). x ∷ left) c.in-Playing.is) at (ap (λ (h : HostWithStore). h.host) c.ending_of_slot.ensures.host) c.in-Err.ensures.reply)

@@ -10,7 +10,7 @@ use Rattle.cpm_run.proofs.play.play_all.Goals as goal
 pub play-requires-clause-ready : goal.play-requires-clause-ready
 play-requires-clause-ready g c =
     let slots = c.in_ok-host.host.host.slots in
-    let ready = all_ready slots (map settled_view c.args.inputs.sessions.items) c.in_ok-host.players.items c.in_ok-host.ensures.prepared c.requires.keys in
+    let ready = all_ready slots (map settled_view c.args.inputs.items) c.in_ok-host.players.items c.in_ok-host.ensures.prepared c.requires.keys in
     subst (λ (ps : List Player). AllReady slots ps) (sym c.as_mut_slice.ensures.value) ready
 
 pub finish_all-requires : goal.finish_all-requires
@@ -27,9 +27,9 @@ returns-clause-reports g c =
     let begun = c.as_mut_slice.result.now in
     let whole : players.len ≡ length players.items = let ok = players.ok.0 in omega (arith, ok) in
     let back = written_back players.len players.items begun c.play.new.players whole c.as_mut_slice.ensures.value c.in-Ok.ensures.played.long in
-    (all_finished c.args.inputs.system start c.play.new.host.host c.args.config.now.sessions.items c.as_slice.result.now (map settled_view c.args.inputs.sessions.items) players.items begun
-    c.play.new.players _ c.in_ok-played.played.reports.items c.in_ok-played.played.files.items c.in_ok-host.ensures.system c.as_slice.ensures.value c.as_mut_slice.ensures.value back c.requires.sessions
-    c.in_ok-host.ensures.prepared c.in-Ok.ensures.played c.in_ok-played.ensures).0
+    (all_finished c.args.system start c.play.new.host.host c.args.config.now.sessions.items c.as_slice.result.now (map settled_view c.args.inputs.items) players.items begun
+    c.play.new.players _ c.in_ok-left.left.0.items c.in_ok-left.left.1.items c.in_ok-host.ensures.system c.as_slice.ensures.value c.as_mut_slice.ensures.value back c.requires.sessions
+    c.in_ok-host.ensures.prepared c.in-Ok.ensures.played c.in_ok-left.ensures).0
 
 pub returns-clause-files : goal.returns-clause-files
 returns-clause-files g c =
@@ -38,20 +38,20 @@ returns-clause-files g c =
     let begun = c.as_mut_slice.result.now in
     let whole : players.len ≡ length players.items = let ok = players.ok.0 in omega (arith, ok) in
     let back = written_back players.len players.items begun c.play.new.players whole c.as_mut_slice.ensures.value c.in-Ok.ensures.played.long in
-    (all_finished c.args.inputs.system start c.play.new.host.host c.args.config.now.sessions.items c.as_slice.result.now (map settled_view c.args.inputs.sessions.items) players.items begun
-    c.play.new.players _ c.in_ok-played.played.reports.items c.in_ok-played.played.files.items c.in_ok-host.ensures.system c.as_slice.ensures.value c.as_mut_slice.ensures.value back c.requires.sessions
-    c.in_ok-host.ensures.prepared c.in-Ok.ensures.played c.in_ok-played.ensures).1
+    (all_finished c.args.system start c.play.new.host.host c.args.config.now.sessions.items c.as_slice.result.now (map settled_view c.args.inputs.items) players.items begun
+    c.play.new.players _ c.in_ok-left.left.0.items c.in_ok-left.left.1.items c.in_ok-host.ensures.system c.as_slice.ensures.value c.as_mut_slice.ensures.value back c.requires.sessions
+    c.in_ok-host.ensures.prepared c.in-Ok.ensures.played c.in_ok-left.ensures).1
 
 pub returns-clause-accepted : goal.returns-clause-accepted
 returns-clause-accepted g c =
     let start = c.in_ok-host.host.host in
-    let inputs = map settled_view c.args.inputs.sessions.items in
+    let inputs = map settled_view c.args.inputs.items in
     c.in_ok-host.ensures.accepted (starts_of inputs) (has_room start inputs c.in_ok-host.players.items c.in_ok-host.ensures.prepared (rw (sym c.as_mut_slice.ensures.value) c.in-Ok.ensures.room))
 
 pub returns-in-Err-clause-refusal : goal.returns-in-Err-clause-refusal
 returns-in-Err-clause-refusal g c =
     let start = c.in_ok-host.host.host in
-    let inputs = map settled_view c.args.inputs.sessions.items in
+    let inputs = map settled_view c.args.inputs.items in
     let players = c.in_ok-host.players.items in
-    fork_refused c.args.config.now (new_host c.args.inputs.system c.args.config.now.frames) start inputs players c.fork_refusal.result c.in_ok-host.ensures.prepared c.in_ok-host.ensures.short
+    fork_refused c.args.config.now (new_host c.args.system c.args.config.now.frames) start inputs players c.fork_refusal.result c.in_ok-host.ensures.prepared c.in_ok-host.ensures.short
     (c.fork_refusal.ensures start players (rw (sym c.as_mut_slice.ensures.value) c.in-Err.ensures.refused))

@@ -10,13 +10,13 @@ use Rattle.cpm_batch.specs.Inputs.{StartInput}
 
 pub returns-in-Ok-prepare_all-clause-accepted : goal.returns-in-Ok-prepare_all-clause-accepted
 returns-in-Ok-prepare_all-clause-accepted c =
-    let inputs = map settled_view c.args.inputs.sessions.items in
+    let inputs = map settled_view c.args.inputs.items in
     let now = c.prepare_all.new.host.host in
     subst (λ (h : Host). (all : List StartInput) → HasForkRoom all now → AllAccepted all h (starts_of inputs)) c.in-Ok.ensures.made c.in-Ok-prepare_all.ensures.accepted
 
 pub returns-in-Ok-prepare_all-clause-short : goal.returns-in-Ok-prepare_all-clause-short
 returns-in-Ok-prepare_all-clause-short c =
-    let inputs = map settled_view c.args.inputs.sessions.items in
+    let inputs = map settled_view c.args.inputs.items in
     let now = c.prepare_all.new.host.host in
     subst (λ (h : Host). (all : List StartInput) (fault : OpenError) (place : ℕ) → IsForkAt all place → IsShortFor now (forks_in all) (fork_pages_in all) fault → IsFirstRefused all h 0 (starts_of inputs) fault place) c.in-Ok.ensures.made
     c.in-Ok-prepare_all.ensures.short
@@ -26,7 +26,7 @@ returns-in-Ok-prepare_all-clause-system c = c.in-Ok-prepare_all.ensures.system �
 
 pub returns-in-Err-prepare_all-clause-refusal : goal.returns-in-Err-prepare_all-clause-refusal
 returns-in-Err-prepare_all-clause-refusal c =
-    let inputs = map settled_view c.args.inputs.sessions.items in
+    let inputs = map settled_view c.args.inputs.items in
     subst (λ (h : Host). IsSessionsRefusal c.args.config.now h (starts_of inputs) c.play_refusal.result) c.in-Ok.ensures.made
     (c.play_refusal.ensures c.in-Ok.host.host (starts_of inputs)
     (subst (λ (ss : List SessionConfig). IsSlotRefusal ss c.in-Ok.host.host (starts_of inputs) c.in-Err-prepare_all.error) c.requires.sessions c.in-Err-prepare_all.ensures.refusal))

@@ -30,20 +30,20 @@ returns-clause-played g c =
     let cues = c.as_slice-2.result.now in
     let are = all_cues first c.as_slice.result.now part.cues.items c.in_ok-cues.cues.items cues c.as_slice.ensures.value c.in_ok-cues.ensures c.as_slice-2.ensures.value in
     let count : c.len.result ≡ length first = search rules in
-    let keys : c.in_ok-joined.field-0.items ≡ first ++ drop (length first) came =
-    all_keys first c.as_slice-4.result.now came c.as_slice-3.result.now c.keys_after-own.result.now c.in_ok-joined.field-0.items c.len.result c.as_slice-4.ensures.value c.as_slice-3.ensures.value count c.keys_after-own.ensures
-    c.in_ok-joined.ensures in
-    let steps : c.if-stops_idle.result ≡ settled_steps c.args.stops_idle (part_view part) done = elim c.if-stops_idle.branch [
+    let keys : c.in_ok-keys.keys.items ≡ first ++ drop (length first) came =
+    all_keys first c.as_slice-4.result.now came c.as_slice-3.result.now c.keys_after-own.result.now c.in_ok-keys.keys.items c.len.result c.as_slice-4.ensures.value c.as_slice-3.ensures.value count c.keys_after-own.ensures
+    c.in_ok-keys.ensures in
+    let steps : c.if-stops_idle.steps ≡ settled_steps c.args.stops_idle (part_view part) done = elim c.if-stops_idle.branch [
       | then-stops_idle w ↦
-          let most : c.if-stops_idle.result ≡ max done (max part.at part.last) = cc (w.result-is, w.max.ensures, w.max-then-stops_idle.ensures) in
+          let most : c.if-stops_idle.steps ≡ max done (max part.at part.last) = cc (w.steps-is, w.max.ensures, w.max-steps.ensures) in
           most ∙ ap (λ (b : Bool). settled_steps b (part_view part) done) (sym w.if-stops_idle.true)
-      | else-stops_idle w ↦ w.result-is ∙ ap (λ (b : Bool). settled_steps b (part_view part) done) (sym w.if-stops_idle.false)
+      | else-stops_idle w ↦ w.steps-is ∙ ap (λ (b : Bool). settled_steps b (part_view part) done) (sym w.if-stops_idle.false)
     ] in
-    let idle : c.if-stops_idle-2.result ≡ c.args.stops_idle && (look_of now).waiting = elim c.if-stops_idle-2.branch [
-      | then-stops_idle-2 w ↦ w.result-is ∙ ap (λ (l : Look). l.waiting) w.look.ensures ∙ ap (λ (b : Bool). b && (look_of now).waiting) (sym w.if-stops_idle-2.true)
-      | else-stops_idle-2 w ↦ w.result-is ∙ w.if-stops_idle-2.false ∙ ap (λ (b : Bool). b && (look_of now).waiting) (sym w.if-stops_idle-2.false)
+    let idle : c.if-stops_idle-2.is_idle ≡ c.args.stops_idle && (look_of now).waiting = elim c.if-stops_idle-2.branch [
+      | then-stops_idle-2 w ↦ w.is_idle-is ∙ ap (λ (l : Look). l.waiting) w.look.ensures ∙ ap (λ (b : Bool). b && (look_of now).waiting) (sym w.if-stops_idle-2.true)
+      | else-stops_idle-2 w ↦ w.is_idle-is ∙ w.if-stops_idle-2.false ∙ ap (λ (b : Bool). b && (look_of now).waiting) (sym w.if-stops_idle-2.false)
     ] in
-    played_by c.args.system.now (part_view part) c.args.stops_idle cues came done now start c.in_ok-joined.field-0.items c.if-stops_idle.result c.if-stops_idle-2.result c.in_ok-machine.ensures.machine
+    played_by c.args.system.now (part_view part) c.args.stops_idle cues came done now start c.in_ok-keys.keys.items c.if-stops_idle.steps c.if-stops_idle-2.is_idle c.in_ok-machine.ensures.machine
     (cues_say first part.cues.items cues are) (record { by = h.keys; ending = h.ending; ends = h.ends; waits = h.waits }) h.within keys steps idle
 
 pub returns-clause-sound : goal.returns-clause-sound
@@ -56,14 +56,14 @@ returns-clause-sound g c =
     let cues = c.as_slice-2.result.now in
     let are = all_cues first c.as_slice.result.now part.cues.items c.in_ok-cues.cues.items cues c.as_slice.ensures.value c.in_ok-cues.ensures c.as_slice-2.ensures.value in
     let count : c.len.result ≡ length first = search rules in
-    let keys : c.in_ok-joined.field-0.items ≡ first ++ drop (length first) came =
-    all_keys first c.as_slice-4.result.now came c.as_slice-3.result.now c.keys_after-own.result.now c.in_ok-joined.field-0.items c.len.result c.as_slice-4.ensures.value c.as_slice-3.ensures.value count c.keys_after-own.ensures
-    c.in_ok-joined.ensures in
-    let steps : c.if-stops_idle.result ≡ settled_steps c.args.stops_idle (part_view part) done = elim c.if-stops_idle.branch [
+    let keys : c.in_ok-keys.keys.items ≡ first ++ drop (length first) came =
+    all_keys first c.as_slice-4.result.now came c.as_slice-3.result.now c.keys_after-own.result.now c.in_ok-keys.keys.items c.len.result c.as_slice-4.ensures.value c.as_slice-3.ensures.value count c.keys_after-own.ensures
+    c.in_ok-keys.ensures in
+    let steps : c.if-stops_idle.steps ≡ settled_steps c.args.stops_idle (part_view part) done = elim c.if-stops_idle.branch [
       | then-stops_idle w ↦
-          let most : c.if-stops_idle.result ≡ max done (max part.at part.last) = cc (w.result-is, w.max.ensures, w.max-then-stops_idle.ensures) in
+          let most : c.if-stops_idle.steps ≡ max done (max part.at part.last) = cc (w.steps-is, w.max.ensures, w.max-steps.ensures) in
           most ∙ ap (λ (b : Bool). settled_steps b (part_view part) done) (sym w.if-stops_idle.true)
-      | else-stops_idle w ↦ w.result-is ∙ ap (λ (b : Bool). settled_steps b (part_view part) done) (sym w.if-stops_idle.false)
+      | else-stops_idle w ↦ w.steps-is ∙ ap (λ (b : Bool). settled_steps b (part_view part) done) (sym w.if-stops_idle.false)
     ] in
-    let late : part.at ≤ c.if-stops_idle.result = let least = at_least c.args.stops_idle (part_view part) done c.requires.fit.within in omega (arith, least, steps) in
-    came_sound c.args.system.now c.in_ok-machine.machine (part_view part) part.cues.items cues came c.in_ok-joined.field-0.items done c.if-stops_idle.result refl c.requires.fit are h.keys h.given keys late
+    let late : part.at ≤ c.if-stops_idle.steps = let least = at_least c.args.stops_idle (part_view part) done c.requires.fit.within in omega (arith, least, steps) in
+    came_sound c.args.system.now c.in_ok-machine.machine (part_view part) part.cues.items cues came c.in_ok-keys.keys.items done c.if-stops_idle.steps refl c.requires.fit are h.keys h.given keys late

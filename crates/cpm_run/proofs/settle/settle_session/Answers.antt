@@ -28,9 +28,9 @@ returns-clause-sound g c =
     (settled_view record {
       session = c.args.input.session;
       start = c.args.input.start;
-      keys = c.in_ok-keys.field-0.keys;
+      keys = c.in_ok-live.live.keys;
       before = c.len-before.result;
-      steps = c.in_ok-keys.field-0.steps;
-      is_idle = c.in_ok-keys.field-0.is_idle;
+      steps = c.in_ok-live.live.steps;
+      is_idle = c.in_ok-live.is_idle;
     })
-    c.in_ok-part.ensures.part c.requires.sound c.requires.fit.parent refl long c.in_ok-keys.ensures.sound
+    c.in_ok-part.ensures.part c.requires.sound c.requires.fit.parent refl long c.in_ok-live.ensures.sound

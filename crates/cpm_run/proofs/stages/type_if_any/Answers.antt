@@ -5,32 +5,32 @@ use Rattle.cpm_run.proofs.stages.type_if_any.Goals as goal
 
 pub type_at-requires-clause-opened : goal.type_at-requires-clause-opened
 type_at-requires-clause-opened g c =
-    let here = typed_here c.args.config.now c.args.options c.args.typed c.in-Some-Some.name c.in-Some-Some.place c.args.inputs.now.sessions.items c.requires.place c.in-Some-Some.is-0 c.in-Some-Some.is-1
+    let here = typed_here c.args.config.now c.args.options c.args.typed c.in-Some-Some.name c.in-Some-Some.place c.args.inputs.now c.requires.place c.in-Some-Some.is-0 c.in-Some-Some.is-1
     c.requires.sessions c.requires.starts in
-    here.opened c.index-session.result.now c.index-session.ensures
+    here.opened c.index-inputs-place.result c.index-inputs-place.is
 
 pub type_at-requires-clause-openable : goal.type_at-requires-clause-openable
 type_at-requires-clause-openable g c =
-    let here = typed_here c.args.config.now c.args.options c.args.typed c.in-Some-Some.name c.in-Some-Some.place c.args.inputs.now.sessions.items c.requires.place c.in-Some-Some.is-0 c.in-Some-Some.is-1
+    let here = typed_here c.args.config.now c.args.options c.args.typed c.in-Some-Some.name c.in-Some-Some.place c.args.inputs.now c.requires.place c.in-Some-Some.is-0 c.in-Some-Some.is-1
     c.requires.sessions c.requires.starts in
-    here_openable c.args.config.now c.in-Some-Some.name.now c.in-Some-Some.place c.args.inputs.now.sessions.items c.index-session.result.now c.args.inputs.now.system here c.index-session.ensures
+    here_openable c.args.config.now c.in-Some-Some.name.now c.in-Some-Some.place c.args.inputs.now c.index-inputs-place.result c.args.system.now here c.index-inputs-place.is
     c.requires.accepted
 
 pub returns-in_err-heard-clause-refusal : goal.returns-in_err-heard-clause-refusal
 returns-in_err-heard-clause-refusal g c =
     let io = streams (g.I.Read.remaining c.args.input.now) (g.I.Read.remaining c.type_at.new.input) (g.W.Write.contents c.args.out.now) (g.W.Write.contents c.type_at.new.out)
     (g.R.Write.contents c.args.record.now) (g.R.Write.contents c.type_at.new.record) in
-    let here = typed_here c.args.config.now c.args.options c.args.typed c.in-Some-Some.name c.in-Some-Some.place c.args.inputs.now.sessions.items c.requires.place c.in-Some-Some.is-0 c.in-Some-Some.is-1
+    let here = typed_here c.args.config.now c.args.options c.args.typed c.in-Some-Some.name c.in-Some-Some.place c.args.inputs.now c.requires.place c.in-Some-Some.is-0 c.in-Some-Some.is-1
     c.requires.sessions c.requires.starts in
     let p = err_from_is_err_and c.from_residual.result c.from_residual.ensures.1 in
-    rw (p.1, p.2) (typing_refused c.args.config.now c.args.options c.in-Some-Some.name c.in-Some-Some.place c.args.inputs.now.sessions.items c.index-session.result.now io c.args.inputs.now.system
-    c.requires.accepted c.in-Some-Some.is-0 here c.index-session.ensures c.in_err-heard.field-0.0 c.in_err-heard.ensures.refusal)
+    rw (p.1, p.2) (typing_refused c.args.config.now c.args.options c.in-Some-Some.name c.in-Some-Some.place c.args.inputs.now c.index-inputs-place.result io c.args.system.now
+    c.requires.accepted c.in-Some-Some.is-0 here c.index-inputs-place.is c.in_err-heard.field-0.0 c.in_err-heard.ensures.refusal)
 
 pub returns-clause-typed : goal.returns-clause-typed
 returns-clause-typed g c =
     let io = streams (g.I.Read.remaining c.args.input.now) (g.I.Read.remaining c.type_at.new.input) (g.W.Write.contents c.args.out.now) (g.W.Write.contents c.type_at.new.out)
     (g.R.Write.contents c.args.record.now) (g.R.Write.contents c.type_at.new.record) in
-    let here = typed_here c.args.config.now c.args.options c.args.typed c.in-Some-Some.name c.in-Some-Some.place c.args.inputs.now.sessions.items c.requires.place c.in-Some-Some.is-0 c.in-Some-Some.is-1
+    let here = typed_here c.args.config.now c.args.options c.args.typed c.in-Some-Some.name c.in-Some-Some.place c.args.inputs.now c.requires.place c.in-Some-Some.is-0 c.in-Some-Some.is-1
     c.requires.sessions c.requires.starts in
-    heard_at c.args.inputs.now.system c.args.config.now c.args.options c.in-Some-Some.name c.in-Some-Some.place c.args.inputs.now.sessions.items c.index-session.result.now io c.in_ok-heard.heard
-    c.in-Some-Some.is-0 here c.index-session.ensures c.in_ok-heard.ensures.place c.in_ok-heard.ensures.typed
+    heard_at c.args.system.now c.args.config.now c.args.options c.in-Some-Some.name c.in-Some-Some.place c.args.inputs.now c.index-inputs-place.result io c.in_ok-heard.heard
+    c.in-Some-Some.is-0 here c.index-inputs-place.is c.in_ok-heard.ensures.typed

@@ -1,6 +1,6 @@
-use Rattle.std.proofs.Common.{◌-◌, ◌≤◌, arith}
+use Rattle.std.proofs.Common.{arith}
 use Rattle.std.proofs.lemmas.Result.{err_from_is_err_and}
-use Rattle.cpm_play.proofs.RunLemmas.{pause-cut, pause-idled, pause-kept, quiet-taken}
+use Rattle.cpm_play.proofs.RunLemmas.{pause-cut, pause-idled, pause-kept, pause-short, quiet-taken}
 use Rattle.cpm_play.proofs.live.LivePlay.idle.Goals as goal
 
 pub overflow_add-self : goal.overflow_add-self
@@ -29,9 +29,8 @@ returns-in_err-self-clause-refused g c =
     let least = c.min.ensures in
     let low = c.requires.within in
     let p = err_from_is_err_and c.from_residual.result c.from_residual.ensures.1 in
-    let cut = c.in_err-self.ensures.refused in
-    let fits : cut.0 ≤ c.args.steps - c.args.self.now.steps = let less = cut.1 in omega arith in
-    rw (p.1, p.2) (cut.0, fits, cut.2)
+    rw (p.1, p.2) (pause-short c.args.system.now c.args.steps c.args.waits_from c.args.self.now.steps c.saturating_sub-pause.result c.args.machine.now c.run.new.machine (g.W.Write.contents c.args.out.now) (g.W.Write.contents c.run.new.out) c.in_err-self.field-0.0
+    low (omega arith) c.in_err-self.ensures.refused)
 
 pub returns-in_err-self-2-clause-refused : goal.returns-in_err-self-2-clause-refused
 returns-in_err-self-2-clause-refused g c =
