@@ -1,8 +1,8 @@
 -- Disks that are read one after another.
-use Rattle.std.proofs.Common.{◌≡◌, ◌∙◌, ◌<◌, ◌+◌, ℕ, suc, List, [], ◌∷◌, ◌++◌, Option, None, ap, append_assoc, drop, get_or, inl, inr, length, map, refl, slice_get, slice_index_or, subst, sym, take}
+use Rattle.std.proofs.Common.{◌≡◌, ◌∙◌, ◌<◌, ◌+◌, ℕ, suc, List, [], ◌∷◌, ◌++◌, ap, append_assoc, drop, get_or, inl, inr, length, map, refl, subst, sym, take}
 use Rattle.std.proofs.Math.Seq.{split_at}
 use Rattle.std.proofs.lemmas.List.{map-append, take_more}
-use Rattle.cpm_commands.specs.Com.{AreDrivesRead, AreDrivesRefused, IsDriveUnwritten, IsDriveWritten, IsUnwrittenAt, IsWrittenAt}
+use Rattle.cpm_commands.specs.Com.{AreDrivesRead, AreDrivesRefused}
 use Rattle.cpm_commands.specs.Disk.{IsDiskRead, IsDiskUnread}
 use Rattle.cpm_geom.specs.Disk.{Disk}
 use Rattle.cpm_host.specs.declared.error.HostError.{HostError}
@@ -52,15 +52,3 @@ module _ {F A : Type 0} (does : F → StoreAccess → F → Type 0) (f : A → S
     read = drives_push does (map f (take i xs)) ds (f (get_or xs i x)) d a b c h r;
     why = inl (full, refl);
   }
-
--- ---- drives that are written
-
-module _ {F : Type 0} (does : F → StoreAccess → F → Type 0) (names : List StoreName) (drives : List (Option Disk)) (place : ℕ) (name : Option StoreName) (d : Option Disk) (a b : F) where
-  pub written_at : name ≡ slice_get names place → d ≡ slice_index_or drives place None → IsDriveWritten does name d a b → IsWrittenAt does names drives place a b
-  written_at is drive h =
-      subst (λ (n : Option StoreName). IsDriveWritten does n (slice_index_or drives place None) a b) is (subst (λ (x : Option Disk). IsDriveWritten does name x a b) drive h)
-
-  pub unwritten_at : (e : HostError) → name ≡ slice_get names place → d ≡ slice_index_or drives place None → IsDriveUnwritten does name d a b e
-      → IsUnwrittenAt does names drives place a b e
-  unwritten_at e is drive h =
-      subst (λ (n : Option StoreName). IsDriveUnwritten does n (slice_index_or drives place None) a b e) is (subst (λ (x : Option Disk). IsDriveUnwritten does name x a b e) drive h)

@@ -1,17 +1,14 @@
--- Files that are taken out of a disk, and written, one after the other.
-use Rattle.std.proofs.Common.{◌≡◌, ◌∙◌, inl, inr, ℕ, ◌+◌, ◌<◌, Bool, List, [], ◌∷◌, ◌++◌, append_assoc, append-nil, ap, drop, get_or, length, map, refl, subst, sym}
-use Rattle.std.proofs.lemmas.List.{drop_more}
+-- Files that are taken out of a disk, one after the other.
+use Rattle.std.proofs.Common.{◌≡◌, ◌∙◌, inl, inr, ℕ, Bool, List, [], ◌∷◌, ◌++◌, String, Global, append_assoc, append-nil, ap, arith, length, refl, string_bytes, subst, sym}
+use Rattle.std.specs.Prelude.{Vec}
 use Rattle.cpm_command_line.specs.Shown.{shown_of}
 use Rattle.cpm_geom.specs.Disk.{Disk}
 use Rattle.cpm_image_files.specs.declared.name.FileName.{FileName}
 use Rattle.cpm_host.specs.declared.error.HostError.{HostError}
 use Rattle.cpm_store.specs.Files.{StoreName}
-use Rattle.cpm_store.specs.Log.{StoreAccess, LogLeads, Missed, Wrote, writes_of}
 use Rattle.cpm_store.specs.Writes.{NamedBytes}
-use Rattle.cpm_commands.specs.Files.{IsUnwritten}
-use Rattle.cpm_commands.specs.Get.{AreFilesTaken, IsFileTaken, IsFileUntaken, IsTakingStopped, IsWritingStopped, shown_characters, taken_view}
+use Rattle.cpm_commands.specs.Get.{AreFilesTaken, IsFileTaken, IsFileUntaken, IsTakingStopped, shown_characters, taken_outputs}
 use Rattle.cpm_commands.specs.declared.get.Destination.{Destination}
-use Rattle.cpm_commands.specs.declared.get.TakenFile.{TakenFile}
 
 -- ---- what is taken
 
@@ -46,38 +43,13 @@ pub taking_stopped : (image : StoreName) (disk : Disk) (to : Destination) (is_te
 taking_stopped image disk to is_text all rest later file e is h stops =
     stops e (subst (λ (fs : List FileName). IsTakingStopped image disk to is_text fs e) (sym is) (inl h))
 
--- ---- what is written
-
-abbrev pub WritesLead : {F : Type 0} → (F → StoreAccess → F → Type 0) → (all rest : List NamedBytes) → F → F → Type 0
-WritesLead {F} does all rest start files = (final : F) → LogLeads does (writes_of rest) files final → LogLeads does (writes_of all) start final
-
-abbrev pub WritesStop : {F : Type 0} → (F → StoreAccess → F → Type 0) → (all rest : List NamedBytes) → F → F → Type 0
-WritesStop {F} does all rest start files = (final : F) (e : HostError) → IsWritingStopped does rest files final e → IsWritingStopped does all start final e
-
-pub writes_more : {F : Type 0} (does : F → StoreAccess → F → Type 0) (all rest later : List NamedBytes) (p : NamedBytes) (start files known : F) → rest ≡ p ∷ later
-    → does files (Wrote p.0 p.1) known → WritesLead does all rest start files → WritesLead does all later start known
-writes_more {F} does all rest later p start files known is wrote leads = λ final h.
-    leads final (subst (λ (ps : List NamedBytes). LogLeads does (writes_of ps) files final) (sym is) (known, wrote, h))
-
-pub writes_all : {F : Type 0} (does : F → StoreAccess → F → Type 0) (all rest : List NamedBytes) (start files : F) → rest ≡ [] → WritesLead does all rest start files
-    → LogLeads does (writes_of all) start files
-writes_all {F} does all rest start files none leads =
-    leads files (subst (λ (ps : List NamedBytes). LogLeads does (writes_of ps) files files) (sym none) refl)
-
-pub writes_stop_more : {F : Type 0} (does : F → StoreAccess → F → Type 0) (all rest later : List NamedBytes) (p : NamedBytes) (start files known : F) → rest ≡ p ∷ later
-    → does files (Wrote p.0 p.1) known → WritesStop does all rest start files → WritesStop does all later start known
-writes_stop_more {F} does all rest later p start files known is wrote stops = λ final e h.
-    stops final e (subst (λ (ps : List NamedBytes). IsWritingStopped does ps files final e) (sym is) (inr (known, wrote, h)))
-
-pub writing_stopped : {F : Type 0} (does : F → StoreAccess → F → Type 0) (all rest later : List NamedBytes) (p : NamedBytes) (start files final : F) (e : HostError)
-    → rest ≡ p ∷ later → IsUnwritten p.0 e → does files (Missed p.0) final → WritesStop does all rest start files → IsWritingStopped does all start final e
-writing_stopped {F} does all rest later p start files final e is why missed stops =
-    stops final e (subst (λ (ps : List NamedBytes). IsWritingStopped does ps files final e) (sym is) (inl (why, missed)))
-
--- the files from a place on
-pub taken_at : (files : List TakenFile) (i : ℕ) (file : TakenFile) → i < length files → file ≡ get_or files i file
-    → map taken_view (drop i files) ≡ taken_view file ∷ map taken_view (drop (i + 1) files)
-taken_at files i file within is = ap (map taken_view) (drop_more files i file within) ∙ ap (λ (f : TakenFile). taken_view f ∷ map taken_view (drop (i + 1) files)) (sym is)
+-- one more path, and its bytes
+pub taken_push : (paths : List (String Global)) (contents : List (Vec ℕ Global)) (path : String Global) (bytes : Vec ℕ Global) → length paths ≡ length contents
+    → taken_outputs (paths ++ path ∷ []) (contents ++ bytes ∷ []) ≡ taken_outputs paths contents ++ (string_bytes path, bytes.items) ∷ []
+taken_push [] [] path bytes even = refl
+taken_push [] (b ∷ bs) path bytes even = absurd (omega (arith, even))
+taken_push (p ∷ ps) [] path bytes even = absurd (omega (arith, even))
+taken_push (p ∷ ps) (b ∷ bs) path bytes even = ap (λ (qs : List NamedBytes). (string_bytes p, b.items) ∷ qs) (taken_push ps bs path bytes (omega (arith, even)))
 
 -- ---- what is printed
 

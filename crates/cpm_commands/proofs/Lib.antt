@@ -2,4 +2,6 @@ pub mod ComLemmas
 pub mod DiskLemmas
 pub mod GetLemmas
 pub mod ListLemmas
+pub mod MessageLemmas
+pub mod PlanLemmas
 pub mod RunLemmas

@@ -1,11 +1,13 @@
 -- What a run of sessions has come to.
-use Rattle.std.proofs.Common.{◌≡◌, inl, inr, ℕ, List, Some, subst, sym, String, Global}
-use Rattle.std.specs.Prelude.{Option, OnOk, Result, Ok, Err}
+use Rattle.std.proofs.Common.{◌≡◌, inl, inr, ℕ, Bool, List, None, Some, subst, sym, String, Global}
+use Rattle.std.specs.Prelude.{Option, IfErr, OnOk, Result, Ok, Err}
 use Rattle.cpm_command_line.specs.declared.task.RunTask.{RunTask}
 use Rattle.cpm_config.specs.declared.config.Config.{Config}
 use Rattle.cpm_host.specs.declared.error.HostError.{HostError}
 use Rattle.cpm_run.specs.Settled.{AreUntouched, streams}
 use Rattle.cpm_run.specs.declared.report.Report.{Report}
+use Rattle.cpm_run.specs.declared.report.SessionReport.{SessionReport}
+use Rattle.cpm_store.specs.Files.{StoreName}
 use Rattle.cpm_store.specs.Log.{StoreAccess}
 use Rattle.cpm_commands.specs.Plan.{Plan}
 use Rattle.cpm_commands.specs.Run.{AreScripts, HasRunAll, IsConfigRead, IsRunPrepared, IsRunStopped, IsRunUnseen, plan_by}
@@ -23,25 +25,35 @@ prepared does sees_to task old known new config lent scripts fault read named le
 }
 
 -- they were not, or memory was refused before
-pub unseen : {F : Type 0} (does : F → StoreAccess → F → Type 0) (sees_to : F → Plan → Option HostError → F → Type 0) (gives_names : F → Option HostError → F → Type 0) (task : RunTask)
+pub unseen : {F : Type 0} (does : F → StoreAccess → F → Type 0) (sees_to : F → Plan → Option HostError → F → Type 0) (gives_names : F → Option HostError → F → Type 0) (tells_name : F → StoreName → Bool → Type 0)
+    (ended : Option HostError → Type 0) (told : List SessionReport → Type 0) (task : RunTask)
     (old known new : F) (config : Config) (lent scripts : List (String Global)) (unread left before printed unrecorded record_now : Option (List ℕ)) (e : HostError)
     → IsConfigRead does task.config.now old known config → AreScripts task config scripts → lent ≡ scripts → IsRunUnseen sees_to task config lent known new e
     → AreUntouched (streams unread left before printed unrecorded record_now)
-    → IsRunStopped does sees_to gives_names task old new unread left before printed unrecorded record_now e
-unseen does sees_to gives_names task old known new config lent scripts unread left before printed unrecorded record_now e read named lent_is (inl h) untouched =
+    → IsRunStopped does sees_to gives_names tells_name ended told task old new unread left before printed unrecorded record_now e
+unseen does sees_to gives_names tells_name ended told task old known new config lent scripts unread left before printed unrecorded record_now e read named lent_is (inl h) untouched =
     NotBegun config (subst (λ x. IsConfigRead does task.config.now old x config) (sym h.1) read) h.0 untouched
-unseen does sees_to gives_names task old known new config lent scripts unread left before printed unrecorded record_now e read named lent_is (inr h) untouched =
+unseen does sees_to gives_names tells_name ended told task old known new config lent scripts unread left before printed unrecorded record_now e read named lent_is (inr h) untouched =
     NotSeen config scripts (prepared does sees_to task old known new config lent scripts (Some e) read named lent_is h) untouched
 
 -- the record of what is typed is as it was played
-pub played : {F : Type 0} (does : F → StoreAccess → F → Type 0) (task : RunTask) (config : Config) (lent scripts : List (String Global)) (report : Report)
+pub played : {F : Type 0} (does : F → StoreAccess → F → Type 0) (tells_name : F → StoreName → Bool → Type 0) (task : RunTask) (config : Config) (lent scripts : List (String Global)) (report : Report)
     (unread left before shown unrecorded recorded record_now : Option (List ℕ)) (seen ran : F) → lent ≡ scripts → record_now ≡ recorded
-    → HasRunAll does task config lent report (streams unread left before shown unrecorded recorded) seen ran
-    → HasRunAll does task config scripts report (streams unread left before shown unrecorded record_now) seen ran
-played does task config lent scripts report unread left before shown unrecorded recorded record_now seen ran lent_is record_is all =
-    subst (λ (r : Option (List ℕ)). HasRunAll does task config scripts report (streams unread left before shown unrecorded r) seen ran) (sym record_is)
-    (subst (λ (ss : List (String Global)). HasRunAll does task config ss report (streams unread left before shown unrecorded recorded) seen ran) lent_is all)
+    → HasRunAll does tells_name task config lent report (streams unread left before shown unrecorded recorded) seen ran
+    → HasRunAll does tells_name task config scripts report (streams unread left before shown unrecorded record_now) seen ran
+played does tells_name task config lent scripts report unread left before shown unrecorded recorded record_now seen ran lent_is record_is all =
+    subst (λ (r : Option (List ℕ)). HasRunAll does tells_name task config scripts report (streams unread left before shown unrecorded r) seen ran) (sym record_is)
+    (subst (λ (ss : List (String Global)). HasRunAll does tells_name task config ss report (streams unread left before shown unrecorded recorded) seen ran) lent_is all)
 
-pub done : {T E : Type 0} (r : Result T E) (P : Type 0) → P → OnOk r P
-done (Ok x) P p = p
-done (Err e) P p = tt
+-- where it went well, where it was refused, and what came of it either way
+pub done : {T E : Type 0} (r : Result T E) (P Q : Type 0) → (P → Q) → OnOk r P → OnOk r Q
+done (Ok x) P Q f p = f p
+done (Err e) P Q f p = tt
+
+pub both : {T E : Type 0} (r : Result T E) (P Q S : E → Type 0) → ((e : E) → P e → Q e → S e) → IfErr r P → IfErr r Q → IfErr r S
+both (Ok x) P Q S f p q = tt
+both (Err e) P Q S f p q = f e p q
+
+pub ended_so : {T E : Type 0} (r : Result T E) (P : Option E → Type 0) → OnOk r (P None) → IfErr r (λ e. P (Some e)) → (fault : Option E) × P fault
+ended_so (Ok x) P well refused = (None, well)
+ended_so (Err e) P well refused = (Some e, refused)

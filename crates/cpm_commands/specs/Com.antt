@@ -1,31 +1,29 @@
 -- What the command `com` does. All of it is own.
-use Rattle.std.specs.Prelude.{⊤, ◌≡◌, ◌⊎◌, ◌^◌, ◌-◌, ◌&&◌, ℕ, Bool, true, false, List, []}
-use Rattle.std.specs.Prelude.{◌∷◌, ◌++◌, map, chars, option_map, slice_get, slice_index_or, Option, Some, None, Ok, Err}
-use Rattle.std.specs.List.{concat}
-use Rattle.cpm_batch.specs.declared.error.ReadError.TheVariants as read
-use Rattle.cpm_command_line.specs.Shown.{shown_of}
+use Rattle.std.specs.Prelude.{◌≡◌, ◌⊎◌, ◌^◌, ◌-◌, ◌&&◌, ℕ, Bool, true, false, List, []}
+use Rattle.std.specs.Prelude.{◌∷◌, ◌++◌, map, flat_map, zip, option_map, Option, Some, None, Ok}
+use Rattle.cpm_batch.specs.Outputs.{named_image}
 use Rattle.cpm_command_line.specs.declared.task.ComTask.{ComTask}
 use Rattle.cpm_geom.specs.Disk.{Disk, blank_disk}
 use Rattle.cpm_geom.specs.declared.format.Format.TheVariants.{Ibm3740}
-use Rattle.cpm_host.specs.Program.{IsPlayedBy, IsProgramPlayRefusal, IsProgramRefusal, ProgramInput, machine_of}
+use Rattle.cpm_host.specs.Program.{IsCueRefusal, IsPlayedBy, IsProgramPlayRefusal, IsProgramRefusal, ProgramInput, machine_of}
 use Rattle.cpm_host.specs.Tails.{IsTailRefusal, tail_from}
 use Rattle.cpm_host.specs.declared.error.HostError.{HostError}
-use Rattle.cpm_host.specs.declared.error.HostError.TheVariants.{OutOfMemory, RunRefused}
+use Rattle.cpm_host.specs.declared.error.HostError.TheVariants.{OutOfMemory}
 use Rattle.cpm_host.specs.declared.program.ProgramPlay.{ProgramPlay}
 use Rattle.cpm_host.specs.declared.program.Source.{Source}
 use Rattle.cpm_host.specs.declared.program.Source.TheVariants.{Cues, Typed}
 use Rattle.cpm_run.specs.Settled.{AreUntouched, Streams}
-use Rattle.cpm_run.specs.declared.error.RunError.TheVariants.{FileRefused}
+use Rattle.cpm_run.specs.declared.ending.Ending.{Ending}
 use Rattle.cpm_script.specs.Cues.{cue_text, cues}
 use Rattle.cpm_script.specs.Script.{most_keys}
 use Rattle.cpm_script.specs.declared.cue.Cue.{Cue}
 use Rattle.cpm_store.specs.Files.{StoreName}
-use Rattle.cpm_store.specs.Log.{StoreAccess, Gave, Missed, Wrote}
+use Rattle.cpm_store.specs.Log.{StoreAccess, AreWrites, Gave, LogLeadsBy, Missed}
+use Rattle.cpm_store.specs.Writes.{NamedBytes}
 use Rattle.cpm_commands.specs.Disk.{IsDiskRead, IsDiskUnread}
-use Rattle.cpm_commands.specs.Files.{IsUnread, IsUnwritten}
+use Rattle.cpm_commands.specs.Files.{IsUnread, IsWritingStopped}
 use Rattle.cpm_commands.specs.Plan.{Plan, all_planned, planned, planned_if_any}
 use Rattle.cpm_commands.specs.Record.{IsUnrecorded}
-use Rattle.cpm_commands.specs.declared.com.ComEnd.{ComEnd}
 use Rattle.cpm_commands.specs.declared.plan.FileRole.TheVariants.{Image, Plain}
 use Rattle.cpm_commands.specs.declared.plan.OutputNaming.TheVariants.{Replaces}
 
@@ -112,13 +110,6 @@ pub data IsStartRefused {F : Type 0} (does : F → StoreAccess → F → Type 0)
 abbrev pub AreSaid : List ℕ → List Cue → Type 0
 AreSaid text said = cues text ≡ Ok (map cue_text said)
 
--- its first line with a fault is told, with the name of its file as it is shown
-abbrev pub IsScriptFault : StoreName → List ℕ → HostError → Type 0
-IsScriptFault name text (RunRefused (FileRefused (read.Script shown line fault))) =
-    (shown.bytes ≡ shown_of (chars name)) × (cues text ≡ Err (line, fault))
-IsScriptFault name text OutOfMemory = ⊤
-IsScriptFault name text _ = ⊥
-
 -- the file of a script gave what it says, if one is named; else nothing is said
 abbrev pub AreCuesRead : {F : Type 0} → (F → StoreAccess → F → Type 0) → Option StoreName → F → F → List Cue → Type 0
 AreCuesRead {F} does None old new said = (said ≡ []) × (new ≡ old)
@@ -128,50 +119,17 @@ AreCuesRead {F} does (Some name) old new said = (text : List ℕ) × does old (G
 abbrev pub AreCuesRefused : {F : Type 0} → (F → StoreAccess → F → Type 0) → Option StoreName → F → F → HostError → Type 0
 AreCuesRefused {F} does None old new e = ⊥
 AreCuesRefused {F} does (Some name) old new e =
-    (IsUnread name e × does old (Missed name) new) ⊎ ((text : List ℕ) × does old (Gave name text) new × IsScriptFault name text e)
+    (IsUnread name e × does old (Missed name) new) ⊎ ((text : List ℕ) × does old (Gave name text) new × IsCueRefusal name text e)
 
 -- ---- what is written
 
--- a disk was written to its file, if there is one and a file is named for it
-abbrev pub IsDriveWritten : {F : Type 0} → (F → StoreAccess → F → Type 0) → Option StoreName → Option Disk → F → F → Type 0
-IsDriveWritten {F} does None d old new = new ≡ old
-IsDriveWritten {F} does (Some name) None old new = new ≡ old
-IsDriveWritten {F} does (Some name) (Some d) old new = does old (Wrote name (concat d.sectors)) new
+-- the image of each drive, A first, to the file that is named at its place, as far as there are both
+abbrev pub drive_outputs : List StoreName → List (Option Disk) → List NamedBytes
+drive_outputs names drives = flat_map (λ p. named_image (Some p.0) p.1) (zip names drives)
 
--- its file can't be written
-abbrev pub IsDriveUnwritten : {F : Type 0} → (F → StoreAccess → F → Type 0) → Option StoreName → Option Disk → F → F → HostError → Type 0
-IsDriveUnwritten {F} does None d old new e = ⊥
-IsDriveUnwritten {F} does (Some name) None old new e = ⊥
-IsDriveUnwritten {F} does (Some name) (Some d) old new e = IsUnwritten name e × does old (Missed name) new
-
--- the one at a place, from 0 on
-abbrev pub IsWrittenAt : {F : Type 0} → (F → StoreAccess → F → Type 0) → List StoreName → List (Option Disk) → ℕ → F → F → Type 0
-IsWrittenAt {F} does names drives place old new = IsDriveWritten does (slice_get names place) (slice_index_or drives place None) old new
-
-abbrev pub IsUnwrittenAt : {F : Type 0} → (F → StoreAccess → F → Type 0) → List StoreName → List (Option Disk) → ℕ → F → F → HostError → Type 0
-IsUnwrittenAt {F} does names drives place old new e = IsDriveUnwritten does (slice_get names place) (slice_index_or drives place None) old new e
-
--- the drives A to D were written in order, as far as files are named for them
-pub record AreDrivesWritten {F : Type 0} (does : F → StoreAccess → F → Type 0) (names : List StoreName) (drives : List (Option Disk)) (old new : F) : Type 0
-  where
-    pub first : F
-    pub second : F
-    pub third : F
-    pub a : IsWrittenAt does names drives 0 old first
-    pub b : IsWrittenAt does names drives 1 first second
-    pub c : IsWrittenAt does names drives 2 second third
-    pub d : IsWrittenAt does names drives 3 third new
-
--- those before one of them were, and its file can't be written
-pub data AreDrivesUnwritten {F : Type 0} (does : F → StoreAccess → F → Type 0) (names : List StoreName) (drives : List (Option Disk)) (old new : F)
-    (e : HostError) : Type 0 where
-  NotA : IsUnwrittenAt does names drives 0 old new e → AreDrivesUnwritten does names drives old new e
-  NotB : (first : F) → IsWrittenAt does names drives 0 old first → IsUnwrittenAt does names drives 1 first new e
-      → AreDrivesUnwritten does names drives old new e
-  NotC : (first second : F) → IsWrittenAt does names drives 0 old first → IsWrittenAt does names drives 1 first second
-      → IsUnwrittenAt does names drives 2 second new e → AreDrivesUnwritten does names drives old new e
-  NotD : (first second third : F) → IsWrittenAt does names drives 0 old first → IsWrittenAt does names drives 1 first second
-      → IsWrittenAt does names drives 2 second third → IsUnwrittenAt does names drives 3 third new e → AreDrivesUnwritten does names drives old new e
+-- what is written once a program was played
+abbrev pub com_outputs : ComTask → ProgramPlay → List NamedBytes
+com_outputs task play = drive_outputs (map (λ n. n.now) task.outs.items) play.drives
 
 -- ---- the command
 
@@ -192,9 +150,11 @@ pub record IsComPlayed (task : ComTask) (g : ProgramInput) (said : List Cue) (pl
   pub source_is : source_of task said source
   pub played : IsPlayedBy source (blank_disk Ibm3740) (machine_of g) (steps_asked task) play io
 
--- And then its disks were written, and got their names; how it ended is told, and whether it was to stop where it waits, and waits.
+-- And then the record of its keys was ended, and its disks were written, and got their names; and it was told how it ended, and whether it was to stop where
+-- it waits, and did.
 pub record HasRunProgram {F : Type 0} (does : F → StoreAccess → F → Type 0) (sees_to : F → Plan → Option HostError → F → Type 0)
-    (gives_names : F → Option HostError → F → Type 0) (task : ComTask) (end : ComEnd) (io : Streams) (old new : F) : Type 0 where
+    (gives_names : F → Option HostError → F → Type 0) (ended : Option HostError → Type 0) (told : Ending → (waits : Bool) → Type 0)
+    (task : ComTask) (io : Streams) (old new : F) : Type 0 where
   pub g : ProgramInput
   pub said : List Cue
   pub read : F
@@ -202,37 +162,38 @@ pub record HasRunProgram {F : Type 0} (does : F → StoreAccess → F → Type 0
   pub play : ProgramPlay
   pub reads : IsComRead does sees_to task old read g said
   pub played : IsComPlayed task g said play io
-  pub wrote : AreDrivesWritten does (map (λ n. n.now) task.outs.items) play.ran.drives read written
+  pub recorded : ended None
+  pub wrote : LogLeadsBy does (AreWrites (com_outputs task play)) read written
   pub named : gives_names written None new
-  pub ending : end.ending ≡ play.ran.ending
-  pub waits : end.waits ≡ play.waits && task.stops_idle
+  pub tells : told play.ending (play.waits && task.stops_idle)
 
 -- how far it came that was refused
 pub data IsComStopped {F : Type 0} (does : F → StoreAccess → F → Type 0) (sees_to : F → Plan → Option HostError → F → Type 0)
-    (gives_names : F → Option HostError → F → Type 0) (task : ComTask) (io : Streams) (old new : F) (e : HostError) : Type 0 where
+    (gives_names : F → Option HostError → F → Type 0) (ended : Option HostError → Type 0) (task : ComTask) (io : Streams) (old new : F)
+    (e : HostError) : Type 0 where
   -- the words of its tail make none, or memory was refused
   NotBegun : (IsTailRefusal (map (λ w. w.now) task.tail.items) e ⊎ (e ≡ OutOfMemory)) → new ≡ old → AreUntouched io
-      → IsComStopped does sees_to gives_names task io old new e
+      → IsComStopped does sees_to gives_names ended task io old new e
   -- its files can't be what they are to be
-  NotSeen : sees_to old (plan_of_com task) (Some e) new → AreUntouched io → IsComStopped does sees_to gives_names task io old new e
+  NotSeen : sees_to old (plan_of_com task) (Some e) new → AreUntouched io → IsComStopped does sees_to gives_names ended task io old new e
   -- the program or a disk can't be read, or no machine runs it
   NoStart : (seen : F) → sees_to old (plan_of_com task) None seen → IsStartRefused does task seen new e → AreUntouched io
-      → IsComStopped does sees_to gives_names task io old new e
+      → IsComStopped does sees_to gives_names ended task io old new e
   -- the script can't be read, or has a fault
   NoScript : (seen started : F) (tail : Option (List ℕ)) (g : ProgramInput) → sees_to old (plan_of_com task) None seen
       → IsStartRead does task tail seen started g → AreCuesRefused does (option_map (λ n. n.now) task.keys) started new e → AreUntouched io
-      → IsComStopped does sees_to gives_names task io old new e
+      → IsComStopped does sees_to gives_names ended task io old new e
   -- it was not played to its end, and nothing was written
   NotPlayed : (g : ProgramInput) (said : List Cue) (source : Source) → IsComRead does sees_to task old new g said → source_of task said source
-      → IsProgramPlayRefusal source g (steps_asked task) io e → IsComStopped does sees_to gives_names task io old new e
+      → IsProgramPlayRefusal source g (steps_asked task) io e → IsComStopped does sees_to gives_names ended task io old new e
   -- the record of its keys can't have its name, and nothing was written
   NotRecorded : (g : ProgramInput) (said : List Cue) (play : ProgramPlay) → IsComRead does sees_to task old new g said → IsComPlayed task g said play io
-      → IsUnrecorded e → IsComStopped does sees_to gives_names task io old new e
+      → ended (Some e) → IsUnrecorded e → IsComStopped does sees_to gives_names ended task io old new e
   -- a disk can't be written
   NotWritten : (g : ProgramInput) (said : List Cue) (play : ProgramPlay) (read : F) → IsComRead does sees_to task old read g said
-      → IsComPlayed task g said play io → AreDrivesUnwritten does (map (λ n. n.now) task.outs.items) play.ran.drives read new e
-      → IsComStopped does sees_to gives_names task io old new e
+      → IsComPlayed task g said play io → ended None → IsWritingStopped does (com_outputs task play) read new e
+      → IsComStopped does sees_to gives_names ended task io old new e
   -- or can't have its name
   NotNamed : (g : ProgramInput) (said : List Cue) (play : ProgramPlay) (read written : F) → IsComRead does sees_to task old read g said
-      → IsComPlayed task g said play io → AreDrivesWritten does (map (λ n. n.now) task.outs.items) play.ran.drives read written
-      → gives_names written (Some e) new → IsComStopped does sees_to gives_names task io old new e
+      → IsComPlayed task g said play io → ended None → LogLeadsBy does (AreWrites (com_outputs task play)) read written
+      → gives_names written (Some e) new → IsComStopped does sees_to gives_names ended task io old new e

@@ -23,8 +23,9 @@ use Rattle.cpm_host.specs.Refusals.{host_error_of_disk_command}
 use Rattle.cpm_host.specs.declared.error.HostError.{HostError}
 use Rattle.cpm_host.specs.declared.error.HostError.TheVariants.{OutOfMemory}
 use Rattle.cpm_store.specs.Files.{StoreName}
-use Rattle.cpm_store.specs.Log.{StoreAccess, Gave, Missed, Wrote}
-use Rattle.cpm_commands.specs.Files.{IsUnread, IsUnwritten}
+use Rattle.cpm_store.specs.Log.{StoreAccess, Gave, Missed}
+use Rattle.cpm_store.specs.Writes.{NamedBytes}
+use Rattle.cpm_commands.specs.Files.{AreUnwritten, AreWritten, IsUnread}
 use Rattle.cpm_commands.specs.Plan.{Plan, planned}
 use Rattle.cpm_commands.specs.declared.disk.PutOptions.{PutOptions}
 use Rattle.cpm_commands.specs.declared.plan.FileRole.TheVariants.{Image}
@@ -46,17 +47,9 @@ IsDiskUnread {F} does image old new e =
     (IsUnread image e × does old (Missed image) new)
     ⊎ ((bytes : List ℕ) × does old (Gave image bytes) new × IsDiskRefusal (IsNotImage image bytes) e)
 
--- the bytes of this disk were written to the file, which got its name
-abbrev pub IsImageWritten : {F : Type 0} → (F → StoreAccess → F → Type 0) → (F → Option HostError → F → Type 0) → StoreName → Disk → F → F → Type 0
-IsImageWritten {F} does gives_names image disk old new =
-    (written : F) × does old (Wrote image (concat disk.sectors)) written × gives_names written None new
-
--- they can't be written, or the file can't have its name
-abbrev pub IsImageUnwritten : {F : Type 0} → (F → StoreAccess → F → Type 0) → (F → Option HostError → F → Type 0) → StoreName → Disk → F → F → HostError
-    → Type 0
-IsImageUnwritten {F} does gives_names image disk old new e =
-    (IsUnwritten image e × does old (Missed image) new)
-    ⊎ ((written : F) × does old (Wrote image (concat disk.sectors)) written × gives_names written (Some e) new)
+-- what is written of a disk: its sectors, one after the other, to its file
+abbrev pub disk_outputs : StoreName → Disk → List NamedBytes
+disk_outputs image disk = (image, concat disk.sectors) ∷ []
 
 -- ---- a new image
 
@@ -68,7 +61,7 @@ pub record HasMadeDisk {F : Type 0} (does : F → StoreAccess → F → Type 0) 
     (gives_names : F → Option HostError → F → Type 0) (image : StoreName) (is_large : Bool) (old new : F) : Type 0 where
   pub seen : F
   pub sees : sees_to old (plan_of_new image) None seen
-  pub written : IsImageWritten does gives_names image (blank_disk (format_for is_large)) seen new
+  pub written : AreWritten does gives_names (disk_outputs image (blank_disk (format_for is_large))) seen new
 
 -- how far it came that was refused
 pub data IsNewRefused {F : Type 0} (does : F → StoreAccess → F → Type 0) (sees_to : F → Plan → Option HostError → F → Type 0)
@@ -80,7 +73,8 @@ pub data IsNewRefused {F : Type 0} (does : F → StoreAccess → F → Type 0) (
   -- memory was refused for the disk, and nothing was written
   NotMade : sees_to old (plan_of_new image) None new → e ≡ OutOfMemory → IsNewRefused does sees_to gives_names image is_large old new e
   -- it can't be written, or can't have its name
-  Unwritten : (seen : F) → sees_to old (plan_of_new image) None seen → IsImageUnwritten does gives_names image (blank_disk (format_for is_large)) seen new e
+  Unwritten : (seen : F) → sees_to old (plan_of_new image) None seen
+      → AreUnwritten does gives_names (disk_outputs image (blank_disk (format_for is_large))) seen new e
       → IsNewRefused does sees_to gives_names image is_large old new e
 
 -- ---- the files of an image
@@ -134,7 +128,7 @@ pub record HasChanged {F : Type 0} (does : F → StoreAccess → F → Type 0) (
   pub done : F
   pub opened : IsDiskOpened does sees_to image old begun disk
   pub changed : changes disk disk_now begun done
-  pub written : IsImageWritten does gives_names image disk_now done new
+  pub written : AreWritten does gives_names (disk_outputs image disk_now) done new
 
 -- how far it came that was refused
 pub data IsChangeRefused {F : Type 0} (does : F → StoreAccess → F → Type 0) (sees_to : F → Plan → Option HostError → F → Type 0)
@@ -147,7 +141,7 @@ pub data IsChangeRefused {F : Type 0} (does : F → StoreAccess → F → Type 0
       → IsChangeRefused does sees_to gives_names image changes stops old new e
   -- it was, and can't be written, or its file can't have its name
   Unwritten : (disk disk_now : Disk) (begun done : F) → IsDiskOpened does sees_to image old begun disk → changes disk disk_now begun done
-      → IsImageUnwritten does gives_names image disk_now done new e → IsChangeRefused does sees_to gives_names image changes stops old new e
+      → AreUnwritten does gives_names (disk_outputs image disk_now) done new e → IsChangeRefused does sees_to gives_names image changes stops old new e
 
 -- ---- files that are put
 

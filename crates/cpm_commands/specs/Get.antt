@@ -1,8 +1,9 @@
 -- What the command `disk get` does. All of it is own.
 use Rattle.std.specs.Prelude.{⊤, ◌≡◌, ◌⊎◌, ◌<◌, ℕ, Bool, true, false, List, [], ◌∷◌, ◌++◌, chars, codes, flat_map, length, map, option_map, string_bytes}
-use Rattle.std.specs.Prelude.{Option, Some, None}
+use Rattle.std.specs.Prelude.{Option, Some, None, String, Vec, zip}
 use Rattle.std.specs.Io.KnownBytes.{Appends}
 use Rattle.std.specs.Path.{path_join}
+use Rattle.std.specs.declared.alloc.Global.{Global}
 use Rattle.cpm_command_line.specs.Shown.{shown_of}
 use Rattle.cpm_geom.specs.Disk.{Disk}
 use Rattle.cpm_image_files.specs.Taken.{IsGetRefusal}
@@ -13,16 +14,15 @@ use Rattle.cpm_disk_commands.specs.Refusals.{file_named, IsToldRefusal}
 use Rattle.cpm_host.specs.declared.error.HostError.{HostError}
 use Rattle.cpm_host.specs.declared.error.HostError.TheVariants.{NotAFolder, OutOfMemory}
 use Rattle.cpm_store.specs.Files.{StoreName}
-use Rattle.cpm_store.specs.Log.{StoreAccess, LogLeads, Missed, Wrote, writes_of}
+use Rattle.cpm_store.specs.Log.{StoreAccess}
 use Rattle.cpm_store.specs.Writes.{NamedBytes}
 use Rattle.cpm_commands.specs.Disk.{AreNamedOn, IsDiskRefusal, IsDiskRead, IsDiskUnread, IsUnnamedOn}
-use Rattle.cpm_commands.specs.Files.{IsUnwritten}
+use Rattle.cpm_commands.specs.Files.{AreUnwritten, AreWritten}
 use Rattle.cpm_commands.specs.Plan.{Plan, all_planned, planned}
 use Rattle.cpm_commands.specs.Report.{IsUnprinted}
 use Rattle.cpm_commands.specs.declared.get.Destination.{Destination}
 use Rattle.cpm_commands.specs.declared.get.Destination.TheVariants.{Current, Folder, OneFile}
 use Rattle.cpm_commands.specs.declared.get.GetOptions.{GetOptions}
-use Rattle.cpm_commands.specs.declared.get.TakenFile.{TakenFile}
 use Rattle.cpm_commands.specs.declared.plan.FileRole.TheVariants.{Image, Plain}
 use Rattle.cpm_commands.specs.declared.plan.OutputNaming.{OutputNaming}
 use Rattle.cpm_commands.specs.declared.plan.OutputNaming.TheVariants.{New, ReplacesPlain}
@@ -63,8 +63,9 @@ IsNoFolder _ _ = ⊥
 
 -- ---- files that are taken out of a disk
 
-abbrev pub taken_view : TakenFile → NamedBytes
-taken_view file = (string_bytes file.path, file.bytes.items)
+-- each path, and its bytes
+abbrev pub taken_outputs : List (String Global) → List (Vec ℕ Global) → List NamedBytes
+taken_outputs paths contents = map (λ p. (string_bytes p.0, p.1.items)) (zip paths contents)
 
 -- the path of a file, and the bytes that were taken
 pub record IsFileTaken (disk : Disk) (to : Destination) (is_text : Bool) (file : FileName) (taken : NamedBytes) : Type 0 where
@@ -134,23 +135,6 @@ path_line path = shown_characters (chars path) ++ codes "\n"
 
 abbrev pub paths_text : List NamedBytes → List ℕ
 paths_text taken = flat_map (λ p. path_line p.0) taken
-
--- the first file that can't be written, after those before it were
-abbrev pub IsWritingStopped : {F : Type 0} → (F → StoreAccess → F → Type 0) → List NamedBytes → F → F → HostError → Type 0
-IsWritingStopped {F} does [] old new e = ⊥
-IsWritingStopped {F} does (p ∷ ps) old new e =
-    (IsUnwritten p.0 e × does old (Missed p.0) new)
-    ⊎ ((between : F) × does old (Wrote p.0 p.1) between × IsWritingStopped does ps between new e)
-
--- all were written, and got their names
-abbrev pub AreWritten : {F : Type 0} → (F → StoreAccess → F → Type 0) → (F → Option HostError → F → Type 0) → List NamedBytes → F → F → Type 0
-AreWritten {F} does gives_names taken old new = (written : F) × LogLeads does (writes_of taken) old written × gives_names written None new
-
--- one can't be written; or they can't have their names
-abbrev pub AreUnwritten : {F : Type 0} → (F → StoreAccess → F → Type 0) → (F → Option HostError → F → Type 0) → List NamedBytes → F → F → HostError → Type 0
-AreUnwritten {F} does gives_names taken old new e =
-    IsWritingStopped does taken old new e
-    ⊎ ((written : F) × LogLeads does (writes_of taken) old written × gives_names written (Some e) new)
 
 -- ---- the command
 

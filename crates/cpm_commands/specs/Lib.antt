@@ -5,9 +5,12 @@ pub mod Debug
 pub mod Disk
 pub mod Files
 pub mod Get
+pub mod Laws
 pub mod List
+pub mod Messages
 pub mod Plan
 pub mod Record
 pub mod Report
 pub mod Run
+pub mod Task
 pub mod Typed

@@ -3,19 +3,9 @@ use Rattle.std.specs.Prelude.{⊤, ◌⊎◌, ℕ, Option, Bool, true, false, Li
 use Rattle.std.specs.Io.KnownBytes.{Appends}
 use Rattle.cpm_host.specs.declared.error.HostError.{HostError}
 use Rattle.cpm_host.specs.declared.error.HostError.TheVariants.{OutOfMemory, OutputUnwritable}
-use Rattle.cpm_machine.specs.declared.reply.End.{End}
-use Rattle.cpm_machine.specs.declared.reply.End.TheVariants.{Running, Halted, Illegal, Quota, CountEnd, Exited}
+use Rattle.cpm_run.specs.Ending.{end_word}
 use Rattle.cpm_run.specs.Run.{ReportEntry, report_view}
 use Rattle.cpm_run.specs.declared.report.SessionReport.{SessionReport}
-
--- how a session ended, or that it still runs
-abbrev pub end_word : End → List ℕ
-end_word Running = codes "Running"
-end_word Halted = codes "Halted"
-end_word Illegal = codes "Illegal"
-end_word Quota = codes "Quota"
-end_word CountEnd = codes "CountEnd"
-end_word Exited = codes "Exited"
 
 -- it waits for a key, and none comes
 abbrev pub waiting_word : Bool → List ℕ
@@ -25,7 +15,7 @@ waiting_word true = codes " waiting"
 -- the line of a session: its name, its end, its steps, the bytes of its console, and whether it stopped where it waits
 abbrev pub report_line : ReportEntry → Bool → List ℕ
 report_line r is_idle =
-    r.name ++ codes " " ++ end_word r.ended ++ codes " " ++ decimal r.count ++ codes " " ++ decimal r.bytes ++ waiting_word is_idle ++ codes "\n"
+    r.name ++ codes " " ++ end_word r.ending.ended ++ codes " " ++ decimal r.ending.count ++ codes " " ++ decimal r.bytes ++ waiting_word is_idle ++ codes "\n"
 
 -- a line for each session, in their order
 abbrev pub report_text : List (SessionReport × Bool) → List ℕ

@@ -1,5 +1,5 @@
 -- What the command `run` does. All of it is own.
-use Rattle.std.specs.Prelude.{◌≡◌, ◌⊎◌, ℕ, Bool, ◌&&◌, List, [], ◌∷◌, ◌++◌, codes, flat_map, map, option_map, string_bytes, zip}
+use Rattle.std.specs.Prelude.{◌≡◌, ◌⊎◌, ℕ, Bool, ◌&&◌, List, [], ◌∷◌, ◌++◌, codes, flat_map, is_some, map, option_map, string_bytes, zip}
 use Rattle.std.specs.Prelude.{Option, Some, None, Ok, Err, String, Vec}
 use Rattle.std.specs.declared.alloc.Global.{Global}
 use Rattle.cpm_command_line.specs.declared.task.RunTask.{RunTask}
@@ -19,13 +19,14 @@ use Rattle.cpm_run.specs.declared.error.RunError.{RunError}
 use Rattle.cpm_run.specs.declared.options.RecordFile.{RecordFile}
 use Rattle.cpm_run.specs.declared.options.RunOptions.{RunOptions}
 use Rattle.cpm_run.specs.declared.report.Report.{Report}
+use Rattle.cpm_run.specs.declared.report.SessionReport.{SessionReport}
 use Rattle.cpm_store.specs.Files.{StoreName}
 use Rattle.cpm_store.specs.Log.{StoreAccess, Gave, Missed}
 use Rattle.cpm_commands.specs.Files.{IsUnread}
 use Rattle.cpm_commands.specs.Plan.{PlannedName, Plan, all_planned, planned, planned_if_any}
 use Rattle.cpm_commands.specs.Record.{IsUnrecorded}
 use Rattle.cpm_commands.specs.Report.{IsReported, IsUnprinted, report_text}
-use Rattle.cpm_commands.specs.Typed.{IsHeard, is_typed_at}
+use Rattle.cpm_commands.specs.Typed.{IsHeard, IsScriptKept, is_typed_at, typed_script}
 use Rattle.cpm_commands.specs.declared.plan.FileRole.TheVariants.{Configuration, Image, Plain, Script}
 use Rattle.cpm_commands.specs.declared.plan.OutputNaming.TheVariants.{Replaces}
 
@@ -92,30 +93,32 @@ abbrev pub record_marks : (is_kept : Bool) → Option StoreName → List (Sessio
 record_marks is_kept typed sessions = map (λ p. (string_bytes p.1, is_typed_at typed p.0 && is_kept)) sessions
 
 -- the options of a run are those of the command line
-pub record IsAsked (task : RunTask) (sessions : List SessionConfig) (scripts : List (String Global)) (options : RunOptions) : Type 0 where
+pub record IsAsked (tells_name : StoreName → Bool → Type 0) (task : RunTask) (sessions : List SessionConfig) (scripts : List (String Global))
+    (options : RunOptions) : Type 0 where
   pub typed : option_map (λ n. n.now) options.typed ≡ option_map (λ n. n.now) task.keyboard
   pub idle : options.stops_idle ≡ task.stops_idle
-  -- whether something has the name of the script of the session that is typed at, as the machine says
-  pub is_kept : Bool
-  pub records : map record_mark options.records.now ≡ record_marks is_kept (option_map (λ n. n.now) task.keyboard) (zip sessions scripts)
+  -- the script of the session that is typed at, if something has its name
+  pub kept : Option StoreName
+  pub kept_is : IsScriptKept tells_name (typed_script (option_map (λ n. n.now) task.keyboard) (zip sessions scripts)) kept
+  pub records : map record_mark options.records.now ≡ record_marks (is_some kept) (option_map (λ n. n.now) task.keyboard) (zip sessions scripts)
 
 -- ---- the run
 
 -- its sessions ran so
-pub record HasRunAll {F : Type 0} (does : F → StoreAccess → F → Type 0) (task : RunTask) (config : Config)
+pub record HasRunAll {F : Type 0} (does : F → StoreAccess → F → Type 0) (tells_name : F → StoreName → Bool → Type 0) (task : RunTask) (config : Config)
     (scripts : List (String Global)) (report : Report) (io : Streams) (old new : F) : Type 0 where
   pub options : RunOptions
-  pub asked : IsAsked task config.sessions.items scripts options
+  pub asked : IsAsked (tells_name old) task config.sessions.items scripts options
   -- without the script of the session that is typed at
   pub heard : Config
   pub hears : IsHeard (option_map (λ n. n.now) task.keyboard) config heard
   pub accessed : HasAccessed does heard options report io old new
 
 -- the run was refused, and has come so far
-pub record IsRunRefused {F : Type 0} (does : F → StoreAccess → F → Type 0) (task : RunTask) (config : Config)
+pub record IsRunRefused {F : Type 0} (does : F → StoreAccess → F → Type 0) (tells_name : F → StoreName → Bool → Type 0) (task : RunTask) (config : Config)
     (scripts : List (String Global)) (io : Streams) (old new : F) (e : HostError) : Type 0 where
   pub options : RunOptions
-  pub asked : IsAsked task config.sessions.items scripts options
+  pub asked : IsAsked (tells_name old) task config.sessions.items scripts options
   pub heard : Config
   pub hears : IsHeard (option_map (λ n. n.now) task.keyboard) config heard
   pub error : RunError
@@ -123,10 +126,10 @@ pub record IsRunRefused {F : Type 0} (does : F → StoreAccess → F → Type 0)
   pub stopped : IsStoppedRun does heard options io old new error
 
 -- or memory was refused before it, and nothing was read or written
-abbrev pub IsRunAllStopped : {F : Type 0} → (F → StoreAccess → F → Type 0) → RunTask → Config → List (String Global) → Streams → F → F → HostError
-    → Type 0
-IsRunAllStopped {F} does task config scripts io old new e =
-    ((e ≡ OutOfMemory) × (new ≡ old) × AreUntouched io) ⊎ IsRunRefused does task config scripts io old new e
+abbrev pub IsRunAllStopped : {F : Type 0} → (F → StoreAccess → F → Type 0) → (F → StoreName → Bool → Type 0) → RunTask → Config → List (String Global)
+    → Streams → F → F → HostError → Type 0
+IsRunAllStopped {F} does tells_name task config scripts io old new e =
+    ((e ≡ OutOfMemory) × (new ≡ old) × AreUntouched io) ⊎ IsRunRefused does tells_name task config scripts io old new e
 
 -- what was written can't have its names; or it has them, but what is told of it can't be printed
 abbrev pub IsEndStopped : {F : Type 0} → (F → Option HostError → F → Type 0) → F → F → HostError → Type 0
@@ -152,10 +155,11 @@ pub record IsRunPrepared {F : Type 0} (does : F → StoreAccess → F → Type 0
   pub named : AreScripts task config scripts
   pub sees : sees_to known (plan_by task config scripts) fault new
 
--- and then its sessions ran, what they left got its names, and each is reported
+-- And then its sessions ran, what they left got its names, and each is reported; the bytes at which one ended that are no instruction were told; and the
+-- record of what was typed was ended.
 pub record HasRunSessions {F : Type 0} (does : F → StoreAccess → F → Type 0) (sees_to : F → Plan → Option HostError → F → Type 0)
-    (gives_names : F → Option HostError → F → Type 0) (task : RunTask) (old new : F)
-    (unread left before printed unrecorded record_now : Option (List ℕ)) : Type 0 where
+    (gives_names : F → Option HostError → F → Type 0) (tells_name : F → StoreName → Bool → Type 0) (ended : Option HostError → Type 0)
+    (told : List SessionReport → Type 0) (task : RunTask) (old new : F) (unread left before printed unrecorded record_now : Option (List ℕ)) : Type 0 where
   pub config : Config
   pub scripts : List (String Global)
   pub seen : F
@@ -163,32 +167,42 @@ pub record HasRunSessions {F : Type 0} (does : F → StoreAccess → F → Type 
   pub report : Report
   pub shown : Option (List ℕ)
   pub prepared : IsRunPrepared does sees_to task old seen config scripts None
-  pub played : HasRunAll does task config scripts report (streams unread left before shown unrecorded record_now) seen ran
+  pub played : HasRunAll does tells_name task config scripts report (streams unread left before shown unrecorded record_now) seen ran
   pub named : gives_names ran None new
-  pub told : IsReported shown printed (report_text (zip report.sessions.items report.idle.items))
+  pub printed_so : IsReported shown printed (report_text (zip report.sessions.items report.idle.items))
+  pub tells : told report.sessions.items
+  pub recorded : ended None
 
--- How far it came that was refused. Before its sessions ran no stream was read or written.
+-- How far it came that was refused. Before its sessions ran no stream was read or written. Once they ran the record of what was typed was ended.
 pub data IsRunStopped {F : Type 0} (does : F → StoreAccess → F → Type 0) (sees_to : F → Plan → Option HostError → F → Type 0)
-    (gives_names : F → Option HostError → F → Type 0) (task : RunTask) (old new : F)
-    (unread left before printed unrecorded record_now : Option (List ℕ)) (e : HostError) : Type 0 where
+    (gives_names : F → Option HostError → F → Type 0) (tells_name : F → StoreName → Bool → Type 0) (ended : Option HostError → Type 0)
+    (told : List SessionReport → Type 0) (task : RunTask) (old new : F) (unread left before printed unrecorded record_now : Option (List ℕ))
+    (e : HostError) : Type 0 where
   -- it has no configuration
   NoConfig : IsConfigRefused does task.config.now old new e → AreUntouched (streams unread left before printed unrecorded record_now)
-      → IsRunStopped does sees_to gives_names task old new unread left before printed unrecorded record_now e
+      → IsRunStopped does sees_to gives_names tells_name ended told task old new unread left before printed unrecorded record_now e
   -- memory was refused before its files were seen to
   NotBegun : (config : Config) → IsConfigRead does task.config.now old new config → e ≡ OutOfMemory
       → AreUntouched (streams unread left before printed unrecorded record_now)
-      → IsRunStopped does sees_to gives_names task old new unread left before printed unrecorded record_now e
+      → IsRunStopped does sees_to gives_names tells_name ended told task old new unread left before printed unrecorded record_now e
   -- its files can't be what they are to be
   NotSeen : (config : Config) (scripts : List (String Global)) → IsRunPrepared does sees_to task old new config scripts (Some e)
       → AreUntouched (streams unread left before printed unrecorded record_now)
-      → IsRunStopped does sees_to gives_names task old new unread left before printed unrecorded record_now e
+      → IsRunStopped does sees_to gives_names tells_name ended told task old new unread left before printed unrecorded record_now e
   -- its sessions can't run, or can't be written
   NotRun : (config : Config) (scripts : List (String Global)) (seen : F) → IsRunPrepared does sees_to task old seen config scripts None
-      → IsRunAllStopped does task config scripts (streams unread left before printed unrecorded record_now) seen new e
-      → IsRunStopped does sees_to gives_names task old new unread left before printed unrecorded record_now e
-  -- what they left can't have its names, or can't be told, or the record of what was typed can't have its own
-  NotEnded : (config : Config) (scripts : List (String Global)) (seen ran : F) (report : Report) (shown : Option (List ℕ))
+      → IsRunAllStopped does tells_name task config scripts (streams unread left before printed unrecorded record_now) seen new e
+      → IsRunStopped does sees_to gives_names tells_name ended told task old new unread left before printed unrecorded record_now e
+  -- what they left can't have its names, or can't be told
+  NotEnded : (config : Config) (scripts : List (String Global)) (seen ran : F) (report : Report) (shown : Option (List ℕ)) (fault : Option HostError)
       → IsRunPrepared does sees_to task old seen config scripts None
-      → HasRunAll does task config scripts report (streams unread left before shown unrecorded record_now) seen ran
-      → (IsEndStopped gives_names ran new e ⊎ (gives_names ran None new × IsUnrecorded e))
-      → IsRunStopped does sees_to gives_names task old new unread left before printed unrecorded record_now e
+      → HasRunAll does tells_name task config scripts report (streams unread left before shown unrecorded record_now) seen ran
+      → IsEndStopped gives_names ran new e → told report.sessions.items → ended fault
+      → IsRunStopped does sees_to gives_names tells_name ended told task old new unread left before printed unrecorded record_now e
+  -- it has its names and is told, but the record of what was typed can't have its own
+  NotRecorded : (config : Config) (scripts : List (String Global)) (seen ran : F) (report : Report) (shown : Option (List ℕ))
+      → IsRunPrepared does sees_to task old seen config scripts None
+      → HasRunAll does tells_name task config scripts report (streams unread left before shown unrecorded record_now) seen ran
+      → gives_names ran None new → IsReported shown printed (report_text (zip report.sessions.items report.idle.items)) → told report.sessions.items
+      → ended (Some e) → IsUnrecorded e
+      → IsRunStopped does sees_to gives_names tells_name ended told task old new unread left before printed unrecorded record_now e

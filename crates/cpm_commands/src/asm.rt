@@ -1,11 +1,13 @@
 //! The command `asm`.
-ghost use Rattle.std.specs.Prelude.{◌≡◌, IfErr, IfOk, OnOk, option_map};
-ghost use Rattle.cpm_commands.specs.Asm.{HasAssembled, IsAsmRefused, IsProgramOf, IsSourceRefused, IsWritten, IsWriteStopped, plan_of_asm};
+ghost use Rattle.std.specs.Prelude.{◌≡◌, IfErr, IfOk, OnOk, map, option_map};
+ghost use Rattle.cpm_commands.specs.Asm.{HasAssembled, IsAsmRefused, IsProgramOf, IsSourceRefused, asm_outputs, plan_of_asm};
 ghost use Rattle.cpm_commands.specs.Plan.{plan_view};
+ghost use Rattle.cpm_store.specs.Writes.{named_output};
 
-use crate::files::{CommandFiles, read_file, write_file};
+use crate::files::{CommandFiles, read_file, write_named};
 use crate::plan::{FilePlan, FileRole, OutputNaming, add_file, add_if_any};
 use cpm_host::{HostError, ProgramListing, run_asm, run_asm_listed};
+use cpm_store::Output;
 use std::alloc::{AllocError, Global};
 
 /// The files that `asm` names.
@@ -43,22 +45,29 @@ fn program_of(alloc: Global, source: &[u8], is_listed: bool) -> Result<ProgramLi
     })
 }
 
-/// Writes a program, and its listing if a file is named for it.
-fn write_program<F: CommandFiles>(
-    files: &mut F,
-    out: &str,
-    list: Option<&str>,
-    program: &ProgramListing,
-) -> Result<(), HostError>
-    ensures written { OnOk result (IsWritten F.does out.now (option_map (λ n. n.now) list.entry) program.now.image.items program.now.listing.items
-        files.old files.new) }
-    ensures refusal { IfErr result (λ e. IsWriteStopped F.does out.now (option_map (λ n. n.now) list.entry) program.now.image.items files.old files.new e) }
+/// What is written of a program: it, and its listing if a file is named for it.
+fn outputs_of<'a>(
+    alloc: Global,
+    out: &'a str,
+    list: Option<&'a str>,
+    program: ProgramListing,
+) -> Result<Vec<Output<'a>>, AllocError>
+    ensures { IfOk result (λ v. map named_output v.items
+        ≡ asm_outputs out.now (option_map (λ n. n.now) list.entry) program.image.items program.listing.items) }
 {
-    write_file(files, out, program.image.as_slice())?;
-    match list {
-        Some(list) => write_file(files, list, program.listing.as_slice()),
-        None => Ok(()),
+    let ProgramListing { image, listing } = program;
+    let mut outputs = Vec::new(alloc);
+    outputs.push(Output {
+        name: out,
+        bytes: image,
+    })?;
+    if let Some(list) = list {
+        outputs.push(Output {
+            name: list,
+            bytes: listing,
+        })?;
     }
+    Ok(outputs)
 }
 
 /// Assembles the source in a file to another, and lists it in a third if one is named.
@@ -76,6 +85,6 @@ pub fn assemble_file<F: CommandFiles>(
     files.see_to(&plan)?;
     let text = read_file(alloc, files, source)?;
     let program = program_of(alloc, text.as_slice(), list.is_some())?;
-    write_program(files, out, list, &program)?;
-    files.give_names()
+    let outputs = outputs_of(alloc, out, list, program)?;
+    write_named(outputs.as_slice(), files)
 }

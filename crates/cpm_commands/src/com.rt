@@ -1,34 +1,34 @@
 //! The command `com`.
-ghost use Rattle.std.specs.Prelude.{◌≡◌, ◌&&◌, ◌<◌, ℕ, IfErr, IfOk, None, OnOk, map, option_map, slice_get, slice_index_or};
-ghost use Rattle.cpm_commands.specs.Com.{AreCuesRead, AreCuesRefused, AreDrivesRead, AreDrivesRefused, AreDrivesWritten, AreDrivesUnwritten};
-ghost use Rattle.cpm_commands.specs.Com.{HasRunProgram, IsComStopped, IsDriveUnwritten, IsDriveWritten, IsStartRead, IsStartRefused, IsTailOf};
-ghost use Rattle.cpm_commands.specs.Com.{most_typed, plan_of_com, source_of, steps_asked};
+ghost use Rattle.std.specs.Prelude.{◌≡◌, ◌&&◌, ◌<◌, ◌≤◌, ◌+◌, ◌++◌, IfErr, IfOk, IsOk, OnOk, Some, map, option_map, vec_len};
+ghost use Rattle.std.specs.Vec.{vec_capacity};
+ghost use Rattle.cpm_batch.specs.Outputs.{named_image};
+ghost use Rattle.cpm_commands.specs.Com.{AreCuesRead, AreCuesRefused, AreDrivesRead, AreDrivesRefused};
+ghost use Rattle.cpm_commands.specs.Com.{HasRunProgram, IsComStopped, IsStartRead, IsStartRefused, IsTailOf};
+ghost use Rattle.cpm_commands.specs.Com.{drive_outputs, most_typed, plan_of_com, source_of, steps_asked};
+ghost use Rattle.cpm_commands.specs.Messages.{HasToldEnd};
 ghost use Rattle.cpm_commands.specs.Plan.{plan_view};
+ghost use Rattle.cpm_commands.specs.Record.{HasEndedRecord};
 ghost use Rattle.cpm_host.specs.Program.{AreFit, program_given};
 ghost use Rattle.cpm_host.specs.Tails.{IsTailRefusal};
 ghost use Rattle.cpm_run.specs.Settled.{streams};
+ghost use Rattle.cpm_store.specs.Writes.{named_output};
 
 use crate::disk::read_image;
-use crate::files::{CommandFiles, read_file, write_file};
+use crate::files::{CommandFiles, read_file, write_outputs};
+use crate::messages::{Messages, tell_end};
 use crate::plan::{FilePlan, FileRole, OutputNaming, add_all, add_file, add_if_any};
-use crate::record::KeyRecord;
+use crate::record::{KeyRecord, end_record};
 use cpm_geom::Image;
 use cpm_host::{
-    ComTask, Cue, CuedKeys, Ending, HostError, MOST_KEYS, ProgramPlay, ProgramStart, RunStage,
-    RunWatcher, Script, Source, Tail, cues_of, run_program, tail_of,
+    ComTask, Cue, CuedKeys, HostError, MOST_KEYS, ProgramPlay, ProgramStart, RunStage, RunWatcher,
+    Source, Tail, cues_of, run_program, tail_of,
 };
+use cpm_store::Output;
 use std::alloc::{AllocError, Global};
 use std::io::{Read, Write};
 
 /// How many steps a program has at most where nobody says.
 const STEPS: u64 = 1_000_000;
-
-/// What a program came to: how it ended, and whether it was to stop where it waits for a key, and did.
-#[derive(Clone, Copy, Debug, Drop)]
-pub struct ComEnd {
-    pub ending: Ending,
-    pub waits: bool,
-}
 
 /// The most keys that are typed at a program: a record is a script, which has not more.
 pub fn most_keys(task: &ComTask<'_>) -> usize
@@ -123,13 +123,7 @@ fn read_script<F: CommandFiles>(
         return Ok(Vec::new(alloc));
     };
     let text = read_file(alloc, files, name)?;
-    cues_of(
-        alloc,
-        Script {
-            name,
-            text: text.as_slice(),
-        },
-    )
+    cues_of(alloc, name, text.as_slice())
 }
 
 /// Where the keys of the program come from.
@@ -157,53 +151,40 @@ fn steps_asked(task: &ComTask<'_>) -> u64
     task.steps.unwrap_or(unasked)
 }
 
-/// The name at a place, if there is one.
-fn name_at<'a>(names: &[&'a str], place: usize) -> Option<&'a str>
-    ensures { option_map (λ n. n.now) result ≡ slice_get (map (λ n. n.now) names.now) place }
-{
-    match names.get(place) {
-        Some(name) => Some(name),
-        None => None,
-    }
-}
-
-/// Takes the drive at a place, if there is one.
-fn take_drive(drives: &mut [Option<Image>; 4], place: usize) -> Option<Image>
-    requires { place < 4 }
-    ensures drive { result ≡ slice_index_or drives.old place None }
-    ensures rest { (other : ℕ) → place < other → slice_index_or drives.new other None ≡ slice_index_or drives.old other None }
-{
-    drives[place].take()
-}
-
-/// Writes a drive, if there is one and a file is named for it.
-fn write_drive<F: CommandFiles>(
-    out: Option<&str>,
+/// Adds the image of a drive to what is written, if there is one.
+fn add_drive<'a>(
+    outputs: &mut Vec<Output<'a>>,
+    name: &'a str,
     drive: Option<Image>,
-    files: &mut F,
-) -> Result<(), HostError>
-    ensures written { OnOk result (IsDriveWritten F.does (option_map (λ n. n.now) out.entry) drive files.old files.new) }
-    ensures refusal { IfErr result (IsDriveUnwritten F.does (option_map (λ n. n.now) out.entry) drive files.old files.new) }
+) -> Result<(), AllocError>
+    ensures added { OnOk result (map named_output outputs.new.items ≡ map named_output outputs.old.items ++ named_image (Some name.now) drive) }
+    ensures grown { vec_len outputs.new ≤ vec_len outputs.old + 1 }
+    ensures capacity { vec_capacity outputs.old ≤ vec_capacity outputs.new }
+    ensures room { vec_len outputs.old < vec_capacity outputs.old → IsOk result }
 {
-    match (out, drive) {
-        (Some(out), Some(image)) => write_file(files, out, &image.into_bytes()),
-        _ => Ok(()),
+    if let Some(image) = drive {
+        outputs.push(Output {
+            name,
+            bytes: image.into_bytes(),
+        })?;
     }
+    Ok(())
 }
 
-/// Writes the drives A to D, as far as files are named for them.
-fn write_drives<F: CommandFiles>(
-    outs: &[&str],
-    mut drives: [Option<Image>; 4],
-    files: &mut F,
-) -> Result<(), HostError>
-    ensures written { OnOk result (AreDrivesWritten F.does (map (λ n. n.now) outs.now) drives files.old files.new) }
-    ensures refusal { IfErr result (AreDrivesUnwritten F.does (map (λ n. n.now) outs.now) drives files.old files.new) }
+/// Adds the images of the drives A to D, as far as files are named for them. Memory is not refused where there is room for four.
+fn add_drives<'a>(
+    outputs: &mut Vec<Output<'a>>,
+    outs: &[&'a str],
+    drives: [Option<Image>; 4],
+) -> Result<(), AllocError>
+    ensures added { OnOk result (map named_output outputs.new.items
+        ≡ map named_output outputs.old.items ++ drive_outputs (map (λ n. n.now) outs.now) drives) }
+    ensures room { vec_len outputs.old + 4 ≤ vec_capacity outputs.old → IsOk result }
 {
-    write_drive(name_at(outs, 0), take_drive(&mut drives, 0), files)?;
-    write_drive(name_at(outs, 1), take_drive(&mut drives, 1), files)?;
-    write_drive(name_at(outs, 2), take_drive(&mut drives, 2), files)?;
-    write_drive(name_at(outs, 3), take_drive(&mut drives, 3), files)
+    for (name, drive) in outs.iter().zip(drives) {
+        add_drive(outputs, name, drive)?;
+    }
+    Ok(())
 }
 
 /// What its run begins.
@@ -222,8 +203,8 @@ fn is_idle(waits: bool, stops_idle: bool) -> bool
     waits && stops_idle
 }
 
-/// Runs the program in a file, shows its text as it comes, and writes its drives where files are named for them, once it has run.
-pub fn run_program_file<F: CommandFiles, I: Read, W: Write, R: KeyRecord, T: RunWatcher>(
+/// Runs the program in a file, shows its text as it comes, writes its drives where files are named for them, once it has run, and tells how it ended.
+pub fn run_program_file<F: CommandFiles, I: Read, W: Write, R: KeyRecord, T: RunWatcher + Messages>(
     alloc: Global,
     task: &ComTask<'_>,
     files: &mut F,
@@ -231,16 +212,19 @@ pub fn run_program_file<F: CommandFiles, I: Read, W: Write, R: KeyRecord, T: Run
     out: &mut W,
     record: &mut R,
     watcher: &mut T,
-) -> Result<ComEnd, HostError>
-    ensures ran { IfOk result (λ end. HasRunProgram F.does F.sees_to F.gives_names task.now end
+) -> Result<(), HostError>
+    ensures ran { OnOk result (HasRunProgram F.does F.sees_to F.gives_names (HasEndedRecord R.ends R.contents (R.contents «record».new) «record».new)
+        (λ ending waits. HasToldEnd T.tells task.now.is_quiet ending waits watcher.new) task.now
         (streams (I.remaining input.old) (I.remaining input.new) (W.contents out.old) (W.contents out.new) (R.contents «record».old) (R.contents «record».new))
         files.old files.new) }
-    ensures refusal { IfErr result (IsComStopped F.does F.sees_to F.gives_names task.now
+    ensures refusal { IfErr result (IsComStopped F.does F.sees_to F.gives_names (HasEndedRecord R.ends R.contents (R.contents «record».new) «record».new)
+        task.now
         (streams (I.remaining input.old) (I.remaining input.new) (W.contents out.old) (W.contents out.new) (R.contents «record».old) (R.contents «record».new))
         files.old files.new) }
 {
     let tail = tail_if_any(alloc, task)?;
     let plan = plan_of(alloc, task)?;
+    let mut outputs = Vec::with_capacity(alloc, 4)?;
     files.see_to(&plan)?;
     let start = read_start(alloc, task, tail, files)?;
     let cues = read_script(alloc, task.keys, files)?;
@@ -256,12 +240,21 @@ pub fn run_program_file<F: CommandFiles, I: Read, W: Write, R: KeyRecord, T: Run
         record,
         watcher,
     )?;
-    record.end()?;
-    let ProgramPlay { ran, waits, .. } = play;
-    write_drives(&task.outs, ran.drives, files)?;
+    end_record(record)?;
+    let ProgramPlay {
+        ending,
+        drives,
+        waits,
+        ..
+    } = play;
+    add_drives(&mut outputs, &task.outs, drives)?;
+    write_outputs(outputs.as_slice(), files)?;
     files.give_names()?;
-    Ok(ComEnd {
-        ending: ran.ending,
-        waits: is_idle(waits, task.stops_idle),
-    })
+    tell_end(
+        ending,
+        is_idle(waits, task.stops_idle),
+        task.is_quiet,
+        watcher,
+    );
+    Ok(())
 }

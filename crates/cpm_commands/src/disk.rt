@@ -2,12 +2,13 @@
 ghost use Rattle.std.specs.Prelude.{◌≡◌, ◌<◌, [], IfErr, IfOk, OnOk, map};
 ghost use Rattle.cpm_commands.specs.Disk.{ArePut, AreNamedOn, AreRemoved, HasChanged, HasListedDisk, HasMadeDisk, HasRemoved, HasRenamedOn};
 ghost use Rattle.cpm_commands.specs.Disk.{IsChangeRefused, IsDiskListRefused, IsFilePut, IsFileUnput, IsDiskRead, IsDiskUnread};
-ghost use Rattle.cpm_commands.specs.Disk.{IsImageUnwritten, IsImageWritten, IsNewRefused, IsNoRename, IsNotRemoved, IsDiskOpened, IsPutNamed, IsPutStopped};
+ghost use Rattle.cpm_commands.specs.Disk.{IsNewRefused, IsNoRename, IsNotRemoved, IsDiskOpened, IsPutNamed, IsPutStopped};
 ghost use Rattle.cpm_commands.specs.Disk.{IsPutUnnamed, IsPutWord, IsRemovalStopped, IsRename, IsRenameRefused, IsUnnamedOn, IsDiskUnopened};
-ghost use Rattle.cpm_commands.specs.Disk.{is_file_among, plan_of_change, plan_of_new, with_new};
+ghost use Rattle.cpm_commands.specs.Disk.{disk_outputs, is_file_among, plan_of_change, plan_of_new, with_new};
+ghost use Rattle.cpm_commands.specs.Files.{AreUnwritten, AreWritten};
 ghost use Rattle.cpm_commands.specs.Plan.{plan_view};
 
-use crate::files::{CommandFiles, read_file, write_file};
+use crate::files::{CommandFiles, read_file, write_named};
 use crate::plan::{FilePlan, FileRole, OutputNaming};
 use cpm_disk_commands::{
     DiskCommandError, base_name, check_new, file_name, image_of, list_files, matching_files,
@@ -16,6 +17,7 @@ use cpm_disk_commands::{
 use cpm_geom::Image;
 use cpm_host::{HostError, shown};
 use cpm_image_files::FileName;
+use cpm_store::Output;
 use std::alloc::{AllocError, Global};
 use std::io::Write;
 
@@ -34,12 +36,14 @@ pub(crate) fn read_image<F: CommandFiles>(
 
 /// Makes a file hold an image, and gives it its name.
 fn write_image<F: CommandFiles>(name: &str, image: Image, files: &mut F) -> Result<(), HostError>
-    ensures written { OnOk result (IsImageWritten F.does F.gives_names name.now image files.old files.new) }
-    ensures refusal { IfErr result (λ e. IsImageUnwritten F.does F.gives_names name.now image files.old files.new e) }
+    ensures written { OnOk result (AreWritten F.does F.gives_names (disk_outputs name.now image) files.old files.new) }
+    ensures refusal { IfErr result (AreUnwritten F.does F.gives_names (disk_outputs name.now image) files.old files.new) }
 {
-    let bytes = image.into_bytes();
-    write_file(files, name, bytes.as_slice())?;
-    files.give_names()
+    let outputs = [Output {
+        name,
+        bytes: image.into_bytes(),
+    }];
+    write_named(&outputs, files)
 }
 
 /// The file of an image that is made.

@@ -1,12 +1,15 @@
 //! The files of a command.
-ghost use Rattle.std.specs.Prelude.{◌≡◌, Option, Some, None, IfErr, IfOk, OnOk};
-ghost use Rattle.cpm_commands.specs.Files.{IsUnread, IsUnwritten};
+ghost use Rattle.std.specs.Prelude.{◌≡◌, Bool, Option, Some, None, IfErr, IfOk, OnOk, map};
+ghost use Rattle.cpm_commands.specs.Files.{AreUnwritten, AreWritten, IsUnread, IsUnwritten, IsWritingStopped};
 ghost use Rattle.cpm_commands.specs.Plan.{Plan, plan_view};
 ghost use Rattle.cpm_host.specs.declared.error.HostError.{HostError};
-ghost use Rattle.cpm_store.specs.Log.{Gave, Missed, Wrote};
+ghost use Rattle.cpm_store.specs.Files.{StoreName};
+ghost use Rattle.cpm_store.specs.Log.{AreWrites, Gave, LogLeadsBy, Missed};
+ghost use Rattle.cpm_store.specs.Writes.{named_output};
 
 use crate::plan::FilePlan;
 use cpm_host::{HostError, ReadError, RunError, Store, StoreError, shown};
+use cpm_store::{Output, write_all};
 use std::alloc::Global;
 
 /// The files of a command: a store that sees to all that the command names before any of it is read, and gives what was written its names together in the end.
@@ -23,11 +26,19 @@ pub trait CommandFiles: Store {
         ensures seen { OnOk result (sees_to self.old (plan_view plan.now) None self.new) }
         ensures refused { IfErr result (λ e. sees_to self.old (plan_view plan.now) (Some e) self.new) };
 
+    // That something has a name, or nothing has it.
+    ghost tells_name: { Self → StoreName → Bool → Type 0 };
+
+    // That a folder has it, or none.
+    ghost tells_folder: { Self → StoreName → Bool → Type 0 };
+
     /// Whether something has a name.
-    fn has(&self, name: &str) -> bool;
+    fn has(&self, name: &str) -> bool
+        ensures { tells_name self.now name.now result };
 
     /// Whether a folder has a name.
-    fn is_folder(&self, name: &str) -> bool;
+    fn is_folder(&self, name: &str) -> bool
+        ensures { tells_folder self.now name.now result };
 
     /// Gives what was written its names: to all files of the plan, or where one can't have its own it says which.
     fn give_names(&mut self) -> Result<(), HostError>
@@ -53,18 +64,38 @@ pub(crate) fn read_file<F: CommandFiles>(
     }
 }
 
-/// Makes a file hold these bytes.
-pub(crate) fn write_file<F: CommandFiles>(
-    files: &mut F,
-    name: &str,
-    bytes: &[u8],
-) -> Result<(), HostError>
-    ensures wrote { OnOk result (F.does files.old (Wrote name.now bytes.now) files.new) }
-    ensures refusal { IfErr result (λ e. IsUnwritten name.now e × F.does files.old (Missed name.now) files.new) }
+/// How a file that can't be written is refused.
+fn unwritten(name: &str, cause: StoreError) -> HostError
+    ensures { IsUnwritten name.now result }
 {
-    match files.write(name, bytes) {
-        Ok(()) => Ok(()),
-        Err(StoreError::Device) => Err(HostError::RunRefused(RunError::WriteFault(shown(name)))),
-        Err(StoreError::OutOfMemory) => Err(HostError::OutOfMemory),
+    match cause {
+        StoreError::Device => HostError::RunRefused(RunError::WriteFault(shown(name))),
+        StoreError::OutOfMemory => HostError::OutOfMemory,
     }
+}
+
+/// Writes files in order, up to the first that can't be written.
+pub(crate) fn write_outputs<F: CommandFiles>(
+    outputs: &[Output<'_>],
+    files: &mut F,
+) -> Result<(), HostError>
+    ensures wrote { OnOk result (LogLeadsBy F.does (AreWrites (map named_output outputs.now)) files.old files.new) }
+    ensures refusal { IfErr result (IsWritingStopped F.does (map named_output outputs.now) files.old files.new) }
+{
+    match write_all(outputs, files) {
+        Ok(()) => Ok(()),
+        Err(error) => Err(unwritten(outputs[error.place].name, error.cause)),
+    }
+}
+
+/// Writes files in order, and gives them their names.
+pub(crate) fn write_named<F: CommandFiles>(
+    outputs: &[Output<'_>],
+    files: &mut F,
+) -> Result<(), HostError>
+    ensures written { OnOk result (AreWritten F.does F.gives_names (map named_output outputs.now) files.old files.new) }
+    ensures refusal { IfErr result (AreUnwritten F.does F.gives_names (map named_output outputs.now) files.old files.new) }
+{
+    write_outputs(outputs, files)?;
+    files.give_names()
 }

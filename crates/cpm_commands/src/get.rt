@@ -2,21 +2,21 @@
 ghost use Rattle.std.specs.Prelude.{◌≡◌, ◌<◌, [], ◌∷◌, ◌++◌, ◌⊎◌, IfErr, IfOk, OnOk, map, option_map, string_bytes};
 ghost use Rattle.std.specs.Io.KnownBytes.{Appends};
 ghost use Rattle.cpm_command_line.specs.Shown.{shown_of};
-ghost use Rattle.cpm_store.specs.Log.{LogLeads, writes_of};
-ghost use Rattle.cpm_commands.specs.Get.{AreFilesTaken, AreUnwritten, AreWritten, HasGot, HasNoPath};
-ghost use Rattle.cpm_commands.specs.Get.{HasPath, HasTakenNamed, IsCrowded, IsDestination, IsFileTaken};
-ghost use Rattle.cpm_commands.specs.Get.{IsFileUntaken, IsGetEnded, IsGetRefused, IsGetUnended, IsNoFolder, IsTakingRefused, IsTakingStopped, IsWritingStopped};
-ghost use Rattle.cpm_commands.specs.Get.{naming_of, path_line, path_of, paths_text, plan_of_get, taken_view};
+ghost use Rattle.cpm_store.specs.Writes.{named_output};
+ghost use Rattle.cpm_commands.specs.Get.{AreFilesTaken, HasGot, HasNoPath, HasPath, HasTakenNamed};
+ghost use Rattle.cpm_commands.specs.Get.{IsCrowded, IsDestination, IsFileTaken, IsFileUntaken, IsGetEnded, IsGetRefused, IsGetUnended, IsNoFolder};
+ghost use Rattle.cpm_commands.specs.Get.{IsTakingRefused, IsTakingStopped, naming_of, path_line, path_of, paths_text, plan_of_get, taken_outputs};
 ghost use Rattle.cpm_commands.specs.Plan.{plan_view};
 ghost use Rattle.cpm_commands.specs.Report.{IsUnprinted};
 
 use crate::disk::{files_named, read_image};
-use crate::files::{CommandFiles, write_file};
+use crate::files::{CommandFiles, write_named};
 use crate::plan::{FilePlan, FileRole, OutputNaming};
 use cpm_disk_commands::{get_file, host_name};
 use cpm_geom::Image;
 use cpm_host::{HostError, ShownWord, shown};
 use cpm_image_files::FileName;
+use cpm_store::Output;
 use std::alloc::{AllocError, Global};
 use std::io;
 use std::io::Write;
@@ -45,11 +45,11 @@ enum Destination<'a> {
     OneFile(&'a str),
 }
 
-/// A file that was taken out of an image, and where it is to go.
+/// Files that were taken out of an image: the path to which each is to go, and its bytes.
 #[derive(Drop)]
-struct TakenFile {
-    path: String,
-    bytes: Vec<u8>,
+struct TakenFiles {
+    paths: Vec<String>,
+    contents: Vec<Vec<u8>>,
 }
 
 /// Where files go, by the name that is given for it, if one is.
@@ -87,7 +87,7 @@ fn path_of(
     }
 }
 
-/// Takes a file out of an image.
+/// Takes a file out of an image: its path, and its bytes.
 fn take_file(
     alloc: Global,
     image: &Image,
@@ -95,13 +95,13 @@ fn take_file(
     file: &FileName,
     to: Destination<'_>,
     is_text: bool,
-) -> Result<TakenFile, HostError>
-    ensures taken { IfOk result (λ t. IsFileTaken image.now to.entry is_text file.now (taken_view t)) }
+) -> Result<(String, Vec<u8>), HostError>
+    ensures taken { IfOk result (λ t. IsFileTaken image.now to.entry is_text file.now (string_bytes t.0, t.1.items)) }
     ensures refusal { IfErr result (λ e. IsFileUntaken name.now image.now to.entry file.now e) }
 {
     let path = path_of(alloc, name, file, to)?;
     let bytes = get_file(alloc, image, name, file, is_text)?;
-    Ok(TakenFile { path, bytes })
+    Ok((path, bytes))
 }
 
 /// Takes files out of an image.
@@ -112,15 +112,18 @@ fn take_all(
     named: &[FileName],
     to: Destination<'_>,
     is_text: bool,
-) -> Result<Vec<TakenFile>, HostError>
-    ensures taken { IfOk result (λ v. AreFilesTaken image.now to.entry is_text named.now (map taken_view v.items)) }
+) -> Result<TakenFiles, HostError>
+    ensures taken { IfOk result (λ t. AreFilesTaken image.now to.entry is_text named.now (taken_outputs t.paths.items t.contents.items)) }
     ensures refusal { IfErr result (λ e. IsTakingStopped name.now image.now to.entry is_text named.now e) }
 {
-    let mut all = Vec::new(alloc);
+    let mut paths = Vec::new(alloc);
+    let mut contents = Vec::new(alloc);
     for file in named {
-        all.push(take_file(alloc, image, name, file, to, is_text)?)?;
+        let (path, bytes) = take_file(alloc, image, name, file, to, is_text)?;
+        paths.push(path)?;
+        contents.push(bytes)?;
     }
-    Ok(all)
+    Ok(TakenFiles { paths, contents })
 }
 
 /// Refuses several files that are to go to one.
@@ -143,15 +146,34 @@ fn take_named<F: CommandFiles>(
     user: u8,
     how: GetOptions<'_>,
     files: &F,
-) -> Result<Vec<TakenFile>, HostError>
+) -> Result<TakenFiles, HostError>
     requires { user < 16 }
-    ensures taken { IfOk result (λ v. HasTakenNamed image.now (map (λ w. w.now) patterns.now) user how.entry (map taken_view v.items)) }
+    ensures taken { IfOk result (λ t. HasTakenNamed image.now (map (λ w. w.now) patterns.now) user how.entry
+        (taken_outputs t.paths.items t.contents.items)) }
     ensures refusal { IfErr result (λ e. IsTakingRefused name.now image.now (map (λ w. w.now) patterns.now) user how.entry e) }
 {
     let named = files_named(alloc, image, name, patterns, user)?;
     let to = destination_of(how.to, files);
     check_room(to, named.as_slice())?;
     take_all(alloc, image, name, named.as_slice(), to, how.is_text)
+}
+
+/// What is written of files that were taken.
+fn outputs_of<'a>(
+    alloc: Global,
+    paths: &'a [String],
+    contents: Vec<Vec<u8>>,
+) -> Result<Vec<Output<'a>>, AllocError>
+    ensures { IfOk result (λ v. map named_output v.items ≡ taken_outputs paths.entry.now contents.items) }
+{
+    let mut outputs = Vec::new(alloc);
+    for (path, bytes) in paths.iter().zip(contents) {
+        outputs.push(Output {
+            name: path.as_str(),
+            bytes,
+        })?;
+    }
+    Ok(outputs)
 }
 
 /// How the files take their names.
@@ -169,15 +191,15 @@ fn naming_of(is_forced: bool) -> OutputNaming
 fn plan_of<'a>(
     alloc: Global,
     image: &'a str,
-    taken: &'a [TakenFile],
+    outputs: &'a [Output<'a>],
     is_forced: bool,
 ) -> Result<FilePlan<'a>, AllocError>
-    ensures { IfOk result (λ p. plan_view p ≡ plan_of_get image.now (map taken_view taken.now) is_forced) }
+    ensures { IfOk result (λ p. plan_view p ≡ plan_of_get image.now (map named_output outputs.now) is_forced) }
 {
     let mut plan = FilePlan::new(alloc, naming_of(is_forced));
     plan.add_input(image, FileRole::Image)?;
-    for file in taken {
-        plan.add_output(file.path.as_str(), FileRole::Plain)?;
+    for output in outputs {
+        plan.add_output(output.name, FileRole::Plain)?;
     }
     Ok(plan)
 }
@@ -202,12 +224,12 @@ fn add_path(text: &mut String, path: &str) -> Result<(), AllocError>
 }
 
 /// The paths of files, a line each.
-fn text_of(alloc: Global, taken: &[TakenFile]) -> Result<String, AllocError>
-    ensures { IfOk result (λ text. string_bytes text ≡ paths_text (map taken_view taken.now)) }
+fn text_of(alloc: Global, outputs: &[Output<'_>]) -> Result<String, AllocError>
+    ensures { IfOk result (λ text. string_bytes text ≡ paths_text (map named_output outputs.now)) }
 {
     let mut text = String::new(alloc);
-    for file in taken {
-        add_path(&mut text, file.path.as_str())?;
+    for output in outputs {
+        add_path(&mut text, output.name)?;
     }
     Ok(text)
 }
@@ -222,53 +244,37 @@ fn write_text<W: Write>(out: &mut W, text: &str) -> io::Result<()>
 }
 
 /// Prints the paths to which files would be written.
-fn print_paths<W: Write>(alloc: Global, taken: &[TakenFile], out: &mut W) -> Result<(), HostError>
-    ensures printed { OnOk result (Appends (W.contents out.old) (W.contents out.new) (paths_text (map taken_view taken.now))) }
+fn print_paths<W: Write>(
+    alloc: Global,
+    outputs: &[Output<'_>],
+    out: &mut W,
+) -> Result<(), HostError>
+    ensures printed { OnOk result (Appends (W.contents out.old) (W.contents out.new) (paths_text (map named_output outputs.now))) }
     ensures refusal { IfErr result IsUnprinted }
 {
-    let text = text_of(alloc, taken)?;
+    let text = text_of(alloc, outputs)?;
     match write_text(out, text.as_str()) {
         Ok(()) => Ok(()),
         Err(reason) => Err(HostError::OutputUnwritable(reason)),
     }
 }
 
-/// Writes files that were taken out of an image.
-fn write_all<F: CommandFiles>(taken: &[TakenFile], files: &mut F) -> Result<(), HostError>
-    ensures written { OnOk result (LogLeads F.does (writes_of (map taken_view taken.now)) files.old files.new) }
-    ensures refusal { IfErr result (λ e. IsWritingStopped F.does (map taken_view taken.now) files.old files.new e) }
-{
-    for file in taken {
-        write_file(files, file.path.as_str(), file.bytes.as_slice())?;
-    }
-    Ok(())
-}
-
-/// Writes files that were taken out of an image, and gives them their names.
-fn write_taken<F: CommandFiles>(taken: &[TakenFile], files: &mut F) -> Result<(), HostError>
-    ensures written { OnOk result (AreWritten F.does F.gives_names (map taken_view taken.now) files.old files.new) }
-    ensures refusal { IfErr result (λ e. AreUnwritten F.does F.gives_names (map taken_view taken.now) files.old files.new e) }
-{
-    write_all(taken, files)?;
-    files.give_names()
-}
-
 /// Prints the paths to which files would be written, if no more is asked; else writes them.
 fn end_get<F: CommandFiles, W: Write>(
     alloc: Global,
-    taken: &[TakenFile],
+    outputs: &[Output<'_>],
     is_dry: bool,
     files: &mut F,
     out: &mut W,
 ) -> Result<(), HostError>
-    ensures ended { OnOk result (IsGetEnded F.does F.gives_names is_dry (map taken_view taken.now) files.old files.new
+    ensures ended { OnOk result (IsGetEnded F.does F.gives_names is_dry (map named_output outputs.now) files.old files.new
         (W.contents out.old) (W.contents out.new) out.old out.new) }
-    ensures refusal { IfErr result (λ e. IsGetUnended F.does F.gives_names is_dry (map taken_view taken.now) files.old files.new out.old out.new e) }
+    ensures refusal { IfErr result (λ e. IsGetUnended F.does F.gives_names is_dry (map named_output outputs.now) files.old files.new out.old out.new e) }
 {
     if is_dry {
-        print_paths(alloc, taken, out)
+        print_paths(alloc, outputs, out)
     } else {
-        write_taken(taken, files)
+        write_named(outputs, files)
     }
 }
 
@@ -290,8 +296,11 @@ pub fn get_files<F: CommandFiles, W: Write>(
         out.old out.new e) }
 {
     let image = read_image(alloc, name, files)?;
-    let taken = take_named(alloc, &image, name, patterns, user, how, files)?;
-    let plan = plan_of(alloc, name, taken.as_slice(), how.is_forced)?;
+    let TakenFiles { paths, contents } = take_named(
+        alloc, &image, name, patterns, user, how, files,
+    )?;
+    let outputs = outputs_of(alloc, paths.as_slice(), contents)?;
+    let plan = plan_of(alloc, name, outputs.as_slice(), how.is_forced)?;
     files.see_to(&plan)?;
-    end_get(alloc, taken.as_slice(), how.is_dry, files, out)
+    end_get(alloc, outputs.as_slice(), how.is_dry, files, out)
 }

@@ -1,18 +1,21 @@
 //! The command `run`.
 ghost use Rattle.std.specs.Prelude.{◌≡◌, ◌++◌, ◌&&◌, IfErr, IfOk, None, OnOk, map, option_map, string_bytes, zip};
+ghost use Rattle.cpm_commands.specs.Messages.{HasToldIllegal};
 ghost use Rattle.cpm_commands.specs.Plan.{named_files, plan_view};
+ghost use Rattle.cpm_commands.specs.Record.{HasEndedRecord};
 ghost use Rattle.cpm_commands.specs.Report.{IsReported, report_text};
 ghost use Rattle.cpm_commands.specs.Run.{HasRunAll, HasRunSessions, IsConfigRead, IsConfigRefused, IsEndStopped, IsRunAllStopped, IsRunStopped};
 ghost use Rattle.cpm_commands.specs.Run.{IsRunUnseen, plan_by, plan_of_run, record_mark, record_marks, run_inputs, run_outputs, script_names};
 ghost use Rattle.cpm_commands.specs.Run.{session_inputs, session_outputs};
-ghost use Rattle.cpm_commands.specs.Typed.{is_typed_at};
+ghost use Rattle.cpm_commands.specs.Typed.{IsScriptKept, is_typed_at, typed_script};
 ghost use Rattle.cpm_run.specs.Settled.{streams};
 
 use crate::files::{CommandFiles, read_file};
+use crate::messages::{Messages, tell_all_illegal};
 use crate::plan::{
     FilePlan, FileRole, OutputNaming, PlannedFile, add_file, add_if_any, add_strings,
 };
-use crate::record::KeyRecord;
+use crate::record::{KeyRecord, end_record};
 use crate::report::{LineWriter, print_report};
 use crate::typed::{drop_script, is_typed_at};
 use cpm_host::{
@@ -145,20 +148,33 @@ fn plan_of<'a>(
     })
 }
 
+/// The script of the session that is typed at, if there is one.
+fn typed_script<'a>(config: &Config, scripts: &'a [String], typed: Option<&str>) -> Option<&'a str>
+    ensures { option_map (λ n. n.now) result
+        ≡ typed_script (option_map (λ n. n.now) typed.entry) (zip config.now.sessions.items scripts.entry.now) }
+{
+    for (session, script) in config.sessions.iter().zip(scripts) {
+        if is_typed_at(typed, session) {
+            return Some(script.as_str());
+        }
+    }
+    None
+}
+
 /// The script of the session that is typed at, if something has its name.
 fn kept_script<'a, F: CommandFiles>(
     config: &Config,
     scripts: &'a [String],
     typed: Option<&str>,
     files: &F,
-) -> Option<&'a str> {
-    for (session, script) in config.sessions.iter().zip(scripts) {
-        let name = script.as_str();
-        if is_typed_at(typed, session) && files.has(name) {
-            return Some(name);
-        }
+) -> Option<&'a str>
+    ensures { IsScriptKept (F.tells_name files.now) (typed_script (option_map (λ n. n.now) typed.entry) (zip config.now.sessions.items scripts.entry.now))
+        (option_map (λ n. n.now) result) }
+{
+    match typed_script(config, scripts, typed) {
+        Some(name) if files.has(name) => Some(name),
+        _ => None,
     }
-    None
 }
 
 /// The file for the keys of a session. That of the one that is typed at wants a key, if it is to be kept.
@@ -194,20 +210,23 @@ fn records_of<'a>(
     Ok(records)
 }
 
-/// Gives what was written its names, and prints how each session ended: also where a file can't have its name.
-fn end_run<F: CommandFiles, W: LineWriter, E: Write>(
+/// Gives what was written its names, prints how each session ended, and tells the bytes at which one ended that are no instruction: also where a file can't
+/// have its name.
+fn end_run<F: CommandFiles, W: LineWriter, M: Messages>(
     alloc: Global,
     report: &Report,
     files: &mut F,
     out: &mut W,
-    errors: &mut E,
+    messages: &mut M,
 ) -> Result<(), HostError>
     ensures ended { OnOk result (F.gives_names files.old None files.new
         × IsReported (W.contents out.old) (W.contents out.new) (report_text (zip report.now.sessions.items report.now.idle.items))) }
     ensures refusal { IfErr result (IsEndStopped F.gives_names files.old files.new) }
+    ensures told { HasToldIllegal M.tells report.now.sessions.items messages.new }
 {
     let named = files.give_names();
-    let printed = print_report(alloc, report, out, errors);
+    let printed = print_report(alloc, report, out);
+    tell_all_illegal(&report.sessions, messages);
     named?;
     printed
 }
@@ -239,10 +258,10 @@ fn run_all<F: CommandFiles, I: Read, W: Write, R: KeyRecord, T: SessionsWatcher>
     record: &mut R,
     watcher: &mut T,
 ) -> Result<Report, HostError>
-    ensures ran { IfOk result (λ report. HasRunAll F.does task.now config.old scripts.now report
+    ensures ran { IfOk result (λ report. HasRunAll F.does F.tells_name task.now config.old scripts.now report
         (streams (I.remaining input.old) (I.remaining input.new) (W.contents out.old) (W.contents out.new) (R.contents «record».old) (R.contents «record».new))
         files.old files.new) }
-    ensures refusal { IfErr result (IsRunAllStopped F.does task.now config.old scripts.now
+    ensures refusal { IfErr result (IsRunAllStopped F.does F.tells_name task.now config.old scripts.now
         (streams (I.remaining input.old) (I.remaining input.new) (W.contents out.old) (W.contents out.new) (R.contents «record».old) (R.contents «record».new))
         files.old files.new) }
 {
@@ -266,23 +285,25 @@ pub fn run_sessions<
     F: CommandFiles,
     I: Read,
     W: LineWriter,
-    E: Write,
     R: KeyRecord,
-    T: SessionsWatcher,
+    T: SessionsWatcher + Messages,
 >(
     alloc: Global,
     task: &RunTask<'_>,
     files: &mut F,
     input: &mut I,
     out: &mut W,
-    errors: &mut E,
     record: &mut R,
     watcher: &mut T,
 ) -> Result<(), HostError>
-    ensures ran { OnOk result (HasRunSessions F.does F.sees_to F.gives_names task.now files.old files.new (I.remaining input.old) (I.remaining input.new)
-        (W.contents out.old) (W.contents out.new) (R.contents «record».old) (R.contents «record».new)) }
-    ensures refusal { IfErr result (IsRunStopped F.does F.sees_to F.gives_names task.now files.old files.new
-        (I.remaining input.old) (I.remaining input.new) (W.contents out.old) (W.contents out.new) (R.contents «record».old) (R.contents «record».new)) }
+    ensures ran { OnOk result (HasRunSessions F.does F.sees_to F.gives_names F.tells_name
+        (HasEndedRecord R.ends R.contents (R.contents «record».new) «record».new) (λ sessions. HasToldIllegal T.tells sessions watcher.new)
+        task.now files.old files.new (I.remaining input.old) (I.remaining input.new) (W.contents out.old) (W.contents out.new)
+        (R.contents «record».old) (R.contents «record».new)) }
+    ensures refusal { IfErr result (IsRunStopped F.does F.sees_to F.gives_names F.tells_name
+        (HasEndedRecord R.ends R.contents (R.contents «record».new) «record».new) (λ sessions. HasToldIllegal T.tells sessions watcher.new)
+        task.now files.old files.new (I.remaining input.old) (I.remaining input.new) (W.contents out.old) (W.contents out.new)
+        (R.contents «record».old) (R.contents «record».new)) }
 {
     let mut config = read_config(alloc, task.config, files)?;
     let scripts = script_names(alloc, &config, task.scripts)?;
@@ -298,9 +319,9 @@ pub fn run_sessions<
         record,
         watcher,
     )?;
-    let ended = end_run(alloc, &report, files, out, errors);
+    let ended = end_run(alloc, &report, files, out, watcher);
     // (what was typed is recorded also where what was played can't be written)
-    let recorded = record.end();
+    let recorded = end_record(record);
     ended?;
     recorded
 }

@@ -220,6 +220,8 @@ pub struct FileRules<'a> {
     pub has_outputs_here: bool,
     /// The folder that the scripts of sessions go to.
     pub scripts: Option<&'a str>,
+    /// Whether keys are typed on standard input.
+    pub is_typed_at: bool,
 }
 
 impl FileRules<'_> {
@@ -229,6 +231,15 @@ impl FileRules<'_> {
             folders: &[],
             has_outputs_here: false,
             scripts: None,
+            is_typed_at: false,
+        }
+    }
+
+    /// The files may lie anywhere, where keys are typed on standard input or not.
+    pub fn of_program(is_typed_at: bool) -> FileRules<'static> {
+        FileRules {
+            is_typed_at,
+            ..FileRules::none()
         }
     }
 

@@ -1,5 +1,5 @@
 //! The files of the machine that the program runs on.
-ghost use Rattle.std.specs.Prelude.{⊤, ◌≡◌, ◌≤◌, ◌⊎◌, None, IfErr, IfOk, vec_len};
+ghost use Rattle.std.specs.Prelude.{⊤, ◌≡◌, ◌≤◌, None, IfErr, IfOk, vec_len};
 ghost use Rattle.cpm_host.specs.Refusals.{IsFileRefusal, IsOutRefusal};
 ghost use Rattle.cpm_store.specs.Files.{CountsFailure};
 
@@ -10,6 +10,7 @@ use crate::held::LockableFiles;
 use crate::output::Outputs;
 use crate::plan::SeenFiles;
 use crate::refused::{CommandRefusal, RefusalDetail};
+use crate::repeated::RepeatedFiles;
 use crate::screen::{is_own_terminal, write_shown};
 use cpm_commands::{CommandFiles, FilePlan, OutputNaming};
 use cpm_host::{HostError, MOST_FILE, Store, StoreError, read_whole, shown};
@@ -45,7 +46,7 @@ pub fn found_of_input<T: Drop>(
 
 /// Fails where a file of this name can't be written.
 pub fn check_file(rt: &impl LockableFiles, outputs: Outputs, name: &str) -> Result<(), HostError>
-    ensures refusal { IfErr result (λ e. IsOutRefusal e ⊎ (e ≡ HostError.OutOfMemory)) }
+    ensures refusal { IfErr result (IsOutRefusal name.now) }
 {
     outputs
         .check(rt, name)
@@ -54,7 +55,7 @@ pub fn check_file(rt: &impl LockableFiles, outputs: Outputs, name: &str) -> Resu
 
 /// Why a file was not written.
 pub fn unwritable(name: &str, reason: io::Error) -> HostError
-    ensures { IsOutRefusal result ⊎ (result ≡ HostError.OutOfMemory) }
+    ensures { IsOutRefusal name.now result }
 {
     if reason.kind() == ErrorKind::OutOfMemory {
         HostError::OutOfMemory
@@ -68,7 +69,7 @@ pub fn unwritable(name: &str, reason: io::Error) -> HostError
 
 /// Why a file was not read.
 pub fn unreadable(name: &str, reason: io::Error) -> HostError
-    ensures { IsFileRefusal result }
+    ensures { IsFileRefusal name.now result }
 {
     if reason.kind() == ErrorKind::OutOfMemory {
         HostError::OutOfMemory
@@ -94,6 +95,8 @@ pub struct MachineFiles<'a, R: LockableFiles> {
     failures: u64,
     /// What is said of the last call that failed.
     detail: RefusalDetail,
+    /// The files that are read more than once.
+    repeated: RepeatedFiles,
 }
 
 impl<'a, R: LockableFiles> MachineFiles<'a, R> {
@@ -116,6 +119,7 @@ impl<'a, R: LockableFiles> MachineFiles<'a, R> {
             batch,
             failures: 0,
             detail: RefusalDetail::Nothing,
+            repeated: RepeatedFiles::none(rt.alloc()),
         }
     }
 
@@ -169,10 +173,24 @@ impl<'a, R: LockableFiles> MachineFiles<'a, R> {
         StoreError::Device
     }
 
-    /// All bytes of a file, which is looked at once more, as its links may have changed since it was seen to.
-    fn read_seen(&self, alloc: Global, name: &str) -> io::Result<Vec<u8>> {
+    /// All bytes of a file. What was read before is given again; else the file is looked at once more, as its links may have changed since it was seen to.
+    fn read_seen(&mut self, alloc: Global, name: &str) -> io::Result<Vec<u8>>
+        ensures { self.new.failures ≡ self.old.failures }
+    {
+        if let Some(bytes) = self.repeated.give(alloc, name)? {
+            return Ok(bytes);
+        }
         self.seen.bounds.admit(self.rt, name)?;
-        whole_file(self.rt, alloc, name)
+        let bytes = whole_file(self.rt, alloc, name)?;
+        self.repeated.keep(alloc, name, bytes.as_slice())?;
+        Ok(bytes)
+    }
+
+    /// Sees to the files of a plan.
+    fn see(&mut self, plan: &FilePlan<'_>) -> Result<(), CommandRefusal> {
+        self.seen = SeenFiles::of(self.rt, self.outputs, self.rules, plan)?;
+        self.repeated = RepeatedFiles::of(self.rt.alloc(), &plan.inputs)?;
+        Ok(())
     }
 
     /// Makes a file of these bytes, whose name is looked at once more. The terminal gets control bytes as text, if that is asked.
@@ -229,12 +247,13 @@ impl<R: LockableFiles> CommandFiles for MachineFiles<'_, R> {
 
     ghost gives_names = { λ _ _ _. ⊤ };
 
+    ghost tells_name = { λ _ _ _. ⊤ };
+
+    ghost tells_folder = { λ _ _ _. ⊤ };
+
     fn see_to(&mut self, plan: &FilePlan<'_>) -> Result<(), HostError> {
-        match SeenFiles::of(self.rt, self.outputs, self.rules, plan) {
-            Ok(seen) => {
-                self.seen = seen;
-                Ok(())
-            }
+        match self.see(plan) {
+            Ok(()) => Ok(()),
             Err(refused) => Err(self.keep(refused)),
         }
     }

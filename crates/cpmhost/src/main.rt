@@ -2,14 +2,11 @@
 #![tactic(auto)]
 
 ghost use Rattle.std.specs.Prelude.{IfErr};
-ghost use Rattle.cpm_command_line.specs.Line.{HasUsers};
 ghost use Rattle.cpm_host.specs.Refusals.{IsWordRefusal};
 
 mod batch;
 mod beside;
 mod bounds;
-mod com;
-mod disk;
 mod files;
 mod held;
 mod output;
@@ -19,31 +16,26 @@ mod plan;
 mod progress;
 mod record;
 mod refused;
+mod repeated;
 mod screen;
-mod sessions;
 mod stream;
+mod task;
 mod typing;
 
-use com::com;
-use cpm_commands::{assemble_file, check_image, debug_program, list_program};
-use cpm_flags::Cpu;
-use cpm_host::{HostError, Task, VERSION, asks_version, command, page_text};
-use disk::do_disk;
-use files::MachineFiles;
+use cpm_host::{HostError, Task, VERSION, asks_version, command};
 use held::LockableFiles;
 use output::Outputs;
-use patient::{PatientError, PatientInput, PatientOutput};
+use patient::{PatientError, PatientOutput};
 use refused::CommandRefusal;
-use screen::Screen;
-use sessions::run;
 use std::env::Env;
 use std::fs::{File, OpenOptions};
-use std::io::{BufReader, BufWriter, ErrorKind, IsTerminal, Write};
+use std::io::{ErrorKind, IsTerminal, Write};
 use std::os::fd::AsRawFd;
 use std::os::unix::fs::FileTypeExt;
 use std::process::{self, ExitCode};
 use std::rt::{Clock, Files};
 use std::{env, fs, io};
+use task::do_task;
 use typing::Terminals;
 
 /// How many standard streams there are: their numbers are those below.
@@ -58,71 +50,6 @@ fn arguments(rt: &(impl Env + AllocGlobal)) -> Result<Vec<String>, HostError>
         Err(error) if error.kind() == ErrorKind::OutOfMemory => Err(HostError::OutOfMemory),
         Err(_) => Err(HostError::NotText),
     }
-}
-
-/// Prints the program in a file as instructions of a processor.
-#[inline(never)]
-fn list(
-    rt: &impl LockableFiles,
-    outputs: Outputs,
-    file: &str,
-    cpu: Cpu,
-) -> Result<(), CommandRefusal> {
-    let mut files = MachineFiles::plain(rt, outputs);
-    let Ok(mut out) = BufWriter::new(rt.alloc(), PatientOutput::new(rt)) else {
-        return Err(CommandRefusal::from(HostError::OutOfMemory));
-    };
-    let listed = list_program(rt.alloc(), file, cpu, &mut files, &mut out);
-    files.end(listed)
-}
-
-/// Prints that the image in a file is in order.
-#[inline(never)]
-fn check(rt: &impl LockableFiles, outputs: Outputs, image: &str) -> Result<(), CommandRefusal> {
-    let mut files = MachineFiles::plain(rt, outputs);
-    let checked = check_image(rt.alloc(), image, &mut files, &mut PatientOutput::new(rt));
-    files.end(checked)
-}
-
-/// Assembles the source in a file.
-#[inline(never)]
-fn asm(
-    rt: &impl LockableFiles,
-    outputs: Outputs,
-    source: &str,
-    out: &str,
-    list: Option<&str>,
-) -> Result<(), CommandRefusal> {
-    let mut files = MachineFiles::plain(rt, outputs);
-    let assembled = assemble_file(rt.alloc(), source, out, list, &mut files);
-    files.end(assembled)
-}
-
-/// Runs the program in a file as the lines of standard input say, and prints what is answered.
-#[inline(never)]
-fn debug(
-    rt: &(impl LockableFiles + Input),
-    outputs: Outputs,
-    file: &str,
-    cpu: Cpu,
-    list: Option<&str>,
-    terminals: Terminals,
-) -> Result<(), CommandRefusal> {
-    let mut files = MachineFiles::plain(rt, outputs);
-    let mut screen = Screen::new(PatientOutput::new(rt), terminals.shows_controls(false));
-    let Ok(mut input) = BufReader::new(rt.alloc(), PatientInput::new(rt)) else {
-        return Err(CommandRefusal::from(HostError::OutOfMemory));
-    };
-    let debugged = debug_program(
-        rt.alloc(),
-        file,
-        cpu,
-        list,
-        &mut files,
-        &mut input,
-        &mut screen,
-    );
-    files.end(debugged)
 }
 
 /// Does what words ask for, which begin with the program's own name.
@@ -168,27 +95,6 @@ fn tell_typed_at(rt: &impl AllocGlobal, line: &[&str]) -> Result<ExitCode, HostE
     match command(rt.alloc(), words.as_slice()) {
         Ok(task) if is_typed_at(&task) => Ok(ExitCode::SUCCESS),
         _ => Ok(ExitCode::from(1)),
-    }
-}
-
-/// Does a task.
-fn do_task(
-    rt: &(impl LockableFiles + Input),
-    outputs: Outputs,
-    task: &Task<'_>,
-    terminals: Terminals,
-) -> Result<(), CommandRefusal>
-    requires { HasUsers task.now }
-{
-    match task {
-        Task::Com(task) => com(rt, outputs, task, terminals),
-        Task::Asm { source, out, list } => asm(rt, outputs, source, out, *list),
-        Task::List { file, cpu } => list(rt, outputs, file, *cpu),
-        Task::Check { image } => check(rt, outputs, image),
-        Task::Run(task) => run(rt, outputs, task, terminals),
-        Task::Debug { file, cpu, list } => debug(rt, outputs, file, *cpu, *list, terminals),
-        Task::Disk(task) => do_disk(rt, outputs, task),
-        Task::Help(page) => Ok(print(rt, page_text(*page))?),
     }
 }
 

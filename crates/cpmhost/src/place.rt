@@ -128,6 +128,9 @@ fn twin(name: &str, behind: RefusalDetail) -> CommandRefusal {
     }
 }
 
+/// The name of standard input.
+const STANDARD_INPUT: &str = "/dev/stdin";
+
 /// A pipe that is read, by its numbers.
 #[derive(Clone, Copy, Debug, PartialEq, Eq, Drop)]
 struct PipeIdentity {
@@ -146,21 +149,32 @@ fn pipe_of(rt: &impl Files, name: &str) -> Option<PipeIdentity> {
     }
 }
 
-/// Refuses inputs of which two are one pipe, which gives its bytes only once.
+/// The refusal of an input that is a pipe which something else reads.
+fn shared_pipe(name: &str, behind: RefusalDetail) -> CommandRefusal {
+    CommandRefusal {
+        error: HostError::from(RunError::FileRefused(ReadError::File(shown(name)))),
+        behind,
+    }
+}
+
+/// Refuses inputs of which two are one pipe, which gives its bytes only once; and one that is standard input, where keys are typed on that.
 pub fn check_pipes(
     rt: &(impl Files + AllocGlobal),
     inputs: &[PlannedFile<'_>],
+    is_typed_at: bool,
 ) -> Result<(), CommandRefusal> {
+    let keys = match is_typed_at {
+        true => pipe_of(rt, STANDARD_INPUT),
+        false => None,
+    };
     let mut pipes: Vec<PipeIdentity> = Vec::new(rt.alloc());
     for file in inputs {
         if let Some(pipe) = pipe_of(rt, file.name) {
+            if keys == Some(pipe) {
+                return Err(shared_pipe(file.name, RefusalDetail::TypedOn));
+            }
             if pipes.contains(&pipe) {
-                return Err(CommandRefusal {
-                    error: HostError::from(RunError::FileRefused(ReadError::File(shown(
-                        file.name,
-                    )))),
-                    behind: RefusalDetail::NamedTwice,
-                });
+                return Err(shared_pipe(file.name, RefusalDetail::NamedTwice));
             }
             pipes.push(pipe)?;
         }

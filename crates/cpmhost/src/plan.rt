@@ -46,7 +46,7 @@ impl SeenFiles {
         }
         check_apart(rt, plan)?;
         bounds.check_inputs(rt, &plan.inputs)?;
-        check_pipes(rt, &plan.inputs)?;
+        check_pipes(rt, &plan.inputs, rules.is_typed_at)?;
         let held = hold_images(rt, plan)?;
         Ok(SeenFiles {
             bounds,

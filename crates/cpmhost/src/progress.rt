@@ -1,13 +1,16 @@
-//! How far sessions have come, told on standard error.
+//! How far sessions have come, and how a command ended, told on standard error.
+
+ghost use Rattle.std.specs.Prelude.{⊤};
 
 use crate::held::LockableFiles;
 use crate::patient::{PatientError, PatientOutput};
 use crate::refused::PathLine;
 use crate::typing::{Terminals, tell_full, tell_quit};
 use arrayvec::{ArrayString, ArrayVec};
-use cpm_commands::SessionsWatcher;
+use cpm_commands::{Messages, SessionsWatcher};
 use cpm_host::{Config, Progress, RunStage, RunWatcher, Watcher};
 use std::cell::Cell;
+use std::fmt;
 use std::io::Write;
 
 /// How often it is told at most: each time that they are so much of the whole further.
@@ -118,6 +121,15 @@ impl<'a, R: LockableFiles> Teller<'a, R> {
         self.told = 0;
     }
 
+    /// Ends all that is told: what comes next begins a line.
+    pub fn end_all(&mut self) {
+        self.end_stage();
+        if self.terminals.are_one() && !self.is_at_line_start.get() {
+            let _ = eprintln!(PatientError::new(self.rt));
+            self.is_at_line_start.set(true);
+        }
+    }
+
     /// Ends the line of a session that was typed at, and tells where no more was typed since a script has not more keys.
     fn end_typing(&self) {
         if self.terminals.is_output_terminal && !self.is_at_line_start.get() {
@@ -129,7 +141,7 @@ impl<'a, R: LockableFiles> Teller<'a, R> {
     }
 
     /// Tells of so many parts.
-    fn tell(&self, progress: Progress) {
+    fn tell_parts(&self, progress: Progress) {
         let percent = self.told.saturating_mul(2);
         self.note(self.form != Form::InPlace);
         let (before, behind) = match self.form {
@@ -196,7 +208,7 @@ impl<R: LockableFiles> Watcher for Teller<'_, R> {
         let parts = u128::from(progress.done) * PARTS / u128::from(progress.all);
         if parts > self.told {
             self.told = parts;
-            self.tell(progress);
+            self.tell_parts(progress);
         }
     }
 }
@@ -214,6 +226,16 @@ impl<R: LockableFiles> RunWatcher for Teller<'_, R> {
             RunStage::Alone(place) => Audience::Alone(place),
             RunStage::All => Audience::All,
         };
+    }
+}
+
+impl<R: LockableFiles> Messages for Teller<'_, R> {
+    // What becomes of a line is the machine's.
+    ghost tells = { λ _ _ _. ⊤ };
+
+    fn tell<D: fmt::Display>(&mut self, line: &D) {
+        self.end_all();
+        let _ = eprintln!(PatientError::new(self.rt); "{line}");
     }
 }
 

@@ -1,5 +1,7 @@
 //! Where keys are recorded that are typed: in a file beside that of the record, which takes its name when typing has ended. So a record is whole or as it was.
 
+ghost use Rattle.std.specs.Prelude.{⊤};
+
 use crate::held::LockableFiles;
 use crate::output::{OutputFile, Outputs};
 use crate::patient::PatientError;
@@ -78,6 +80,9 @@ impl<'a, R: LockableFiles> Record<'a, R> {
 }
 
 impl<R: LockableFiles> KeyRecord for Record<'_, R> {
+    // What becomes of the file of a record is the machine's.
+    ghost ends = { λ _ _ _. ⊤ };
+
     /// It takes its name. A record without a key replaces none.
     fn end(&mut self) -> Result<(), HostError> {
         let Some(name) = self.name else {

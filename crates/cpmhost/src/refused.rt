@@ -18,6 +18,8 @@ pub enum RefusalDetail {
     Input(ShownWord),
     /// It is a pipe, which is named twice.
     NamedTwice,
+    /// It is a pipe, on which keys are typed.
+    TypedOn,
     /// The file is there, and is not to be replaced.
     Present,
     /// The file lies in none of the folders that a run may use.
@@ -61,6 +63,9 @@ impl fmt::Display for RefusalDetail {
                 f,
                 ": it is a pipe, which gives its bytes only once, and it is named twice"
             ),
+            RefusalDetail::TypedOn => {
+                write!(f, ": it is the pipe from which the typed keys come")
+            }
             RefusalDetail::Present => write!(f, ": it is there; --force replaces it"),
             RefusalDetail::Outside => write!(f, ": it is not in the folders of --within"),
             RefusalDetail::NotRegular => write!(f, ": it is no regular file, as --within wants"),

@@ -1,4 +1,4 @@
-use Rattle.std.proofs.Common.{List, None, map, refl, subst, sym, ℕ}
+use Rattle.std.proofs.Common.{◌∙◌, ◌++◌, Bool, List, None, ap, map, refl, subst, sym, ℕ}
 use Rattle.std.specs.Prelude.{Option}
 use Rattle.std.proofs.lemmas.Result.{err_from_is_err_and}
 use Rattle.cpm_host.specs.Program.{IsPlayedBy, IsProgramPlayRefusal, machine_of, program_given}
@@ -6,8 +6,12 @@ use Rattle.cpm_geom.specs.Disk.{blank_disk}
 use Rattle.cpm_geom.specs.declared.format.Format.TheVariants.{Ibm3740}
 use Rattle.cpm_run.specs.Settled.{streams}
 use Rattle.cpm_script.specs.declared.cue.Cue.{Cue}
-use Rattle.cpm_commands.specs.Com.{AreDrivesUnwritten, AreDrivesWritten, IsComPlayed, IsComRead, source_of}
+use Rattle.cpm_store.specs.Log.{AreWrites, LogLeadsBy}
+use Rattle.cpm_store.specs.Writes.{NamedBytes, named_output}
+use Rattle.cpm_commands.specs.Com.{IsComPlayed, IsComRead, drive_outputs, source_of}
 use Rattle.cpm_commands.specs.Com.IsComStopped.{NoScript, NoStart, NotNamed, NotPlayed, NotRecorded, NotWritten}
+use Rattle.cpm_commands.specs.Files.{IsWritingStopped}
+use Rattle.cpm_commands.specs.Messages.{IsEndTold}
 use Rattle.cpm_commands.specs.Plan.{Plan}
 use Rattle.cpm_commands.proofs.com.run_program_file.Goals as goal
 
@@ -48,9 +52,9 @@ returns-in_err-play-clause-refusal g c =
     c.in_err-play.ensures.refusal in
     rw (p.1, p.2) (NotPlayed given said source reads source_is refused)
 
-pub returns-in_err-end-clause-refusal : goal.returns-in_err-end-clause-refusal
-returns-in_err-end-clause-refusal g c =
-    let p = err_from_is_err_and c.from_residual-in_err-end.result c.from_residual-in_err-end.ensures.1 in
+pub returns-in_err-end_record-clause-refusal : goal.returns-in_err-end_record-clause-refusal
+returns-in_err-end_record-clause-refusal g c =
+    let p = err_from_is_err_and c.from_residual-in_err-end_record.result c.from_residual-in_err-end_record.ensures.1 in
     let task = c.args.task.now in
     let sees = subst (λ (p : Plan). g.F.CommandFiles.sees_to c.args.files.now p None c.see_to.new.self) c.in_ok-plan.ensures c.in_ok-see_to.ensures.seen in
     let given = program_given c.in_ok-start.start in
@@ -74,12 +78,12 @@ returns-in_err-end-clause-refusal g c =
       played = subst (λ (n : ℕ). IsPlayedBy source (blank_disk Ibm3740) (machine_of given) n c.in_ok-play.play (now (g.R.Write.contents c.run_program.new.record))) c.steps_asked.ensures
           c.in_ok-play.ensures.played;
     } in
-    let played = subst (λ (r : Option (List ℕ)). IsComPlayed task given said c.in_ok-play.play (now r)) (sym c.in_err-end.ensures.same) before in
-    rw (p.1, p.2) (NotRecorded given said c.in_ok-play.play reads played c.in_err-end.ensures.refusal)
+    let played = subst (λ (r : Option (List ℕ)). IsComPlayed task given said c.in_ok-play.play (now r)) (sym c.in_err-end_record.ensures.same) before in
+    rw (p.1, p.2) (NotRecorded given said c.in_ok-play.play reads played c.in_err-end_record.ensures.refused c.in_err-end_record.ensures.refusal)
 
-pub returns-in_err-write_drives-clause-refusal : goal.returns-in_err-write_drives-clause-refusal
-returns-in_err-write_drives-clause-refusal g c =
-    let p = err_from_is_err_and c.from_residual-in_err-write_drives.result c.from_residual-in_err-write_drives.ensures.1 in
+pub returns-in_err-write_outputs-clause-refusal : goal.returns-in_err-write_outputs-clause-refusal
+returns-in_err-write_outputs-clause-refusal g c =
+    let p = err_from_is_err_and c.from_residual-in_err-write_outputs.result c.from_residual-in_err-write_outputs.ensures.1 in
     let task = c.args.task.now in
     let sees = subst (λ (p : Plan). g.F.CommandFiles.sees_to c.args.files.now p None c.see_to.new.self) c.in_ok-plan.ensures c.in_ok-see_to.ensures.seen in
     let given = program_given c.in_ok-start.start in
@@ -103,10 +107,12 @@ returns-in_err-write_drives-clause-refusal g c =
       played = subst (λ (n : ℕ). IsPlayedBy source (blank_disk Ibm3740) (machine_of given) n c.in_ok-play.play (now (g.R.Write.contents c.run_program.new.record))) c.steps_asked.ensures
           c.in_ok-play.ensures.played;
     } in
-    let played = subst (λ (r : Option (List ℕ)). IsComPlayed task given said c.in_ok-play.play (now r)) (sym c.in_ok-end.ensures.same) before in
-    let unwritten = subst (λ ns. AreDrivesUnwritten g.F.Store.does (map (λ n. n.now) ns) c.in_ok-play.play.ran.drives c.read_script.new.files c.write_drives.new.files
-    c.in_err-write_drives.field-0.0) c.deref.ensures.value c.in_err-write_drives.ensures.refusal in
-    rw (p.1, p.2) (NotWritten given said c.in_ok-play.play c.read_script.new.files reads played unwritten)
+    let played = subst (λ (r : Option (List ℕ)). IsComPlayed task given said c.in_ok-play.play (now r)) (sym c.in_ok-end_record.ensures.same) before in
+    let written = ap (map named_output) c.as_slice-2.ensures.value ∙ c.in_ok-add_drives.ensures.added
+    ∙ (λ i. map named_output (c.in_ok-outputs.ensures.items i) ++ drive_outputs (map (λ n. n.now) (c.deref.ensures.value i)) c.in_ok-play.play.drives) in
+    let unwritten = subst (λ (qs : List NamedBytes). IsWritingStopped g.F.Store.does qs c.read_script.new.files c.write_outputs.new.files c.in_err-write_outputs.field-0.0) written
+    c.in_err-write_outputs.ensures.refusal in
+    rw (p.1, p.2) (NotWritten given said c.in_ok-play.play c.read_script.new.files reads played c.in_ok-end_record.ensures.ended unwritten)
 
 pub returns-in_err-give_names-clause-refusal : goal.returns-in_err-give_names-clause-refusal
 returns-in_err-give_names-clause-refusal g c =
@@ -134,10 +140,11 @@ returns-in_err-give_names-clause-refusal g c =
       played = subst (λ (n : ℕ). IsPlayedBy source (blank_disk Ibm3740) (machine_of given) n c.in_ok-play.play (now (g.R.Write.contents c.run_program.new.record))) c.steps_asked.ensures
           c.in_ok-play.ensures.played;
     } in
-    let played = subst (λ (r : Option (List ℕ)). IsComPlayed task given said c.in_ok-play.play (now r)) (sym c.in_ok-end.ensures.same) before in
-    let wrote = subst (λ ns. AreDrivesWritten g.F.Store.does (map (λ n. n.now) ns) c.in_ok-play.play.ran.drives c.read_script.new.files c.write_drives.new.files) c.deref.ensures.value
-    c.in_ok-write_drives.ensures.written in
-    rw (p.1, p.2) (NotNamed given said c.in_ok-play.play c.read_script.new.files c.write_drives.new.files reads played wrote c.in_err-give_names.ensures.refused)
+    let played = subst (λ (r : Option (List ℕ)). IsComPlayed task given said c.in_ok-play.play (now r)) (sym c.in_ok-end_record.ensures.same) before in
+    let written = ap (map named_output) c.as_slice-2.ensures.value ∙ c.in_ok-add_drives.ensures.added
+    ∙ (λ i. map named_output (c.in_ok-outputs.ensures.items i) ++ drive_outputs (map (λ n. n.now) (c.deref.ensures.value i)) c.in_ok-play.play.drives) in
+    let wrote = subst (λ (qs : List NamedBytes). LogLeadsBy g.F.Store.does (AreWrites qs) c.read_script.new.files c.write_outputs.new.files) written c.in_ok-write_outputs.ensures.wrote in
+    rw (p.1, p.2) (NotNamed given said c.in_ok-play.play c.read_script.new.files c.write_outputs.new.files reads played c.in_ok-end_record.ensures.ended wrote c.in_err-give_names.ensures.refused)
 
 pub returns-clause-ran : goal.returns-clause-ran
 returns-clause-ran g c =
@@ -164,19 +171,24 @@ returns-clause-ran g c =
       played = subst (λ (n : ℕ). IsPlayedBy source (blank_disk Ibm3740) (machine_of given) n c.in_ok-play.play (now (g.R.Write.contents c.run_program.new.record))) c.steps_asked.ensures
           c.in_ok-play.ensures.played;
     } in
-    let played = subst (λ (r : Option (List ℕ)). IsComPlayed task given said c.in_ok-play.play (now r)) (sym c.in_ok-end.ensures.same) before in
-    let wrote = subst (λ ns. AreDrivesWritten g.F.Store.does (map (λ n. n.now) ns) c.in_ok-play.play.ran.drives c.read_script.new.files c.write_drives.new.files) c.deref.ensures.value
-    c.in_ok-write_drives.ensures.written in
+    let played = subst (λ (r : Option (List ℕ)). IsComPlayed task given said c.in_ok-play.play (now r)) (sym c.in_ok-end_record.ensures.same) before in
+    let written = ap (map named_output) c.as_slice-2.ensures.value ∙ c.in_ok-add_drives.ensures.added
+    ∙ (λ i. map named_output (c.in_ok-outputs.ensures.items i) ++ drive_outputs (map (λ n. n.now) (c.deref.ensures.value i)) c.in_ok-play.play.drives) in
+    let wrote = subst (λ (qs : List NamedBytes). LogLeadsBy g.F.Store.does (AreWrites qs) c.read_script.new.files c.write_outputs.new.files) written c.in_ok-write_outputs.ensures.wrote in
     record {
       g = given;
       said = said;
       read = c.read_script.new.files;
-      written = c.write_drives.new.files;
+      written = c.write_outputs.new.files;
       play = c.in_ok-play.play;
       reads = reads;
       played = played;
+      recorded = c.in_ok-end_record.ensures.ended;
       wrote = wrote;
       named = c.in_ok-give_names.ensures.named;
-      ending = refl;
-      waits = c.is_idle.ensures;
+      tells = record {
+        before = c.run_program.new.watcher;
+        told = subst (λ (w : Bool). IsEndTold g.T.Messages.tells c.args.task.now.is_quiet c.in_ok-play.play.ending w
+            c.run_program.new.watcher c.tell_end.new.messages) c.is_idle.ensures c.tell_end.ensures;
+      };
     }

@@ -1,8 +1,9 @@
 use Rattle.std.proofs.Common.{None, subst}
 use Rattle.std.proofs.lemmas.Result.{IfErr-weaker}
 use Rattle.cpm_geom.specs.Disk.{Disk}
-use Rattle.cpm_commands.specs.Disk.{IsImageUnwritten}
+use Rattle.cpm_commands.specs.Disk.{disk_outputs}
 use Rattle.cpm_commands.specs.Disk.IsNewRefused.{Unwritten}
+use Rattle.cpm_commands.specs.Files.{AreUnwritten}
 use Rattle.cpm_commands.specs.Plan.{Plan}
 use Rattle.cpm_commands.proofs.disk.new_disk.Goals as goal
 
@@ -13,5 +14,5 @@ returns-clause-refusal g c =
     let seen = c.see_to.new.self in
     let sees = subst (λ (p : Plan). g.F.CommandFiles.sees_to c.args.files.now p None seen) c.in_ok-plan.ensures c.in_ok-see_to.ensures.seen in
     IfErr-weaker c.write_image.result _ _
-    (λ e h. Unwritten seen sees (subst (λ (d : Disk). IsImageUnwritten does gives_names c.args.name.now d seen c.write_image.new.files e) c.in_ok-image.ensures h))
+    (λ e h. Unwritten seen sees (subst (λ (d : Disk). AreUnwritten does gives_names (disk_outputs c.args.name.now d) seen c.write_image.new.files e) c.in_ok-image.ensures h))
     c.write_image.ensures.refusal

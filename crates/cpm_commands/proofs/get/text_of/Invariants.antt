@@ -1,7 +1,8 @@
 use Rattle.std.proofs.Common.{◌≡◌, ◌++◌, drop, map}
 use Rattle.std.specs.Prelude.{string_bytes}
-use Rattle.cpm_commands.specs.Get.{paths_text, taken_view}
+use Rattle.cpm_store.specs.Writes.{named_output}
+use Rattle.cpm_commands.specs.Get.{paths_text}
 use Rattle.cpm_commands.proofs.get.text_of.Given as goal
 
-abbrev pub invariant-loop-file : goal.invariant-loop-file
-invariant-loop-file l = string_bytes l.text ++ paths_text (map taken_view (drop l.file-index l.taken)) ≡ paths_text (map taken_view l.fn.taken)
+abbrev pub invariant-loop-output : goal.invariant-loop-output
+invariant-loop-output l = string_bytes l.text ++ paths_text (map named_output (drop l.output-index l.outputs)) ≡ paths_text (map named_output l.fn.outputs)

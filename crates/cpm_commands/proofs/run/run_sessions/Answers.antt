@@ -1,16 +1,16 @@
-use Rattle.std.proofs.Common.{List, None, String, Global, inl, inr, refl, subst}
-use Rattle.std.proofs.lemmas.Result.{IfErr-weaker, err_from_is_err_and}
+use Rattle.std.proofs.Common.{List, None, String, Global, refl, subst}
+use Rattle.std.proofs.lemmas.Result.{err_from_is_err_and}
 use Rattle.cpm_run.specs.Settled.{streams}
-use Rattle.cpm_commands.specs.Record.{IsUnrecorded}
-use Rattle.cpm_commands.specs.Run.{IsRunAllStopped, IsRunStopped}
-use Rattle.cpm_commands.specs.Run.IsRunStopped.{NotEnded, NotRun}
-use Rattle.cpm_commands.proofs.RunLemmas.{done, played, prepared, unseen}
+use Rattle.cpm_commands.specs.Record.{HasEndedRecord}
+use Rattle.cpm_commands.specs.Run.{IsRunAllStopped}
+use Rattle.cpm_commands.specs.Run.IsRunStopped.{NotEnded, NotRecorded, NotRun}
+use Rattle.cpm_commands.proofs.RunLemmas.{both, done, ended_so, played, prepared, unseen}
 use Rattle.cpm_commands.proofs.run.run_sessions.Goals as goal
 
 pub returns-in_err-see_to_run-clause-refusal : goal.returns-in_err-see_to_run-clause-refusal
 returns-in_err-see_to_run-clause-refusal g c =
     let p = err_from_is_err_and c.from_residual-in_err-see_to_run.result c.from_residual-in_err-see_to_run.ensures.1 in
-    rw (p.1, p.2) (unseen g.F.Store.does g.F.CommandFiles.sees_to g.F.CommandFiles.gives_names c.args.task.now c.args.files.now c.read_config.new.files c.see_to_run.new.files
+    rw (p.1, p.2) (unseen g.F.Store.does g.F.CommandFiles.sees_to g.F.CommandFiles.gives_names g.F.CommandFiles.tells_name _ _ c.args.task.now c.args.files.now c.read_config.new.files c.see_to_run.new.files
     c.in_ok-config.config c.deref.result.now c.in_ok-scripts.scripts.items _ _ _ _ _ _ _ c.in_ok-config.ensures.read c.in_ok-scripts.ensures c.deref.ensures.value
     c.in_err-see_to_run.ensures.refusal (record { unread = refl; unwritten = refl; unrecorded = refl }))
 
@@ -24,7 +24,7 @@ returns-in_err-report-clause-refusal g c =
     c.in_ok-config.ensures.read c.in_ok-scripts.ensures c.deref.ensures.value c.in_ok-see_to_run.ensures.seen in
     let io = streams (g.I.Read.remaining c.args.input.now) (g.I.Read.remaining c.run_all.new.input) (g.W.Write.contents c.args.out.now) (g.W.Write.contents c.run_all.new.out)
     (g.R.Write.contents c.args.record.now) (g.R.Write.contents c.run_all.new.record) in
-    let stopped = subst (λ (ss : List (String Global)). IsRunAllStopped g.F.Store.does task config ss io c.see_to_run.new.files c.run_all.new.files c.in_err-report.field-0.0) c.deref-2.ensures.value
+    let stopped = subst (λ (ss : List (String Global)). IsRunAllStopped g.F.Store.does g.F.CommandFiles.tells_name task config ss io c.see_to_run.new.files c.run_all.new.files c.in_err-report.field-0.0) c.deref-2.ensures.value
     c.in_err-report.ensures.refusal in
     rw (p.1, p.2) (NotRun config scripts c.see_to_run.new.files ready stopped)
 
@@ -38,10 +38,11 @@ returns-in_err-ended-clause-refusal g c =
     c.in_ok-config.ensures.read c.in_ok-scripts.ensures c.deref.ensures.value c.in_ok-see_to_run.ensures.seen in
     let report = c.in_ok-report.report in
     let shown = g.W.Write.contents c.run_all.new.out in
-    let all = played g.F.Store.does task config c.deref-2.result.now scripts report (g.I.Read.remaining c.args.input.now) (g.I.Read.remaining c.run_all.new.input) (g.W.Write.contents c.args.out.now) shown
-    (g.R.Write.contents c.args.record.now) (g.R.Write.contents c.run_all.new.record) (g.R.Write.contents c.end-recorded.new.self) c.see_to_run.new.files c.run_all.new.files c.deref-2.ensures.value
-    c.end-recorded.ensures.same c.in_ok-report.ensures.ran in
-    rw (p.1, p.2) (NotEnded config scripts c.see_to_run.new.files c.run_all.new.files report shown ready all (inl c.in_err-ended.ensures.refusal))
+    let all = played g.F.Store.does g.F.CommandFiles.tells_name task config c.deref-2.result.now scripts report (g.I.Read.remaining c.args.input.now) (g.I.Read.remaining c.run_all.new.input) (g.W.Write.contents c.args.out.now) shown
+    (g.R.Write.contents c.args.record.now) (g.R.Write.contents c.run_all.new.record) (g.R.Write.contents c.end_record-recorded.new.record) c.see_to_run.new.files c.run_all.new.files c.deref-2.ensures.value
+    c.end_record-recorded.ensures.same c.in_ok-report.ensures.ran in
+    let ended = ended_so c.end_record-recorded.result (HasEndedRecord g.R.KeyRecord.ends g.R.Write.contents (g.R.Write.contents c.end_record-recorded.new.record) c.end_record-recorded.new.record) c.end_record-recorded.ensures.ended c.end_record-recorded.ensures.refused in
+    rw (p.1, p.2) (NotEnded config scripts c.see_to_run.new.files c.run_all.new.files report shown ended.0 ready all c.in_err-ended.ensures.refusal c.end_run-ended.ensures.told ended.1)
 
 pub returns-clause-ran : goal.returns-clause-ran
 returns-clause-ran g c =
@@ -52,10 +53,10 @@ returns-clause-ran g c =
     c.in_ok-config.ensures.read c.in_ok-scripts.ensures c.deref.ensures.value c.in_ok-see_to_run.ensures.seen in
     let report = c.in_ok-report.report in
     let shown = g.W.Write.contents c.run_all.new.out in
-    let all = played g.F.Store.does task config c.deref-2.result.now scripts report (g.I.Read.remaining c.args.input.now) (g.I.Read.remaining c.run_all.new.input) (g.W.Write.contents c.args.out.now) shown
-    (g.R.Write.contents c.args.record.now) (g.R.Write.contents c.run_all.new.record) (g.R.Write.contents c.end-recorded.new.self) c.see_to_run.new.files c.run_all.new.files c.deref-2.ensures.value
-    c.end-recorded.ensures.same c.in_ok-report.ensures.ran in
-    done c.end-recorded.result _ (record {
+    let all = played g.F.Store.does g.F.CommandFiles.tells_name task config c.deref-2.result.now scripts report (g.I.Read.remaining c.args.input.now) (g.I.Read.remaining c.run_all.new.input) (g.W.Write.contents c.args.out.now) shown
+    (g.R.Write.contents c.args.record.now) (g.R.Write.contents c.run_all.new.record) (g.R.Write.contents c.end_record-recorded.new.record) c.see_to_run.new.files c.run_all.new.files c.deref-2.ensures.value
+    c.end_record-recorded.ensures.same c.in_ok-report.ensures.ran in
+    done c.end_record-recorded.result _ _ (λ ended. record {
       config = config;
       scripts = scripts;
       seen = c.see_to_run.new.files;
@@ -65,8 +66,10 @@ returns-clause-ran g c =
       prepared = ready;
       played = all;
       named = c.in_ok-ended.ensures.ended.0;
-      told = c.in_ok-ended.ensures.ended.1;
-    })
+      printed_so = c.in_ok-ended.ensures.ended.1;
+      tells = c.end_run-ended.ensures.told;
+      recorded = ended;
+    }) c.end_record-recorded.ensures.ended
 
 pub returns-clause-refusal : goal.returns-clause-refusal
 returns-clause-refusal g c =
@@ -77,11 +80,8 @@ returns-clause-refusal g c =
     c.in_ok-config.ensures.read c.in_ok-scripts.ensures c.deref.ensures.value c.in_ok-see_to_run.ensures.seen in
     let report = c.in_ok-report.report in
     let shown = g.W.Write.contents c.run_all.new.out in
-    let all = played g.F.Store.does task config c.deref-2.result.now scripts report (g.I.Read.remaining c.args.input.now) (g.I.Read.remaining c.run_all.new.input) (g.W.Write.contents c.args.out.now) shown
-    (g.R.Write.contents c.args.record.now) (g.R.Write.contents c.run_all.new.record) (g.R.Write.contents c.end-recorded.new.self) c.see_to_run.new.files c.run_all.new.files c.deref-2.ensures.value
-    c.end-recorded.ensures.same c.in_ok-report.ensures.ran in
-    IfErr-weaker c.end-recorded.result IsUnrecorded
-    (IsRunStopped g.F.Store.does g.F.CommandFiles.sees_to g.F.CommandFiles.gives_names task c.args.files.now c.end_run-ended.new.files (g.I.Read.remaining c.args.input.now)
-    (g.I.Read.remaining c.run_all.new.input) (g.W.Write.contents c.args.out.now) (g.W.Write.contents c.end_run-ended.new.out) (g.R.Write.contents c.args.record.now)
-    (g.R.Write.contents c.end-recorded.new.self))
-    (λ e h. NotEnded config scripts c.see_to_run.new.files c.run_all.new.files report shown ready all (inr (c.in_ok-ended.ensures.ended.0, h))) c.end-recorded.ensures.refusal
+    let all = played g.F.Store.does g.F.CommandFiles.tells_name task config c.deref-2.result.now scripts report (g.I.Read.remaining c.args.input.now) (g.I.Read.remaining c.run_all.new.input) (g.W.Write.contents c.args.out.now) shown
+    (g.R.Write.contents c.args.record.now) (g.R.Write.contents c.run_all.new.record) (g.R.Write.contents c.end_record-recorded.new.record) c.see_to_run.new.files c.run_all.new.files c.deref-2.ensures.value
+    c.end_record-recorded.ensures.same c.in_ok-report.ensures.ran in
+    both c.end_record-recorded.result _ _ _ (λ e ended unrecorded. NotRecorded config scripts c.see_to_run.new.files c.run_all.new.files report shown ready all
+    c.in_ok-ended.ensures.ended.0 c.in_ok-ended.ensures.ended.1 c.end_run-ended.ensures.told ended unrecorded) c.end_record-recorded.ensures.refused c.end_record-recorded.ensures.refusal

@@ -1,0 +1,336 @@
+-- What is read and written was planned.
+use Rattle.std.specs.Prelude.{⊤, Vec, slice_get, slice_index_or}
+use Rattle.std.specs.List.{concat, flat_map, zip}
+use Rattle.std.proofs.Common.{◌≡◌, ◌∙◌, ◌&&◌, ◌==◌, ℕ, zero, suc, Bool, true, false, if◌then◌else◌, List, [], ◌∷◌, ◌++◌, ap, arith, drop, get_or, length, map, string_bytes, subst, sym}
+use Rattle.std.proofs.Common.{Option, is_some, Some, None, option_map, String, Global, All}
+use Rattle.std.proofs.lemmas.List.Elements.{All-append, All-cons, All-contains_itself, All-head, All-map, All-nil, All-tail}
+use Rattle.cpm_batch.specs.Inputs.{SessionInput, known_before}
+use Rattle.cpm_batch.specs.Outputs.{SessionOutput, files_of, files_of_all, image_at, image_outputs, named_bytes, named_image, named_images}
+use Rattle.cpm_batch.specs.Reads.{AreImagesRead, AreInputsRead, AreRead, IsForkedSaidRead, IsInputReadOf, IsSaidRead}
+use Rattle.cpm_command_line.specs.declared.task.RunTask.{RunTask}
+use Rattle.cpm_config.specs.declared.config.Config.{Config}
+use Rattle.cpm_config.specs.declared.config.Origin.{Origin}
+use Rattle.cpm_config.specs.declared.config.Origin.TheVariants.{Opened, Forked}
+use Rattle.cpm_config.specs.declared.config.SessionConfig.{SessionConfig}
+use Rattle.cpm_geom.specs.Disk.{Disk}
+use Rattle.cpm_host.specs.declared.error.HostError.{HostError}
+use Rattle.cpm_machine.specs.MachineState.{MachineState}
+use Rattle.cpm_run.proofs.RunLemmas.{settled_sessions}
+use Rattle.cpm_run.specs.Run.{files_left, outputs_by, own_keys, record_of, record_outputs, run_of, session_output}
+use Rattle.cpm_run.specs.Settled.{SettledSession, Streams, streams}
+use Rattle.cpm_run.specs.declared.options.RecordFile.{RecordFile}
+use Rattle.cpm_run.specs.declared.report.Report.{Report}
+use Rattle.cpm_script.specs.Cues.{CueText}
+use Rattle.cpm_script.specs.Recording.{recorded}
+use Rattle.cpm_script.specs.declared.cue.Cue.{Cue}
+use Rattle.cpm_store.proofs.LogLemmas.{ran_more, ran_one}
+use Rattle.cpm_store.specs.Files.{StoreName}
+use Rattle.cpm_store.specs.Log.{StoreAccess, Gave, LogLeadsBy, Wrote, writes_of}
+use Rattle.cpm_store.specs.Writes.{NamedBytes}
+use Rattle.cpm_commands.specs.Com.{AreCuesRead, AreDrivesRead, com_outputs, drive_outputs, plan_of_com}
+use Rattle.cpm_commands.specs.Laws.{IsAsPlanned, IsPlanned, ProgramsFollowPlans, RunsFollowPlans}
+use Rattle.cpm_commands.specs.Plan.{Plan, PlannedName, all_planned, planned_if_any}
+use Rattle.cpm_run.specs.declared.ending.Ending.{Ending}
+use Rattle.cpm_run.specs.declared.report.SessionReport.{SessionReport}
+use Rattle.cpm_commands.specs.Run.{HasRunAll, drives_named, images_named, plan_by, record_mark, record_marks, session_inputs, session_outputs}
+use Rattle.cpm_commands.specs.Typed.{is_typed_at, without_script}
+use Rattle.cpm_commands.specs.declared.plan.FileRole.{FileRole}
+use Rattle.cpm_commands.specs.declared.plan.FileRole.TheVariants.{Image, Plain, Script}
+
+-- ---- names that are such
+
+module _ (P : StoreName → Type 0) where
+  abbrev pub AreSuch : List PlannedName → Type 0
+  AreSuch [] = ⊤
+  AreSuch (p ∷ ps) = P p.name × AreSuch ps
+
+  pub such_left : (xs ys : List PlannedName) → AreSuch (xs ++ ys) → AreSuch xs
+  such_left [] ys h = tt
+  such_left (x ∷ xs) ys h = (h.0, such_left xs ys h.1)
+
+  pub such_right : (xs ys : List PlannedName) → AreSuch (xs ++ ys) → AreSuch ys
+  such_right [] ys h = h
+  such_right (x ∷ xs) ys h = such_right xs ys h.1
+
+  pub such_both : (xs ys : List PlannedName) → AreSuch xs → AreSuch ys → AreSuch (xs ++ ys)
+  such_both [] ys h k = k
+  such_both (x ∷ xs) ys h k = (h.0, such_both xs ys h.1 k)
+
+  pub such_names : (ps : List PlannedName) → All P (map (λ p. p.name) ps) → AreSuch ps
+  such_names [] h = tt
+  such_names (p ∷ ps) h = (All-head P p.name (map (λ q. q.name) ps) h, such_names ps (All-tail P p.name (map (λ q. q.name) ps) h))
+
+  -- ---- files that are written
+
+  abbrev pub AreSuchFiles : List NamedBytes → Type 0
+  AreSuchFiles qs = All (λ q. P q.0) qs
+
+  files_joined : (xs ys : List NamedBytes) → AreSuchFiles xs → AreSuchFiles ys → AreSuchFiles (xs ++ ys)
+  files_joined xs ys = All-append (λ q. P q.0) xs ys
+
+  no_files : AreSuchFiles []
+  no_files = All-nil (λ (q : NamedBytes). P q.0)
+
+  file_more : (name : StoreName) (bytes : List ℕ) (qs : List NamedBytes) → P name → AreSuchFiles qs → AreSuchFiles ((name, bytes) ∷ qs)
+  file_more name bytes qs such h = All-cons (λ q. P q.0) (name, bytes) qs such h
+
+  bytes_such : (role : FileRole) (name : Option StoreName) (bytes : List ℕ) → AreSuch (planned_if_any role name) → AreSuchFiles (named_bytes name bytes)
+  bytes_such role None bytes such = no_files
+  bytes_such role (Some name) bytes such = file_more name bytes [] such.0 no_files
+
+  image_such : (role : FileRole) (name : Option StoreName) (d : Option Disk) → AreSuch (planned_if_any role name) → AreSuchFiles (named_image name d)
+  image_such role name None such = no_files
+  image_such role name (Some d) such = bytes_such role name (concat d.sectors) such
+
+  name_such : (role : FileRole) (names : List (String Global)) (place : ℕ) → AreSuch (all_planned role (map string_bytes names))
+      → AreSuch (planned_if_any role (option_map string_bytes (slice_get names place)))
+  name_such role [] place such = tt
+  name_such role (name ∷ names) zero such = (such.0, tt)
+  name_such role (name ∷ names) (suc place) such = name_such role names place such.1
+
+  image_at_such : (role : FileRole) (names : List (String Global)) (drives : List (Option Disk)) (place : ℕ) → AreSuch (all_planned role (map string_bytes names))
+      → AreSuchFiles (image_at names drives place)
+  unfolding image_at
+  image_at_such role names drives place such =
+      image_such role (option_map string_bytes (slice_get names place)) (slice_index_or drives place None) (name_such role names place such)
+
+  images_such : (role : FileRole) (names : Option (Vec (String Global) Global)) (drives : List (Option Disk)) → AreSuch (all_planned role (images_named names))
+      → AreSuchFiles (named_images names drives)
+  unfolding image_outputs
+  images_such role None drives such = no_files
+  images_such role (Some names) drives such =
+      let at = λ (place : ℕ). image_at_such role names.items drives place such in
+      files_joined (image_at names.items drives 0) _ (at 0) (files_joined (image_at names.items drives 1) _ (at 1) (files_joined (image_at names.items drives 2) _ (at 2) (at 3)))
+
+  files_such : (o : SessionOutput) → AreSuch (session_outputs o.session) → AreSuchFiles (files_of o)
+  files_such o such =
+      let s = o.session in
+      let listed = planned_if_any Plain (option_map string_bytes s.list) in
+      let imaged = all_planned Image (images_named s.out) in
+      file_more (string_bytes s.console) o.console _ such.0
+      (files_joined (named_bytes (option_map string_bytes s.list) o.list) (named_images s.out o.drives)
+      (bytes_such Plain (option_map string_bytes s.list) o.list (such_left listed imaged such.1)) (images_such Image s.out o.drives (such_right listed imaged such.1)))
+
+  -- those that sessions leave
+  pub left_such : (f : SettledSession → MachineState) (ss : List SettledSession) → AreSuch (flat_map session_outputs (map (λ s. s.session) ss))
+      → AreSuchFiles (files_of_all (map (λ s. session_output s.session (f s)) ss))
+  left_such f [] such = no_files
+  left_such f (s ∷ ss) such =
+      let rest = flat_map session_outputs (map (λ (x : SettledSession). x.session) ss) in
+      files_joined (files_of (session_output s.session (f s))) _ (files_such (session_output s.session (f s)) (such_left (session_outputs s.session) rest such))
+      (left_such f ss (such_right (session_outputs s.session) rest such))
+
+  -- the records of their keys
+  unless : (b : Bool) (q : NamedBytes) → P q.0 → AreSuchFiles (if b then [] else q ∷ [])
+  unless true q such = no_files
+  unless false q such = file_more q.0 q.1 [] such no_files
+
+  pub records_such : (kept : Bool) (typed : Option StoreName) (rs : List RecordFile) (ss : List SettledSession) (sessions : List SessionConfig) (scripts : List (String Global))
+      → map record_mark rs ≡ record_marks kept typed (zip sessions scripts) → AreSuch (all_planned Script (map string_bytes scripts)) → AreSuchFiles (record_outputs rs ss)
+  records_such kept typed [] ss sessions scripts is such = no_files
+  records_such kept typed (r ∷ rs) [] sessions scripts is such = no_files
+  records_such kept typed (r ∷ rs) (s ∷ ss) [] scripts is such = absurd (omega (arith, ap length is))
+  records_such kept typed (r ∷ rs) (s ∷ ss) (c ∷ sessions) [] is such = absurd (omega (arith, ap length is))
+  records_such kept typed (r ∷ rs) (s ∷ ss) (c ∷ sessions) (t ∷ scripts) is such =
+      let own = own_keys s in
+      let name : r.name.now ≡ string_bytes t = ap (λ (ms : List (StoreName × Bool)). (get_or ms 0 ([], false)).0) is in
+      files_joined (record_of r own) (record_outputs rs ss) (unless (r.needs_key && (length own == 0)) (r.name.now, recorded own) (subst P (sym name) such.0))
+      (records_such kept typed rs ss sessions scripts (ap (drop 1) is) such.1)
+
+  -- those of drives
+  pub drives_such : (role : FileRole) (names : List StoreName) (drives : List (Option Disk)) → AreSuch (all_planned role names) → AreSuchFiles (drive_outputs names drives)
+  drives_such role [] drives such = no_files
+  drives_such role (name ∷ names) [] such = no_files
+  drives_such role (name ∷ names) (d ∷ drives) such =
+      files_joined (named_image (Some name) d) (drive_outputs names drives) (image_such role (Some name) d (such.0, tt)) (drives_such role names drives such.1)
+
+  -- ---- without the script of the session that is typed at
+
+  heard_input : (b : Bool) (s : SessionConfig) → AreSuch (session_inputs s) → AreSuch (session_inputs (if b then record s { keys = None } else s))
+  heard_input false s such = such
+  heard_input true s such =
+      let drives = all_planned Image (drives_named s.origin) in
+      such_both drives [] (such_left drives (planned_if_any Plain (option_map string_bytes s.keys)) such) tt
+
+  pub heard_inputs : (typed : Option StoreName) (ss : List SessionConfig) → AreSuch (flat_map session_inputs ss) → AreSuch (flat_map session_inputs (map (without_script typed) ss))
+  heard_inputs typed [] such = tt
+  heard_inputs typed (s ∷ ss) such =
+      let rest = flat_map session_inputs ss in
+      such_both (session_inputs (without_script typed s)) _ (heard_input (is_typed_at typed s) s (such_left (session_inputs s) rest such))
+      (heard_inputs typed ss (such_right (session_inputs s) rest such))
+
+  heard_output : (b : Bool) (s : SessionConfig) → AreSuch (session_outputs s) → AreSuch (session_outputs (if b then record s { keys = None } else s))
+  heard_output false s such = such
+  heard_output true s such = such
+
+  pub heard_outputs : (typed : Option StoreName) (ss : List SessionConfig) → AreSuch (flat_map session_outputs ss) → AreSuch (flat_map session_outputs (map (without_script typed) ss))
+  heard_outputs typed [] such = tt
+  heard_outputs typed (s ∷ ss) such =
+      let rest = flat_map session_outputs ss in
+      such_both (session_outputs (without_script typed s)) _ (heard_output (is_typed_at typed s) s (such_left (session_outputs s) rest such))
+      (heard_outputs typed ss (such_right (session_outputs s) rest such))
+
+-- what is planned is among what is planned
+such_itself : (ps : List PlannedName) → AreSuch (IsPlanned ps) ps
+such_itself ps = such_names (IsPlanned ps) ps (All-contains_itself (map (λ p. p.name) ps))
+
+-- ---- what is read
+
+module _ (plan : Plan) where
+  abbrev AreInputs : List PlannedName → Type 0
+  AreInputs ps = AreSuch (IsPlanned plan.inputs) ps
+
+  joined : (log first rest : List StoreAccess) → log ≡ first ++ rest → All (IsAsPlanned plan) first → All (IsAsPlanned plan) rest → All (IsAsPlanned plan) log
+  joined log first rest order f r = subst (All (IsAsPlanned plan)) (sym order) (All-append (IsAsPlanned plan) first rest f r)
+
+  none_read : (log : List StoreAccess) → log ≡ [] → All (IsAsPlanned plan) log
+  none_read log none = subst (All (IsAsPlanned plan)) (sym none) (All-nil (IsAsPlanned plan))
+
+  one_read : (name : StoreName) (bytes : List ℕ) (log : List StoreAccess) → log ≡ Gave name bytes ∷ [] → IsPlanned plan.inputs name → All (IsAsPlanned plan) log
+  one_read name bytes log calls such = subst (All (IsAsPlanned plan)) (sym calls) (All-cons (IsAsPlanned plan) (Gave name bytes) [] such (All-nil (IsAsPlanned plan)))
+
+  images_read : (role : FileRole) (names : List (String Global)) (ds : List Disk) (log : List StoreAccess) → AreImagesRead names ds log
+      → AreInputs (all_planned role (map string_bytes names)) → All (IsAsPlanned plan) log
+  images_read role [] [] log h such = none_read log h
+  images_read role [] (d ∷ ds) log h such = absurd h
+  images_read role (name ∷ names) [] log h such = absurd h
+  images_read role (name ∷ names) (d ∷ ds) log h such =
+      joined log h.first h.rest h.order (one_read (string_bytes name) h.begins.bytes h.first h.begins.calls such.0) (images_read role names ds h.rest h.goes_on such.1)
+
+  said_read : (role : FileRole) (keys : Option (String Global)) (cues : List CueText) (log : List StoreAccess) → IsSaidRead keys cues log
+      → AreInputs (planned_if_any role (option_map string_bytes keys)) → All (IsAsPlanned plan) log
+  said_read role None cues log h such = none_read log h.1
+  said_read role (Some name) cues log h such = one_read (string_bytes name) h.text log h.calls such.0
+
+  forked_read : (role : FileRole) (keys : Option (String Global)) (at before : ℕ) (cues : List CueText) (log : List StoreAccess) → IsForkedSaidRead keys at before cues log
+      → AreInputs (planned_if_any role (option_map string_bytes keys)) → All (IsAsPlanned plan) log
+  forked_read role None at before cues log h such = none_read log h.1
+  forked_read role (Some name) at before cues log h such = one_read (string_bytes name) h.text log h.calls such.0
+
+  input_read : (before : List SessionInput) (o : Origin) (i : SessionInput) (log : List StoreAccess) → IsInputReadOf before o i log
+      → AreInputs (all_planned Image (drives_named o) ++ planned_if_any Plain (option_map string_bytes i.session.keys)) → All (IsAsPlanned plan) log
+  input_read before (Opened cpu quota drives) i log h such =
+      let P = IsPlanned plan.inputs in
+      let named = all_planned Image (map string_bytes drives.items) in
+      let keys = planned_if_any Plain (option_map string_bytes i.session.keys) in
+      joined log h.calls.first h.calls.rest h.calls.order (images_read Image drives.items h.drives h.calls.first h.calls.begins (such_left P named keys such))
+      (said_read Plain i.session.keys i.said h.calls.rest h.calls.goes_on (such_right P named keys such))
+  input_read before (Forked parent at) i log h such = forked_read Plain i.session.keys at (known_before at h.parent.said) i.said log h.calls such
+
+  inputs_read : (before is : List SessionInput) (log : List StoreAccess) → AreInputsRead before is log → AreInputs (flat_map session_inputs (map (λ i. i.session) is))
+      → All (IsAsPlanned plan) log
+  inputs_read before [] log h such = none_read log h
+  inputs_read before (i ∷ is) log h such =
+      let P = IsPlanned plan.inputs in
+      let rest = flat_map session_inputs (map (λ (x : SessionInput). x.session) is) in
+      joined log h.first h.rest h.order (input_read before i.session.origin i h.first h.begins (such_left P (session_inputs i.session) rest such))
+      (inputs_read (before ++ i ∷ []) is h.rest h.goes_on (such_right P (session_inputs i.session) rest such))
+
+  pub all_read : (config : Config) (system : Disk) (is : List SessionInput) (log : List StoreAccess) → AreRead config system is log
+      → IsPlanned plan.inputs (string_bytes config.system) → AreInputs (flat_map session_inputs config.sessions.items) → All (IsAsPlanned plan) log
+  all_read config system is log h drive such =
+      joined log h.calls.first h.calls.rest h.calls.order (one_read (string_bytes config.system) h.calls.begins.bytes h.calls.first h.calls.begins.calls drive)
+      (inputs_read [] is h.calls.rest h.calls.goes_on (subst (λ (ss : List SessionConfig). AreInputs (flat_map session_inputs ss)) (sym h.sessions) such))
+
+  -- ---- and what is written
+
+  pub all_written : (qs : List NamedBytes) (log : List StoreAccess) → log ≡ writes_of qs → AreSuchFiles (IsPlanned plan.outputs) qs → All (IsAsPlanned plan) log
+  all_written qs log calls such = subst (All (IsAsPlanned plan)) (sym calls) (All-map (IsAsPlanned plan) (λ q. Wrote q.0 q.1) qs such)
+
+-- ---- a run
+
+run_calls : {F : Type 0} (does : F → StoreAccess → F → Type 0) (tells_name : F → StoreName → Bool → Type 0) (task : RunTask) (config : Config) (scripts : List (String Global)) (report : Report) (io : Streams) (old new : F)
+    → HasRunAll does tells_name task config scripts report io old new → LogLeadsBy does (All (IsAsPlanned (plan_by task config scripts))) old new
+run_calls does tells_name task config scripts report io old new h =
+    let plan = plan_by task config scripts in
+    let I = IsPlanned plan.inputs in
+    let O = IsPlanned plan.outputs in
+    let typed = option_map (λ n. n.now) task.keyboard in
+    let parts = h.accessed.parts in
+    let calls = h.accessed.calls in
+    let kind = calls.1 in
+    let ins = such_itself plan.inputs in
+    let outs = such_itself plan.outputs in
+    let drive = subst (λ (name : String Global). I (string_bytes name)) (sym h.hears.system) ins.1.0 in
+    let inputs = subst (λ (ss : List SessionConfig). AreSuch I (flat_map session_inputs ss)) (sym h.hears.sessions) (heard_inputs I typed config.sessions.items ins.1.1) in
+    let read = all_read plan h.heard parts.system parts.inputs kind.first kind.begins drive inputs in
+    let sessions = settled_sessions parts.system h.options.stops_idle parts.typed h.heard.sessions.items [] parts.inputs parts.settled h.accessed.played.keys ∙ kind.begins.sessions in
+    let all = flat_map session_outputs config.sessions.items in
+    let recorded_to = planned_if_any Plain (option_map (λ n. n.now) task.record) in
+    let named = all_planned Script (map string_bytes scripts) in
+    let outputs = subst (λ (ss : List SessionConfig). AreSuch O (flat_map session_outputs ss)) (sym (sessions ∙ h.hears.sessions))
+    (heard_outputs O typed config.sessions.items (such_left O all (recorded_to ++ named) outs)) in
+    let files = left_such O (run_of parts.system parts.settled) parts.settled outputs in
+    let records = records_such O (is_some h.asked.kept) typed h.options.records.now parts.settled config.sessions.items scripts h.asked.records
+    (such_right O recorded_to named (such_right O all (recorded_to ++ named) outs)) in
+    let written = all_written plan (outputs_by h.options parts) kind.rest kind.goes_on (files_joined O (files_of_all (files_left parts.system parts.settled)) _ files records) in
+    (calls.0, joined plan calls.0 kind.first kind.rest kind.order read written, calls.2)
+
+pub runs_follow : {F : Type 0} (does : F → StoreAccess → F → Type 0) (sees_to : F → Plan → Option HostError → F → Type 0) (gives_names : F → Option HostError → F → Type 0)
+    (tells_name : F → StoreName → Bool → Type 0) (ended : Option HostError → Type 0) (told : List SessionReport → Type 0)
+    → RunsFollowPlans does sees_to gives_names tells_name ended told
+runs_follow does sees_to gives_names tells_name ended told task old new unread left before printed unrecorded record_now h = (
+  h.config,
+  h.scripts,
+  h.prepared.known,
+  h.prepared.read,
+  h.prepared.named,
+  record {
+    seen = h.seen;
+    ended = h.ran;
+    sees = h.prepared.sees;
+    calls = run_calls does tells_name task h.config h.scripts h.report (streams unread left before h.shown unrecorded record_now) h.seen h.ran h.played;
+    named = h.named;
+  },
+)
+
+-- ---- a program
+
+module _ {F : Type 0} (does : F → StoreAccess → F → Type 0) (plan : Plan) where
+  abbrev IsLed : F → F → Type 0
+  IsLed old new = LogLeadsBy does (All (IsAsPlanned plan)) old new
+
+  led_on : (s m t : F) → IsLed s m → IsLed m t → IsLed s t
+  led_on s m t h g = (h.0 ++ g.0, All-append (IsAsPlanned plan) h.0 g.0 h.1 g.1, ran_more does h.0 g.0 s m t h.2 g.2)
+
+  led_by : (name : StoreName) (bytes : List ℕ) (s t : F) → IsPlanned plan.inputs name → does s (Gave name bytes) t → IsLed s t
+  led_by name bytes s t such read =
+      (Gave name bytes ∷ [], All-cons (IsAsPlanned plan) (Gave name bytes) [] such (All-nil (IsAsPlanned plan)), ran_one does (Gave name bytes) s t read)
+
+  drives_led : (names : List StoreName) (ds : List Disk) (s t : F) → AreDrivesRead does names s t ds → AreInputs plan (all_planned Image names) → IsLed s t
+  drives_led [] [] s t h such = ([], All-nil (IsAsPlanned plan), sym h)
+  drives_led [] (d ∷ ds) s t h such = absurd h
+  drives_led (name ∷ names) [] s t h such = absurd h
+  drives_led (name ∷ names) (d ∷ ds) s t h such = led_on s h.0 t (led_by name h.1.0 s h.0 such.0 h.1.1) (drives_led names ds h.0 t h.2 such.1)
+
+  cues_led : (name : Option StoreName) (said : List Cue) (s t : F) → AreCuesRead does name s t said → AreInputs plan (planned_if_any Plain name) → IsLed s t
+  cues_led None said s t h such = ([], All-nil (IsAsPlanned plan), sym h.1)
+  cues_led (Some name) said s t h such = led_by name h.0 s t such.0 h.1
+
+pub programs_follow : {F : Type 0} (does : F → StoreAccess → F → Type 0) (sees_to : F → Plan → Option HostError → F → Type 0) (gives_names : F → Option HostError → F → Type 0)
+    (ended : Option HostError → Type 0) (told : Ending → (waits : Bool) → Type 0) → ProgramsFollowPlans does sees_to gives_names ended told
+programs_follow does sees_to gives_names ended told task io old new h =
+    let plan = plan_of_com task in
+    let I = IsPlanned plan.inputs in
+    let O = IsPlanned plan.outputs in
+    let ins = such_itself plan.inputs in
+    let names = map (λ n. n.now) task.drives.items in
+    let keys = option_map (λ n. n.now) task.keys in
+    let outs = map (λ n. n.now) task.outs.items in
+    let r = h.reads in
+    let drives = all_planned Image names in
+    let script = planned_if_any Plain keys in
+    let start = led_by does plan task.file.now h.g.program r.seen r.start.between ins.0 r.start.read in
+    let disks = drives_led does plan names h.g.drives r.start.between r.started r.start.drives (such_left I drives script ins.1) in
+    let said = cues_led does plan keys h.said r.started h.read r.script (such_right I drives script ins.1) in
+    let recorded_to = planned_if_any Plain (option_map (λ n. n.now) task.record) in
+    let files = drives_such O Image outs h.play.drives (such_left O (all_planned Image outs) recorded_to (such_itself plan.outputs)) in
+    let wrote : IsLed does plan h.read h.written = (h.wrote.0, all_written plan (com_outputs task h.play) h.wrote.0 h.wrote.1 files, h.wrote.2) in
+    record {
+      seen = r.seen;
+      ended = h.written;
+      sees = r.sees;
+      calls = led_on does plan r.seen h.read h.written
+          (led_on does plan r.seen r.started h.read (led_on does plan r.seen r.start.between r.started start disks) said) wrote;
+      named = h.named;
+    }

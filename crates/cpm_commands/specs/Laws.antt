@@ -1,0 +1,49 @@
+-- Laws of the files that commands name. All of it is own.
+use Rattle.std.specs.Prelude.{All, Contains, ℕ, Bool, List, map, Option, None, String}
+use Rattle.std.specs.declared.alloc.Global.{Global}
+use Rattle.cpm_command_line.specs.declared.task.ComTask.{ComTask}
+use Rattle.cpm_command_line.specs.declared.task.RunTask.{RunTask}
+use Rattle.cpm_config.specs.declared.config.Config.{Config}
+use Rattle.cpm_host.specs.declared.error.HostError.{HostError}
+use Rattle.cpm_run.specs.Settled.{Streams}
+use Rattle.cpm_run.specs.declared.ending.Ending.{Ending}
+use Rattle.cpm_run.specs.declared.report.SessionReport.{SessionReport}
+use Rattle.cpm_store.specs.Files.{StoreName}
+use Rattle.cpm_store.specs.Log.{StoreAccess, Gave, LogLeadsBy, Missed, Wrote}
+use Rattle.cpm_commands.specs.Com.{HasRunProgram, plan_of_com}
+use Rattle.cpm_commands.specs.Plan.{Plan, PlannedName}
+use Rattle.cpm_commands.specs.Run.{AreScripts, HasRunSessions, IsConfigRead, plan_by}
+
+-- one of these files has the name
+abbrev pub IsPlanned : List PlannedName → StoreName → Type 0
+IsPlanned files name = Contains (map (λ f. f.name) files) name
+
+-- a file gave its bytes that is to be read, or one was written that is to be
+abbrev pub IsAsPlanned : Plan → StoreAccess → Type 0
+IsAsPlanned plan (Gave name bytes) = IsPlanned plan.inputs name
+IsAsPlanned plan (Wrote name bytes) = IsPlanned plan.outputs name
+IsAsPlanned plan (Missed name) = ⊥
+
+-- the files of a plan were seen to; then all calls were of its files, as they are planned; and then these got their names
+pub record FollowsPlan {F : Type 0} (does : F → StoreAccess → F → Type 0) (sees_to : F → Plan → Option HostError → F → Type 0)
+    (gives_names : F → Option HostError → F → Type 0) (plan : Plan) (old new : F) : Type 0 where
+  pub seen : F
+  pub ended : F
+  pub sees : sees_to old plan None seen
+  pub calls : LogLeadsBy does (All (IsAsPlanned plan)) seen ended
+  pub named : gives_names ended None new
+
+-- once a run has read its configuration, it follows its plan
+abbrev pub RunsFollowPlans : {F : Type 0} → (F → StoreAccess → F → Type 0) → (F → Plan → Option HostError → F → Type 0)
+    → (F → Option HostError → F → Type 0) → (F → StoreName → Bool → Type 0) → (Option HostError → Type 0) → (List SessionReport → Type 0) → Type 0
+RunsFollowPlans {F} does sees_to gives_names tells_name ended told =
+    (task : RunTask) (old new : F) (unread left before printed unrecorded record_now : Option (List ℕ))
+    → HasRunSessions does sees_to gives_names tells_name ended told task old new unread left before printed unrecorded record_now
+    → (config : Config) × (scripts : List (String Global)) × (known : F) × IsConfigRead does task.config.now old known config
+    × AreScripts task config scripts × FollowsPlan does sees_to gives_names (plan_by task config scripts) known new
+
+-- a program that has run has followed its plan
+abbrev pub ProgramsFollowPlans : {F : Type 0} → (F → StoreAccess → F → Type 0) → (F → Plan → Option HostError → F → Type 0)
+    → (F → Option HostError → F → Type 0) → (Option HostError → Type 0) → (Ending → (waits : Bool) → Type 0) → Type 0
+ProgramsFollowPlans {F} does sees_to gives_names ended told = (task : ComTask) (io : Streams) (old new : F)
+    → HasRunProgram does sees_to gives_names ended told task io old new → FollowsPlan does sees_to gives_names (plan_of_com task) old new

@@ -1,0 +1,46 @@
+-- What a person is told of a command, beside what it prints. All of it is own.
+use Rattle.std.specs.Prelude.{◌≡◌, ℕ, Bool, true, false, List, [], ◌∷◌, ◌++◌, codes, string_bytes, MatchOption}
+use Rattle.cpm_run.specs.Ending.{ending_text, illegal_of, illegal_text}
+use Rattle.cpm_run.specs.declared.ending.Ending.{Ending}
+use Rattle.cpm_run.specs.declared.report.SessionReport.{SessionReport}
+use Rattle.cpm_commands.specs.Report.{waiting_word}
+
+-- ---- of a program
+
+-- the last line: how it ended, and whether it was to stop where it waits for a key, and did
+abbrev pub end_line : Ending → Bool → List ℕ
+end_line e waits = ending_text e ++ waiting_word waits
+
+abbrev pub IsLastTold : {M : Type 0} → (M → List ℕ → M → Type 0) → (is_quiet : Bool) → List ℕ → M → M → Type 0
+IsLastTold {M} tells true line old new = new ≡ old
+IsLastTold {M} tells false line old new = tells old line new
+
+-- where it ended at bytes that are no instruction, these are told; and then how it ended, unless that is not to be told
+pub record IsEndTold {M : Type 0} (tells : M → List ℕ → M → Type 0) (is_quiet : Bool) (e : Ending) (waits : Bool) (old new : M) : Type 0 where
+  pub between : M
+  pub illegal : MatchOption (illegal_of e.ended e.pc e.at_pc) (between ≡ old) (λ i. tells old (illegal_text i) between)
+  pub last : IsLastTold tells is_quiet (end_line e waits) between new
+
+-- ---- of the sessions of a run
+
+-- of a session that ended at such bytes they are told, with its name
+abbrev pub IsIllegalTold : {M : Type 0} → (M → List ℕ → M → Type 0) → SessionReport → M → M → Type 0
+IsIllegalTold {M} tells s old new =
+    MatchOption (illegal_of s.ending.ended s.ending.pc s.ending.at_pc) (new ≡ old) (λ i. tells old (string_bytes s.name ++ codes " " ++ illegal_text i) new)
+
+-- of each session, in their order
+abbrev pub AreIllegalTold : {M : Type 0} → (M → List ℕ → M → Type 0) → List SessionReport → M → M → Type 0
+AreIllegalTold {M} tells [] old new = new ≡ old
+AreIllegalTold {M} tells (s ∷ ss) old new = (next : M) × IsIllegalTold tells s old next × AreIllegalTold tells ss next new
+
+-- ---- at the end of a command
+
+-- so it was told at last of a program
+pub record HasToldEnd {M : Type 0} (tells : M → List ℕ → M → Type 0) (is_quiet : Bool) (e : Ending) (waits : Bool) (new : M) : Type 0 where
+  pub before : M
+  pub told : IsEndTold tells is_quiet e waits before new
+
+-- and of sessions
+pub record HasToldIllegal {M : Type 0} (tells : M → List ℕ → M → Type 0) (sessions : List SessionReport) (new : M) : Type 0 where
+  pub before : M
+  pub told : AreIllegalTold tells sessions before new

@@ -1,0 +1,124 @@
+-- What is done of what a command line asks for. All of it is own.
+use Rattle.std.specs.Prelude.{⊤, ◌≡◌, ◌⊎◌, ℕ, Bool, List, [], map, option_map, Option}
+use Rattle.std.specs.Io.KnownBytes.{Appends}
+use Rattle.cpm_command_line.specs.HelpWords.{text_of_page}
+use Rattle.cpm_command_line.specs.declared.task.DiskTask.{DiskTask}
+use Rattle.cpm_command_line.specs.declared.task.DiskTask.TheVariants.{New, List as Listing, Put, Get, Remove, Rename}
+use Rattle.cpm_command_line.specs.declared.task.Task.{Task}
+use Rattle.cpm_command_line.specs.declared.task.Task.TheVariants.{Com, Asm, List as Lines, Check, Run, Debug, Disk, Help}
+use Rattle.cpm_host.specs.declared.error.HostError.{HostError}
+use Rattle.cpm_run.specs.Settled.{Streams}
+use Rattle.cpm_run.specs.declared.ending.Ending.{Ending}
+use Rattle.cpm_run.specs.declared.report.SessionReport.{SessionReport}
+use Rattle.cpm_store.specs.Files.{StoreName}
+use Rattle.cpm_store.specs.Log.{StoreAccess}
+use Rattle.cpm_commands.specs.Asm.{HasAssembled, IsAsmRefused}
+use Rattle.cpm_commands.specs.Check.{HasChecked, IsCheckRefused}
+use Rattle.cpm_commands.specs.Com.{HasRunProgram, IsComStopped}
+use Rattle.cpm_commands.specs.Debug.{HasDebugged, IsDebugRefused}
+use Rattle.cpm_commands.specs.Disk.{ArePut, HasChanged, HasListedDisk, HasMadeDisk, HasRemoved, HasRenamedOn}
+use Rattle.cpm_commands.specs.Disk.{IsChangeRefused, IsDiskListRefused, IsNewRefused, IsNotRemoved, IsPutStopped, IsRenameRefused}
+use Rattle.cpm_commands.specs.Get.{HasGot, IsGetRefused}
+use Rattle.cpm_commands.specs.List.{HasListed, IsListRefused}
+use Rattle.cpm_commands.specs.Plan.{Plan}
+use Rattle.cpm_commands.specs.Report.{IsUnprinted}
+use Rattle.cpm_commands.specs.Run.{HasRunSessions, IsRunStopped}
+
+-- ---- what a command goes through
+
+-- how its files go from state to state, and what they tell
+pub record FileActs (F : Type 0) : Type 1 where
+  pub does : F → StoreAccess → F → Type 0
+  pub sees_to : F → Plan → Option HostError → F → Type 0
+  pub gives_names : F → Option HostError → F → Type 0
+  pub tells_name : F → StoreName → Bool → Type 0
+  pub tells_folder : F → StoreName → Bool → Type 0
+
+-- how the record of what is typed ended, and what was told at last: of a program, and of sessions
+pub record LastActs : Type 1 where
+  pub ended : Option HostError → Type 0
+  pub told_end : (is_quiet : Bool) → Ending → (waits : Bool) → Type 0
+  pub told_illegal : List SessionReport → Type 0
+
+-- the files and standard output before and after, and what the streams held
+pub record Passage (F W : Type 0) : Type 0 where
+  pub old : F
+  pub new : F
+  pub out : W
+  pub out_now : W
+  pub io : Streams
+
+-- nothing was printed
+abbrev pub IsSilent : {F W : Type 0} → Passage F W → Type 0
+IsSilent {F} {W} p = p.out_now ≡ p.out
+
+-- ---- what is done
+
+-- a command on disk images
+abbrev pub IsDiskTaskDone : {F W : Type 0} → FileActs F → Passage F W → DiskTask → Type 0
+IsDiskTaskDone {F} {W} acts p (New image is_large) =
+    HasMadeDisk acts.does acts.sees_to acts.gives_names image.now is_large p.old p.new × IsSilent p
+IsDiskTaskDone {F} {W} acts p (Listing image user) = HasListedDisk acts.does image.now user p.old p.new p.io.before p.io.written
+IsDiskTaskDone {F} {W} acts p (Put image files user is_text is_read_only is_system) =
+    HasChanged acts.does acts.sees_to acts.gives_names image.now
+    (ArePut acts.does user (record { is_text = is_text; is_read_only = is_read_only; is_system = is_system }) [] (map (λ w. w.now) files.items)) p.old p.new
+    × IsSilent p
+IsDiskTaskDone {F} {W} acts p (Get image names user is_text to is_forced is_dry) =
+    HasGot acts.does acts.sees_to acts.gives_names image.now (map (λ w. w.now) names.items) user
+    (record { is_text = is_text; to = to; is_forced = is_forced; is_dry = is_dry }) p.old p.new p.io.before p.io.written p.out p.out_now
+IsDiskTaskDone {F} {W} acts p (Remove image names user) =
+    HasChanged acts.does acts.sees_to acts.gives_names image.now (HasRemoved (map (λ w. w.now) names.items) user) p.old p.new × IsSilent p
+IsDiskTaskDone {F} {W} acts p (Rename image change user) =
+    HasRenamedOn acts.does acts.sees_to acts.gives_names image.now change.now user p.old p.new × IsSilent p
+
+-- the command that the words name, by their values, and no other
+abbrev pub IsTaskDone : {F W : Type 0} → FileActs F → LastActs → Passage F W → Task → Type 0
+IsTaskDone {F} {W} acts last p (Com task) =
+    HasRunProgram acts.does acts.sees_to acts.gives_names last.ended (last.told_end task.is_quiet) task p.io p.old p.new
+IsTaskDone {F} {W} acts last p (Asm source out list) =
+    HasAssembled acts.does acts.sees_to acts.gives_names source.now out.now (option_map (λ n. n.now) list) p.old p.new × IsSilent p
+IsTaskDone {F} {W} acts last p (Lines file cpu) = HasListed acts.does file.now cpu p.old p.new p.io.before p.io.written
+IsTaskDone {F} {W} acts last p (Check image) = HasChecked acts.does image.now p.old p.new p.io.before p.io.written
+IsTaskDone {F} {W} acts last p (Run task) =
+    HasRunSessions acts.does acts.sees_to acts.gives_names acts.tells_name last.ended last.told_illegal task p.old p.new
+    p.io.unread p.io.left p.io.before p.io.written p.io.unrecorded p.io.record_now
+IsTaskDone {F} {W} acts last p (Debug file cpu list) =
+    HasDebugged acts.does file.now cpu (option_map (λ n. n.now) list) p.old p.new p.io.unread p.io.before p.io.written
+IsTaskDone {F} {W} acts last p (Disk task) = IsDiskTaskDone acts p task
+IsTaskDone {F} {W} acts last p (Help page) = (p.new ≡ p.old) × Appends p.io.before p.io.written (text_of_page page)
+
+-- ---- how far it came that was refused
+
+abbrev pub IsDiskTaskRefused : {F W : Type 0} → FileActs F → Passage F W → DiskTask → HostError → Type 0
+IsDiskTaskRefused {F} {W} acts p (New image is_large) e =
+    IsNewRefused acts.does acts.sees_to acts.gives_names image.now is_large p.old p.new e × IsSilent p
+IsDiskTaskRefused {F} {W} acts p (Listing image user) e = IsDiskListRefused acts.does image.now p.old p.new p.out p.out_now e
+IsDiskTaskRefused {F} {W} acts p (Put image files user is_text is_read_only is_system) e =
+    IsChangeRefused acts.does acts.sees_to acts.gives_names image.now
+    (ArePut acts.does user (record { is_text = is_text; is_read_only = is_read_only; is_system = is_system }) [] (map (λ w. w.now) files.items))
+    (IsPutStopped acts.does image.now user (record { is_text = is_text; is_read_only = is_read_only; is_system = is_system }) []
+    (map (λ w. w.now) files.items)) p.old p.new e
+    × IsSilent p
+IsDiskTaskRefused {F} {W} acts p (Get image names user is_text to is_forced is_dry) e =
+    IsGetRefused acts.does acts.sees_to acts.gives_names image.now (map (λ w. w.now) names.items) user
+    (record { is_text = is_text; to = to; is_forced = is_forced; is_dry = is_dry }) p.old p.new p.out p.out_now e
+IsDiskTaskRefused {F} {W} acts p (Remove image names user) e =
+    IsChangeRefused acts.does acts.sees_to acts.gives_names image.now (HasRemoved (map (λ w. w.now) names.items) user)
+    (IsNotRemoved image.now (map (λ w. w.now) names.items) user) p.old p.new e
+    × IsSilent p
+IsDiskTaskRefused {F} {W} acts p (Rename image change user) e =
+    IsRenameRefused acts.does acts.sees_to acts.gives_names image.now change.now user p.old p.new e × IsSilent p
+
+abbrev pub IsTaskRefused : {F W : Type 0} → FileActs F → LastActs → Passage F W → Task → HostError → Type 0
+IsTaskRefused {F} {W} acts last p (Com task) e = IsComStopped acts.does acts.sees_to acts.gives_names last.ended task p.io p.old p.new e
+IsTaskRefused {F} {W} acts last p (Asm source out list) e =
+    IsAsmRefused acts.does acts.sees_to acts.gives_names source.now out.now (option_map (λ n. n.now) list) p.old p.new e × IsSilent p
+IsTaskRefused {F} {W} acts last p (Lines file cpu) e = IsListRefused acts.does file.now p.old p.new p.out p.out_now e
+IsTaskRefused {F} {W} acts last p (Check image) e = IsCheckRefused acts.does image.now p.old p.new p.out p.out_now e
+IsTaskRefused {F} {W} acts last p (Run task) e =
+    IsRunStopped acts.does acts.sees_to acts.gives_names acts.tells_name last.ended last.told_illegal task p.old p.new
+    p.io.unread p.io.left p.io.before p.io.written p.io.unrecorded p.io.record_now e
+IsTaskRefused {F} {W} acts last p (Debug file cpu list) e =
+    IsDebugRefused acts.does file.now cpu (option_map (λ n. n.now) list) p.old p.new p.io.unread p.io.before p.io.written p.out p.out_now e
+IsTaskRefused {F} {W} acts last p (Disk task) e = IsDiskTaskRefused acts p task e
+IsTaskRefused {F} {W} acts last p (Help page) e = (p.new ≡ p.old) × IsUnprinted e

@@ -1,0 +1,176 @@
+//! What a command line asks for, done.
+ghost use Rattle.std.specs.Prelude.{IfErr, OnOk};
+ghost use Rattle.std.specs.Io.KnownBytes.{Appends};
+ghost use Rattle.cpm_command_line.specs.DiskLine.{HasUser};
+ghost use Rattle.cpm_command_line.specs.Line.{HasUsers};
+ghost use Rattle.cpm_command_line.specs.HelpWords.{text_of_page};
+ghost use Rattle.cpm_commands.specs.Messages.{HasToldEnd, HasToldIllegal};
+ghost use Rattle.cpm_commands.specs.Record.{HasEndedRecord};
+ghost use Rattle.cpm_commands.specs.Report.{IsUnprinted};
+ghost use Rattle.cpm_commands.specs.Task.{IsDiskTaskDone, IsDiskTaskRefused, IsTaskDone, IsTaskRefused};
+ghost use Rattle.cpm_run.specs.Settled.{streams};
+
+use crate::asm::assemble_file;
+use crate::check::check_image;
+use crate::com::run_program_file;
+use crate::debug::debug_program;
+use crate::disk::{PutOptions, list_disk, new_disk, put_files, remove_from_disk, rename_on_disk};
+use crate::files::CommandFiles;
+use crate::get::{GetOptions, get_files};
+use crate::list::list_program;
+use crate::messages::Messages;
+use crate::record::KeyRecord;
+use crate::report::{LineWriter, print_text};
+use crate::run::{SessionsWatcher, run_sessions};
+use cpm_command_line::{Page, page_text};
+use cpm_host::{DiskTask, HostError, Task};
+use std::alloc::Global;
+use std::io::{BufRead, Write};
+
+/// Prints a page of the help.
+fn print_page<W: Write>(page: Page, out: &mut W) -> Result<(), HostError>
+    ensures printed { OnOk result (Appends (W.contents out.old) (W.contents out.new) (text_of_page page)) }
+    ensures refusal { IfErr result IsUnprinted }
+{
+    print_text(out, page_text(page))
+}
+
+/// Does what a command on disk images asks for.
+#[inline(never)]
+fn do_disk<F: CommandFiles, W: Write>(
+    alloc: Global,
+    task: &DiskTask<'_>,
+    files: &mut F,
+    out: &mut W,
+) -> Result<(), HostError>
+    requires { HasUser task.now }
+    ensures done { OnOk result (IsDiskTaskDone
+        (record { does = F.does; sees_to = F.sees_to; gives_names = F.gives_names; tells_name = F.tells_name; tells_folder = F.tells_folder })
+        (record {
+          old = files.old;
+          new = files.new;
+          out = out.old;
+          out_now = out.new;
+          io = streams None None (W.contents out.old) (W.contents out.new) None None;
+        }) task.now) }
+    ensures refusal { IfErr result (IsDiskTaskRefused
+        (record { does = F.does; sees_to = F.sees_to; gives_names = F.gives_names; tells_name = F.tells_name; tells_folder = F.tells_folder })
+        (record {
+          old = files.old;
+          new = files.new;
+          out = out.old;
+          out_now = out.new;
+          io = streams None None (W.contents out.old) (W.contents out.new) None None;
+        }) task.now) }
+{
+    match task {
+        DiskTask::New { image, is_large } => new_disk(alloc, image, *is_large, files),
+        DiskTask::List { image, user } => list_disk(alloc, image, *user, files, out),
+        DiskTask::Put {
+            image,
+            files: words,
+            user,
+            is_text,
+            is_read_only,
+            is_system,
+        } => {
+            let how = PutOptions {
+                is_text: *is_text,
+                is_read_only: *is_read_only,
+                is_system: *is_system,
+            };
+            put_files(alloc, image, words, *user, how, files)
+        }
+        DiskTask::Get {
+            image,
+            names,
+            user,
+            is_text,
+            to,
+            is_forced,
+            is_dry,
+        } => {
+            let how = GetOptions {
+                is_text: *is_text,
+                to: *to,
+                is_forced: *is_forced,
+                is_dry: *is_dry,
+            };
+            get_files(alloc, image, names, *user, how, files, out)
+        }
+        DiskTask::Remove { image, names, user } => {
+            remove_from_disk(alloc, image, names, *user, files)
+        }
+        DiskTask::Rename {
+            image,
+            change,
+            user,
+        } => rename_on_disk(alloc, image, change, *user, files),
+    }
+}
+
+/// Does what a command line asks for, over these files and streams. Refusals and their order are each command's own.
+pub fn do_task<
+    F: CommandFiles,
+    I: BufRead,
+    W: LineWriter,
+    R: KeyRecord,
+    T: SessionsWatcher + Messages,
+>(
+    alloc: Global,
+    task: &Task<'_>,
+    files: &mut F,
+    input: &mut I,
+    out: &mut W,
+    record: &mut R,
+    watcher: &mut T,
+) -> Result<(), HostError>
+    requires { HasUsers task.now }
+    ensures done { OnOk result (IsTaskDone
+        (record { does = F.does; sees_to = F.sees_to; gives_names = F.gives_names; tells_name = F.tells_name; tells_folder = F.tells_folder })
+        (record {
+          ended = HasEndedRecord R.ends R.contents (R.contents «record».new) «record».new;
+          told_end = λ is_quiet ending waits. HasToldEnd T.tells is_quiet ending waits watcher.new;
+          told_illegal = λ sessions. HasToldIllegal T.tells sessions watcher.new;
+        })
+        (record {
+          old = files.old;
+          new = files.new;
+          out = out.old;
+          out_now = out.new;
+          io = streams (I.remaining input.old) (I.remaining input.new) (W.contents out.old) (W.contents out.new)
+              (R.contents «record».old) (R.contents «record».new);
+        }) task.now) }
+    ensures refusal { IfErr result (IsTaskRefused
+        (record { does = F.does; sees_to = F.sees_to; gives_names = F.gives_names; tells_name = F.tells_name; tells_folder = F.tells_folder })
+        (record {
+          ended = HasEndedRecord R.ends R.contents (R.contents «record».new) «record».new;
+          told_end = λ is_quiet ending waits. HasToldEnd T.tells is_quiet ending waits watcher.new;
+          told_illegal = λ sessions. HasToldIllegal T.tells sessions watcher.new;
+        })
+        (record {
+          old = files.old;
+          new = files.new;
+          out = out.old;
+          out_now = out.new;
+          io = streams (I.remaining input.old) (I.remaining input.new) (W.contents out.old) (W.contents out.new)
+              (R.contents «record».old) (R.contents «record».new);
+        }) task.now) }
+{
+    match task {
+        Task::Com(task) => run_program_file(alloc, task, files, input, out, record, watcher),
+        Task::Asm {
+            source,
+            out: image,
+            list,
+        } => assemble_file(alloc, source, image, *list, files),
+        Task::List { file, cpu } => list_program(alloc, file, *cpu, files, out),
+        Task::Check { image } => check_image(alloc, image, files, out),
+        Task::Run(task) => run_sessions(alloc, task, files, input, out, record, watcher),
+        Task::Debug { file, cpu, list } => {
+            debug_program(alloc, file, *cpu, *list, files, input, out)
+        }
+        Task::Disk(task) => do_disk(alloc, task, files, out),
+        Task::Help(page) => print_page(*page, out),
+    }
+}
