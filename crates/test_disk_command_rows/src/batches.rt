@@ -154,7 +154,7 @@ fn read(
         Some(_) => return Err(RowFault::Unready),
     };
     match inputs {
-        Ok(inputs) => Ok(Ok(shown_inputs(alloc, inputs.sessions.as_slice())?)),
+        Ok((_, sessions)) => Ok(Ok(shown_inputs(alloc, sessions.as_slice())?)),
         Err(error) => Ok(Err(error)),
     }
 }
