@@ -1,140 +1,306 @@
--- A session that is played live: one more key, turn and take, and its end.
-use Rattle.std.proofs.Common.{◌≡◌, ℕ, ◌+◌, ◌-◌, ◌^◌, ◌<◌, ◌≤◌, ◌&&◌, nat_le, Bool, true, false, inl, inr, Option, List, [], ◌∷◌, ◌++◌, length, refl, sym, ap, ap₂, ◌∙◌, subst, arith, append-nil}
+-- A session that is typed at: what is heard, one more key, turn and take, and its end.
+use Rattle.std.proofs.Common.{◌≡◌, ℕ, ◌+◌, ◌-◌, ◌*◌, ◌^◌, ◌<◌, ◌≤◌, ◌==◌, ◌&&◌, nat_le, if◌then◌else◌, Bool, true, false, true≢false, ⊎_elim, inl, inr, Option, Some, None, List, [], ◌∷◌, ◌++◌, length, refl, sym, ap, ap₂, ◌∙◌, subst, arith, append-nil}
 use Rattle.std.proofs.lemmas.Bool.Decides.{nat_tests}
-use Rattle.std.proofs.lemmas.List.{append_assoc}
-use Rattle.std.specs.Io.KnownBytes.{Appends, Consumes}
+use Rattle.std.proofs.lemmas.List.{append_assoc, length_push}
+use Rattle.std.specs.Io.KnownBytes.{Appends}
 use Rattle.cpm_geom.specs.Disk.{Disk}
 use Rattle.cpm_console.specs.Terminal.{Terminal, has_room}
 use Rattle.cpm_script.specs.Recording.{key_line, recorded}
+use Rattle.cpm_script.specs.declared.cue.Cue.{Cue}
 use Rattle.cpm_script.specs.declared.script.Key.{Key}
 use Rattle.cpm_machine.specs.MachineState.{MachineState}
-use Rattle.cpm_machine.specs.Serve.{keyed, takes_key}
+use Rattle.cpm_machine.specs.Serve.{keyed, look_of, takes_key}
 use Rattle.cpm_machine.specs.Step.{after, is_running}
+use Rattle.cpm_machine.specs.ToWait.{executed_to_wait}
 use Rattle.cpm_machine.specs.Until.{can_go_on, executed_until}
 use Rattle.cpm_machine.proofs.GrantLaws.{longest-is}
-use Rattle.cpm_play.specs.Live.{AreTypedKeysRead, HasPaused, HasReadOneMore, HasReason, IsCutShort, IsGoing, IsNotGiven, IsUnreadable, IsUnwritable, bytes_of}
+use Rattle.cpm_play.specs.Cued.{IsCued}
+use Rattle.cpm_play.specs.Live.{IsGoing, IsNotGiven, IsUnreadable, IsUnwritable, bytes_of}
 use Rattle.cpm_play.specs.declared.live.LiveError.{LiveError}
 use Rattle.cpm_play.specs.declared.live.LiveError.TheVariants.{Unreadable, Unwritable, Unrecorded, OutOfMemory}
+use Rattle.cpm_play.specs.declared.live.PlayEnd.TheVariants.{Steps, Ended, Typing}
 use Rattle.cpm_play.specs.Pacing.{without_list, without_text}
-use Rattle.cpm_play.specs.Playing.{HasText, IsFresh, IsQuiet, waits_at}
-use Rattle.cpm_play.specs.Typing.{HasQuit, HasReadKeys, IsOver, end_key, typed_keys}
-use Rattle.cpm_play.specs.Wanting.{HasWatched, IsKeyWanted, longest_turn}
+use Rattle.cpm_play.specs.Playing.{HasText, IsQuiet, last_count, runs_at, screen_at, waits_at}
+use Rattle.cpm_play.specs.Sitting.{HasHeardOneMore, HasListened, HasPaused, IsCutShort, IsTypedPlay, IsWantedByPatient, Sitting, sitting}
+use Rattle.cpm_play.specs.Typing.{HasReadKeys}
+use Rattle.cpm_play.specs.Typist.{AreOften, HasHeard, HasHeardNothing, Hearing, IsHeard, IsHeardPatiently, IsReadAs, TypingState, hearing, is_wanted, key_heard, keys_heard}
+use Rattle.cpm_play.specs.declared.typist.Heard.{Heard}
+use Rattle.cpm_play.specs.declared.typist.Heard.TheVariants as heard
+use Rattle.cpm_play.specs.declared.typist.KeyNeed.{KeyNeed}
+use Rattle.cpm_play.specs.declared.typist.KeyNeed.TheVariants.{Pending, Possible, Wanted}
+use Rattle.cpm_play.specs.declared.typist.TypingEnd.{TypingEnd}
+use Rattle.cpm_play.specs.Wanting.{AreWantedAfter, HasNoLongWait, HasPolled, HasWatched, IsKeyWanted, longest_turn}
 use Rattle.cpm_play.specs.declared.watch.Watch.{Watch}
-use Rattle.cpm_play.proofs.GoingLemmas.{going-ending, going-given, going-key, going-shown, going-start, going-text, going-turn}
-use Rattle.cpm_play.proofs.TypingLemmas.{consumes_more, read_more, read_none}
-use Rattle.cpm_play.proofs.WantingLemmas.{IsWatched, watched-key, watched-start, watched-turn}
+use Rattle.cpm_play.proofs.GoingLemmas.{going-come, going-ending, going-key, going-text, going-turn}
+use Rattle.cpm_play.proofs.RunLemmas.{stopped-waits}
+use Rattle.cpm_play.proofs.TypingLemmas.{read_more, read_none}
+use Rattle.cpm_play.proofs.WantingLemmas.{IsWatched, wanted-append, watched-key, watched-start, watched-turn}
 
 bytes-more : (keys : List Key) (k : Key) → bytes_of (keys ++ k ∷ []) ≡ bytes_of keys ++ k.byte ∷ []
 bytes-more [] k = refl
 bytes-more (x ∷ xs) k = ap (λ (v : List ℕ). x.byte ∷ v) (bytes-more xs k)
 
--- the session goes, its keys are those that were read, and so much was watched
-pub record IsLive (system : Disk) (steps most : ℕ) (start now : MachineState) (before written unrecorded record_now unread left : Option (List ℕ)) (keys : List Key) (done : ℕ) (watch : Watch) : Type 0 where
-  pub going : IsGoing system steps most start now before written unrecorded record_now keys done
-  pub read : HasReadKeys unread left (bytes_of keys)
-  pub watched : IsWatched system start keys done watch
+-- ---- what is heard
 
-pub live-start : (system : Disk) (steps most : ℕ) (start : MachineState) (written record_now left : Option (List ℕ)) (watch : Watch) → watch.polls ≡ 0 → IsFresh start →
-    IsLive system steps most start start written written record_now record_now left left [] 0 watch
-live-start system steps most start written record_now left watch none fresh = record {
-  going = going-start system steps most start written record_now fresh;
-  read = read_none left;
-  watched = watched-start system start watch none;
-}
+heard-more : (hs : List Hearing) (h : Hearing) → keys_heard (hs ++ h ∷ []) ≡ keys_heard hs ++ key_heard h.count h.heard
+heard-more [] h = append-nil (key_heard h.count h.heard)
+heard-more (x ∷ xs) h =
+    ap (λ (v : List Key). key_heard x.count x.heard ++ v) (heard-more xs h) ∙ sym (append_assoc (key_heard x.count x.heard) (keys_heard xs) (key_heard h.count h.heard))
 
-module _ (system : Disk) (steps most : ℕ) (start now : MachineState) (before written unrecorded record_now unread left : Option (List ℕ)) (keys : List Key) (done : ℕ) (watch : Watch)
-    (live : IsLive system steps most start now before written unrecorded record_now unread left keys done watch) where
-  -- the steps of a turn, whose text is taken
-  pub live-turn : (k : ℕ) (turned last : MachineState) (written_then : Option (List ℕ)) (watch_then : Watch) → 0 < k → k ≤ steps - done → k ≤ longest_turn → waits_at system start keys done ≡ false →
-      turned ≡ after system k now → HasWatched watch watch_then k turned → last ≡ without_list (without_text turned) → Appends written written_then turned.session.console.screen →
-      IsLive system steps most start last before written_then unrecorded record_now unread left keys (done + k) watch_then
-  live-turn k turned last written_then watch_then some fits few busy is watches taken writes = record {
-    going = going-turn system steps most start now before written unrecorded record_now keys done live.going k turned last written_then fits is taken writes;
-    read = live.read;
-    watched = watched-turn live.going live.watched k turned watch_then some few busy is watches;
+said-more : (a b c : Option (List Hearing)) (xs ys : List Hearing) → HasHeard a b xs → HasHeard b c ys → HasHeard a c (xs ++ ys)
+said-more None b c xs ys p q = tt
+said-more (Some x) None c xs ys p q = absurd p
+said-more (Some x) (Some y) None xs ys p q = absurd q
+said-more (Some x) (Some y) (Some z) xs ys p q = q ∙ ap (λ (l : List Hearing). l ++ ys) p ∙ append_assoc x xs ys
+
+said-none : (a : Option (List Hearing)) → HasHeard a a []
+said-none None = tt
+said-none (Some x) = sym (append-nil x)
+
+often-more : (from until k : ℕ) (hs : List Hearing) (h : Heard) → AreOften from until hs → k ≤ longest_turn → AreOften from (until + k) (hs ++ hearing until h ∷ [])
+often-more from until k [] h often few = (often.0, often.1, (omega arith, omega arith))
+often-more from until k (x ∷ xs) h often few = (often.0, often.1, often-more x.count until k xs h often.2 few)
+
+module _ {s : Sitting} {before now : TypingState} {keys : List Key} {done : ℕ} (l : HasListened s before now keys done) where
+  -- nothing was typed, and steps of a turn follow
+  pub listened-on : (next : TypingState) (k : ℕ) → k ≤ longest_turn → IsHeard done now next heard.Nothing → HasNoLongWait s.system s.start keys l.begun (done + k) →
+      HasListened s before next keys (done + k)
+  listened-on next k few is brief = record {
+    scripted = l.scripted;
+    typed = l.typed;
+    joined = l.joined;
+    script = l.script;
+    begun = l.begun;
+    at_once = l.at_once;
+    answers = l.answers ++ hearing done heard.Nothing ∷ [];
+    said = said-more before.heard now.heard next.heard l.answers (hearing done heard.Nothing ∷ []) l.said is.said;
+    given = heard-more l.answers (hearing done heard.Nothing) ∙ append-nil (keys_heard l.answers) ∙ l.given;
+    often = often-more l.begun done k l.answers heard.Nothing l.often few;
+    read = subst (λ v. HasReadKeys before.unread next.unread v) (append-nil (bytes_of l.typed)) (read_more before.unread now.unread next.unread (bytes_of l.typed) [] l.read is.read);
+    wanted = l.wanted;
+    brief = brief;
   }
 
-  -- the writer failed
-  pub live-unshown : (k : ℕ) (turned next : MachineState) (written_then : Option (List ℕ)) (e : LiveError) → k ≤ steps - done → turned ≡ after system k now → IsUnwritable e × HasText turned →
-      IsCutShort system steps most start next before written_then unrecorded record_now unread left e
-  live-unshown k turned next written_then (Unreadable e) fits is text = absurd text.0
-  live-unshown k turned next written_then (Unwritable e) fits is text =
-      (keys, going-text system steps most start now before written unrecorded record_now keys done live.going k turned fits is text.1, live.watched.wanted, live.going.noted, live.read)
-  live-unshown k turned next written_then (Unrecorded e) fits is text = absurd text.0
-  live-unshown k turned next written_then OutOfMemory fits is text = absurd text.0
+  pub listened-still : (next : TypingState) → IsHeard done now next heard.Nothing → HasListened s before next keys done
+  listened-still next is = subst (HasListened s before next keys) (let same : done + 0 ≡ done = omega arith in same)
+      (listened-on next 0 (omega arith) is (subst (HasNoLongWait s.system s.start keys l.begun) (let same : done ≡ done + 0 = omega arith in same) l.brief))
 
-  -- ---- where a key is wanted
+  -- the typist failed
+  pub listened-failed : (next : TypingState) → HasHeardNothing now next → HasListened s before next keys done
+  listened-failed next none = record {
+    scripted = l.scripted;
+    typed = l.typed;
+    joined = l.joined;
+    script = l.script;
+    begun = l.begun;
+    at_once = l.at_once;
+    answers = l.answers;
+    said = subst (HasHeard before.heard next.heard) (append-nil l.answers) (said-more before.heard now.heard next.heard l.answers [] l.said none.said);
+    given = l.given;
+    often = l.often;
+    read = subst (λ v. HasReadKeys before.unread next.unread v) (append-nil (bytes_of l.typed)) (read_more before.unread now.unread next.unread (bytes_of l.typed) [] l.read none.read);
+    wanted = l.wanted;
+    brief = l.brief;
+  }
 
-  module _ (wants : IsKeyWanted system start keys done) where
-    -- a key more
-    pub live-key : (byte : ℕ) (next : MachineState) (record_then left_then : Option (List ℕ)) (more : List Key) (watch_then : Watch) → byte < 128 → done < 2 ^ 64 → length keys < most →
-        more ≡ keys ++ record { count = done; byte = byte } ∷ [] → next ≡ keyed byte now →
-        Appends record_now record_then (key_line (record { count = done; byte = byte })) → HasReadKeys left left_then (byte ∷ []) → watch_then.polls ≡ 0 →
-        IsLive system steps most start next before written unrecorded record_then unread left_then more done watch_then
-    live-key byte next record_then left_then more watch_then ascii fits room is pressed notes reads none =
-        let key : Key = record { count = done; byte = byte } in
-        record {
-          going = going-key system steps most start now before written unrecorded record_now keys done live.going byte next record_then more ascii fits room is pressed notes;
-          read = subst (λ v. HasReadKeys unread left_then v) (sym (ap bytes_of is ∙ bytes-more keys key)) (read_more unread left left_then (bytes_of keys) (byte ∷ []) live.read reads);
-          watched = watched-key live.going live.watched watch_then more key none is refl wants;
-        }
+  -- a key was typed
+  pub listened-key : (next : TypingState) (byte : ℕ) (more : List Key) → IsHeard done now next (heard.Key byte) → more ≡ keys ++ record { count = done; byte = byte } ∷ [] →
+      IsWantedByPatient s keys done → HasNoLongWait s.system s.start more l.begun done → HasListened s before next more done
+  listened-key next byte more is joined wants brief =
+      let key : Key = record { count = done; byte = byte } in
+      record {
+        scripted = l.scripted;
+        typed = l.typed ++ key ∷ [];
+        joined = joined ∙ ap (λ (ks : List Key). ks ++ key ∷ []) l.joined ∙ append_assoc l.scripted l.typed (key ∷ []);
+        script = l.script;
+        begun = l.begun;
+        at_once = l.at_once;
+        answers = l.answers ++ hearing done (heard.Key byte) ∷ [];
+        said = said-more before.heard now.heard next.heard l.answers (hearing done (heard.Key byte) ∷ []) l.said is.said;
+        given = heard-more l.answers (hearing done (heard.Key byte)) ∙ ap (λ (ks : List Key). ks ++ key ∷ []) l.given;
+        often = subst (λ (n : ℕ). AreOften l.begun n (l.answers ++ hearing done (heard.Key byte) ∷ [])) (let same : done + 0 ≡ done = omega arith in same)
+            (often-more l.begun done 0 l.answers (heard.Key byte) l.often (omega arith));
+        read = subst (λ v. HasReadKeys before.unread next.unread v) (sym (bytes-more l.typed key))
+            (read_more before.unread now.unread next.unread (bytes_of l.typed) (byte ∷ []) l.read is.read.1);
+        wanted = λ patient. wanted-append s.system s.start l.scripted l.typed key (l.wanted patient)
+            (subst (λ (ks : List Key). IsKeyWanted s.system s.start ks done) l.joined (wants patient));
+        brief = brief;
+      }
 
-    -- what it is now
-    live-paused : length keys < most → HasPaused system steps most start now before written keys
-    live-paused room = record {
-      come = record {
-        done = done;
-        within = live.going.within;
-        given = going-given system steps most start now before written unrecorded record_now keys done live.going;
-        text = going-shown system steps most start now before written unrecorded record_now keys done live.going;
-        ending = going-ending system steps most start now before written unrecorded record_now keys done live.going;
+-- a patient typist says something only where a key is wanted
+pub patient-wanted : (need : KeyNeed) (said : Heard) → (said ≡ heard.Nothing → ⊥) → IsHeardPatiently need said → need ≡ Wanted
+patient-wanted Wanted said other is = refl
+patient-wanted Pending said other is = absurd (other is)
+patient-wanted Possible said other is = absurd (other is)
+
+pub is-wanted : (need : KeyNeed) → is_wanted need ≡ true → need ≡ Wanted
+is-wanted Wanted e = refl
+is-wanted Pending e = absurd (let bad : ⊥ = cc in bad)
+is-wanted Possible e = absurd (let bad : ⊥ = cc in bad)
+
+pub not-wanted : (need : KeyNeed) → is_wanted need ≡ false → need ≡ Wanted → ⊥
+not-wanted need e wanted = absurd (true≢false (sym (ap is_wanted wanted) ∙ e))
+
+-- ---- the session
+
+-- it goes, this was heard, and so much was watched
+pub record IsLive (s : Sitting) (now : MachineState) (written_before written unrecorded record_now : Option (List ℕ)) (before latest : TypingState) (keys : List Key) (done : ℕ) (watch : Watch)
+    : Type 0 where
+  pub going : IsGoing s.system s.steps (length keys) s.start now written_before written unrecorded record_now keys done
+  pub listened : HasListened s before latest keys done
+  pub polled : HasPolled s.system s.start keys watch.polls (last_count 0 keys) (done + 1) (screen_at s.system s.start keys done)
+
+-- with other bounds of the number of its keys
+going-wide : {system : Disk} {steps most : ℕ} {start now : MachineState} {before written unrecorded record_now : Option (List ℕ)} {keys : List Key} {done : ℕ} →
+    IsGoing system steps most start now before written unrecorded record_now keys done → (other : ℕ) → length keys ≤ other →
+    IsGoing system steps other start now before written unrecorded record_now keys done
+going-wide going other fits = record {
+  console = going.console;
+  list = going.list;
+  gone = going.gone;
+  shown = going.shown;
+  quiet = going.quiet;
+  within = going.within;
+  few = fits;
+  noted = going.noted;
+}
+
+pub live-start : (s : Sitting) (most : ℕ) (now : MachineState) (written_before written unrecorded record_now : Option (List ℕ)) (typing : TypingState) (keys : List Key) (done : ℕ) (watch : Watch) →
+    IsGoing s.system s.steps most s.start now written_before written unrecorded record_now keys done → IsCued s.system s.start s.steps 0 s.cues keys → (s.cues ≡ [] → done ≡ 0) →
+    watch.polls ≡ 0 → IsLive s now written_before written unrecorded record_now typing typing keys done watch
+live-start s most now written_before written unrecorded record_now typing keys done watch going cued first none =
+    let watched = watched-start s.system s.start keys done watch none in
+    record {
+      going = going-wide going (length keys) (omega arith);
+      listened = record {
+        scripted = keys;
+        typed = [];
+        joined = sym (append-nil keys);
+        script = cued;
+        begun = done;
+        at_once = first;
+        answers = [];
+        said = said-none typing.heard;
+        given = refl;
+        often = (omega arith, omega arith);
+        read = read_none typing.unread;
+        wanted = λ _. tt;
+        brief = watched.brief;
       };
-      wants = wants;
-      room = room;
-      wanted = live.watched.wanted;
+      polled = watched.polled;
     }
 
-    -- why it is cut short: the reader failed
-    pub live-unread : (left_then : Option (List ℕ)) (e : LiveError) → length keys < most → IsUnreadable e → HasReadKeys left left_then [] →
-        IsCutShort system steps most start now before written unrecorded record_now unread left_then e
-    live-unread left_then (Unreadable e) room is none =
-        (keys, live-paused room, live.going.noted, subst (λ v. HasReadKeys unread left_then v) (append-nil (bytes_of keys)) (read_more unread left left_then (bytes_of keys) [] live.read none))
-    live-unread left_then (Unwritable e) room is none = absurd is
-    live-unread left_then (Unrecorded e) room is none = absurd is
-    live-unread left_then OutOfMemory room is none = absurd is
+module _ {s : Sitting} {now : MachineState} {written_before written unrecorded record_now : Option (List ℕ)} {before latest : TypingState} {keys : List Key} {done : ℕ} {watch : Watch}
+    (live : IsLive s now written_before written unrecorded record_now before latest keys done watch) where
+  pub live-watched : IsWatched s.system s.start keys live.listened.begun done watch
+  live-watched = record { polled = live.polled; brief = live.listened.brief }
 
-    -- a key that was read was not given
-    pub live-not-given : (byte : ℕ) (next : MachineState) (record_then left_then : Option (List ℕ)) (e : LiveError) → length keys < most → HasReadKeys left left_then (byte ∷ []) → next ≡ now →
-        IsNotGiven e record_now record_then → IsCutShort system steps most start next before written unrecorded record_then unread left_then e
-    live-not-given byte next record_then left_then e room reads same =
-        let paused : HasPaused system steps most start next before written keys = subst (λ s. HasPaused system steps most start s before written keys) (sym same) (live-paused room) in
-        by_error e paused (byte, read_more unread left left_then (bytes_of keys) (byte ∷ []) live.read reads)
-      where
-        by_error : (e : LiveError) → HasPaused system steps most start next before written keys → HasReadOneMore unread left_then keys → IsNotGiven e record_now record_then →
-            IsCutShort system steps most start next before written unrecorded record_then unread left_then e
-        by_error (Unreadable e) paused more is = absurd is
-        by_error (Unwritable e) paused more is = absurd is
-        by_error (Unrecorded e) paused more is = (keys, paused, more)
-        by_error OutOfMemory paused more is = (keys, paused, subst (λ o. Appends unrecorded o (recorded keys)) (sym is) live.going.noted, more)
+  -- nothing was typed, and the steps of a turn follow, whose text is taken
+  pub live-turn : (next : TypingState) (k : ℕ) (turned last : MachineState) (written_then : Option (List ℕ)) (watch_then : Watch) → IsHeard done latest next heard.Nothing →
+      0 < k → k ≤ s.steps - done → k ≤ longest_turn → waits_at s.system s.start keys done ≡ false →
+      turned ≡ after s.system k now → HasWatched watch watch_then k turned → last ≡ without_list (without_text turned) → Appends written written_then turned.session.console.screen →
+      IsLive s last written_before written_then unrecorded record_now before next keys (done + k) watch_then
+  live-turn next k turned last written_then watch_then is some fits few busy there watches taken writes =
+      let watched = watched-turn live.going live-watched k turned watch_then some few busy there watches in
+      record {
+        going = going-turn s.system s.steps (length keys) s.start now written_before written unrecorded record_now keys done live.going k turned last written_then fits there taken writes;
+        listened = listened-on live.listened next k few is watched.brief;
+        polled = watched.polled;
+      }
 
-    -- no key came any more
-    quit : (left_then : Option (List ℕ)) → HasQuit left left_then [] → HasQuit unread left_then (bytes_of keys)
-    quit left_then q = record {
-      bytes = live.read.bytes ++ q.bytes;
-      consumed = subst (λ v. Consumes unread left_then v) (sym (append_assoc live.read.bytes q.bytes (end_key ∷ [])))
-          (consumes_more unread left left_then live.read.bytes (q.bytes ++ end_key ∷ []) live.read.consumed q.consumed);
-      goes_on = λ rest. ap typed_keys (append_assoc live.read.bytes q.bytes rest) ∙ live.read.goes_on (q.bytes ++ rest) ∙ ap (λ v. bytes_of keys ++ v) (q.goes_on rest);
-    }
+  -- nothing was typed, and no step follows
+  pub live-still : (next : TypingState) → IsHeard done latest next heard.Nothing → IsLive s now written_before written unrecorded record_now before next keys done watch
+  live-still next is = record { going = live.going; listened = listened-still live.listened next is; polled = live.polled }
 
-    pub live-over : (left_then : Option (List ℕ)) → IsOver left left_then →
-        AreTypedKeysRead unread left_then keys × HasReason system start steps most unread left_then keys done now
-    live-over left_then (inl q) = (inr (quit left_then q), inr (inr (wants, inr (inr (quit left_then q)))))
-    live-over left_then (inr end) =
-        (inl (subst (λ v. HasReadKeys unread left_then v) (append-nil (bytes_of keys)) (read_more unread left left_then (bytes_of keys) [] live.read end.0)), inr (inr (wants, inr (inl end.1))))
+  -- the writer failed
+  pub live-unshown : (next : TypingState) (k : ℕ) (turned last : MachineState) (written_then : Option (List ℕ)) (e : LiveError) → IsHeard done latest next heard.Nothing →
+      k ≤ s.steps - done → turned ≡ after s.system k now → IsUnwritable e × HasText turned →
+      IsCutShort s last written_before written_then unrecorded record_now before next e
+  live-unshown next k turned last written_then (Unreadable e) is fits there text = absurd text.0
+  live-unshown next k turned last written_then (Unwritable e) is fits there text = (
+    keys,
+    record {
+      at = done;
+      listened = listened-still live.listened next is;
+      text = going-text s.system s.steps (length keys) s.start now written_before written unrecorded record_now keys done live.going k turned fits there text.1;
+    },
+    live.going.noted,
+  )
+  live-unshown next k turned last written_then (Unrecorded e) is fits there text = absurd text.0
+  live-unshown next k turned last written_then OutOfMemory is fits there text = absurd text.0
 
-    -- it has had as many as it may
-    pub live-full : most ≤ length keys → HasReason system start steps most unread left keys done now
-    live-full full = let few = live.going.few in inr (inr (wants, inl (omega arith)))
+  -- a key more
+  pub live-key : (next : TypingState) (byte : ℕ) (pressed : MachineState) (record_then : Option (List ℕ)) (more : List Key) (watch_then : Watch) → IsHeard done latest next (heard.Key byte) →
+      IsWantedByPatient s keys done → done < 2 ^ 64 → more ≡ keys ++ record { count = done; byte = byte } ∷ [] → pressed ≡ keyed byte now →
+      Appends record_now record_then (key_line (record { count = done; byte = byte })) → watch_then.polls ≡ 0 →
+      IsLive s pressed written_before written unrecorded record_then before next more done watch_then
+  live-key next byte pressed record_then more watch_then is wants fits joined state notes none =
+      let key : Key = record { count = done; byte = byte } in
+      let longer : length more ≡ length keys + 1 = ap length joined ∙ length_push keys key in
+      let watched = watched-key live.going live-watched watch_then more key none joined refl in
+      record {
+        going = going-key s.system s.steps (length more) s.start now written_before written unrecorded record_now keys done (going-wide live.going (length more) (omega arith))
+            byte pressed record_then more is.read.0 fits (omega arith) joined state notes;
+        listened = listened-key live.listened next byte more is joined wants watched.brief;
+        polled = watched.polled;
+      }
+
+  -- ---- where it is cut short
+
+  live-paused : (next : TypingState) → HasListened s before next keys done → HasPaused s now written_before written before next keys
+  unfolding going-come
+  live-paused next listened = record {
+    come = going-come s.system s.steps (length keys) s.start now written_before written unrecorded record_now keys done live.going;
+    listened = listened;
+  }
+
+  -- the typist failed
+  pub live-unheard : (next : TypingState) (e : LiveError) → IsUnreadable e → HasListened s before next keys done → IsWantedByPatient s keys done →
+      IsCutShort s now written_before written unrecorded record_now before next e
+  unfolding going-come live-paused
+  live-unheard next (Unreadable e) is listened wants = (keys, live-paused next listened, wants, live.going.noted)
+  live-unheard next (Unwritable e) is listened wants = absurd is
+  live-unheard next (Unrecorded e) is listened wants = absurd is
+  live-unheard next OutOfMemory is listened wants = absurd is
+
+  -- a key that was heard was not given
+  pub live-not-given : (next : TypingState) (byte : ℕ) (same : MachineState) (record_then : Option (List ℕ)) (e : LiveError) → IsHeard done latest next (heard.Key byte) →
+      IsWantedByPatient s keys done → same ≡ now → IsNotGiven e record_now record_then → IsCutShort s same written_before written unrecorded record_then before next e
+  unfolding going-come live-paused
+  live-not-given next byte same record_then e is wants still =
+      let one : HasHeardOneMore s now written_before written before next keys = record {
+        asked = latest;
+        paused = live-paused latest live.listened;
+        byte = byte;
+        next = is;
+        wanted = wants;
+      } in
+      by_error e (subst (λ m. HasHeardOneMore s m written_before written before next keys) (sym still) one)
+    where
+      by_error : (e : LiveError) → HasHeardOneMore s same written_before written before next keys → IsNotGiven e record_now record_then →
+          IsCutShort s same written_before written unrecorded record_then before next e
+      by_error (Unreadable e) one is = absurd is
+      by_error (Unwritable e) one is = absurd is
+      by_error (Unrecorded e) one is = (keys, one)
+      by_error OutOfMemory one is = (keys, one, subst (λ o. Appends unrecorded o (recorded keys)) (sym is) live.going.noted)
+
+  -- ---- where it ends
+
+  -- no more is typed
+  pub live-quit : (next : TypingState) (end : TypingEnd) → IsHeard done latest next (heard.End end) → IsWantedByPatient s keys done → IsTypedPlay s before next keys done (Typing end)
+  live-quit next end is wants = record { asked = latest; listened = live.listened; why = (is, wants) }
+
+  -- the machine has ended
+  pub live-ended : (next : TypingState) → IsHeard done latest next heard.Nothing → is_running now.ended ≡ false → IsTypedPlay s before next keys done Ended
+  live-ended next is ended = record {
+    asked = next;
+    listened = listened-still live.listened next is;
+    why = (sym (ap is_running (going-ending s.system s.steps (length keys) s.start now written_before written unrecorded record_now keys done live.going).ended) ∙ ended, refl);
+  }
+
+  -- all steps were executed
+  pub live-done : s.steps ≤ done → IsTypedPlay s before latest keys done Steps
+  live-done all = let within = live.going.within in record { asked = latest; listened = live.listened; why = (omega arith, refl) }
 
 -- ---- its end
 
@@ -158,3 +324,24 @@ pub takes-first : (s : MachineState) → s.session.console.keys ≡ [] → takes
 takes-first s none =
     let count : length s.session.console.keys ≡ 0 = ap length none in
     grind (arith, nat_tests)
+
+-- one that does not wait for a key, either
+pub not-moved : (system : Disk) (n k : ℕ) (s : MachineState) → IsQuiet s → 0 < n → k ≡ executed_to_wait system n s → k ≡ 0 → (look_of s).waiting ≡ false → is_running s.ended ≡ false
+not-moved system n k s quiet some is none busy =
+    ⊎_elim (λ ended. ended) (λ waits. absurd (true≢false (sym waits ∙ busy)))
+    (stopped-waits system n k s s quiet some is none (sym (ap (λ m. after system m s) none)))
+
+-- ---- its measure
+
+-- a key that is given is pending then
+pub room-used : (asks left byte : ℕ) (now pressed : MachineState) → now.session.console.keys ≡ [] → pressed ≡ keyed byte now →
+    asks + (left * 2 + (if length pressed.session.console.keys == 0 then 1 else 0)) < asks + (left * 2 + (if length now.session.console.keys == 0 then 1 else 0))
+room-used asks left byte now pressed none is =
+    let P : ℕ → ℕ → Type 0 = λ i j. asks + (left * 2 + (if i == 0 then 1 else 0)) < asks + (left * 2 + (if j == 0 then 1 else 0)) in
+    let before : length now.session.console.keys ≡ 0 = ap length none in
+    let one : length pressed.session.console.keys ≡ 1 =
+    ap (λ (m : MachineState). length m.session.console.keys) is ∙ length_push now.session.console.keys byte ∙ ap (λ (n : ℕ). n + 1) before in
+    subst (λ i. P i (length now.session.console.keys)) (sym one) (subst (P 1) (sym before) (let less : P 1 0 = omega arith in less))
+
+pub fewer-asks : (asks left : ℕ) → 0 < asks → (asks - 1) + left < asks + left
+fewer-asks asks left some = omega arith

@@ -1,5 +1,5 @@
 -- Where a machine that is played live wants a key: the polls that are counted, and what a key and a turn more make of them.
-use Rattle.std.proofs.Common.{◌≡◌, ℕ, zero, suc, ◌+◌, ◌<◌, ◌≤◌, ◌==◌, ◌&&◌, ◌||◌, nat_le, not, is_some, Bool, true, false, true≢false, ◌⊎◌, inl, inr, ⊎_elim, Option, List, [], ◌∷◌, ◌++◌, length, slice_get, refl, sym, ap, ◌∙◌, subst, arith, append-nil, if◌then◌else◌}
+use Rattle.std.proofs.Common.{◌≡◌, ℕ, zero, suc, ◌+◌, ◌<◌, ◌≤◌, ◌==◌, ◌&&◌, ◌||◌, nat_le, not, is_some, Bool, true, false, true≢false, ◌≢◌, ◌⊎◌, inl, inr, ⊎_elim, Option, List, [], ◌∷◌, ◌++◌, length, slice_get, refl, sym, ap, ◌∙◌, subst, arith, append-nil, if◌then◌else◌}
 use Rattle.std.proofs.lemmas.Bool.{cases_lt}
 use Rattle.std.proofs.lemmas.Bool.Decides.{nat_tests}
 use Rattle.std.proofs.lemmas.List.{append_assoc, nil_from_length}
@@ -18,7 +18,11 @@ use Rattle.cpm_machine.specs.declared.reply.Why.TheVariants.{All, Stopped, Break
 use Rattle.cpm_machine.proofs.PressLaws.{alone-late}
 use Rattle.cpm_play.specs.Live.{AreBy, IsGoing}
 use Rattle.cpm_play.specs.Playing.{alone_by, last_count, presses_of, screen_at, waits_at}
-use Rattle.cpm_play.specs.Wanting.{AreWanted, AreWantedAfter, HasAsked, HasNoLongWait, HasPolled, HasWatched, IsKeyWanted, asks_for_key, console_status_address, is_poll, longest_turn, polls_by, polls_enough, polls_kept, polls_more, polls_seen, watched_address}
+use Rattle.cpm_play.specs.Typist.{CanBeHeard}
+use Rattle.cpm_play.specs.Wanting.{AreWantedAfter, HasAsked, HasNoLongWait, HasPolled, HasWatched, IsKeyWanted, asks_for_key, console_status_address, is_poll, longest_turn, need_of, polls_by, polls_enough, polls_kept, polls_more, polls_seen, watched_address}
+use Rattle.cpm_play.specs.declared.typist.Heard.TheVariants as heard
+use Rattle.cpm_play.specs.declared.typist.KeyNeed.{KeyNeed}
+use Rattle.cpm_play.specs.declared.typist.KeyNeed.TheVariants.{Pending, Possible, Wanted}
 use Rattle.cpm_play.specs.declared.watch.Watch.{Watch}
 use Rattle.cpm_play.proofs.AloneLemmas.{none-due, presses-append}
 use Rattle.cpm_play.proofs.CuedLemmas.{going-shows, going-state}
@@ -95,7 +99,7 @@ module _ (old new : Watch) (pc most k : ℕ) (now : MachineState) (at : pc ≡ w
 
 -- ---- keys
 
-wanted-append : (system : Disk) (start : MachineState) (given keys : List Key) (key : Key) → AreWantedAfter system start given keys → IsKeyWanted system start (given ++ keys) key.count →
+pub wanted-append : (system : Disk) (start : MachineState) (given keys : List Key) (key : Key) → AreWantedAfter system start given keys → IsKeyWanted system start (given ++ keys) key.count →
     AreWantedAfter system start given (keys ++ key ∷ [])
 wanted-append system start given [] key wanted wants = (subst (λ ks. IsKeyWanted system start ks key.count) (append-nil given) wants, tt)
 wanted-append system start given (k ∷ keys) key wanted wants = (
@@ -117,39 +121,36 @@ alone-before system start keys more key i is sooner =
 
 -- ---- how a session is watched
 
--- The polls that were counted since the last key, that each key was wanted, and that no wait was longer than a turn.
-pub record IsWatched (system : Disk) (start : MachineState) (keys : List Key) (done : ℕ) (watch : Watch) : Type 0 where
+-- The polls that were counted since the last key, and that no wait was longer than a turn.
+pub record IsWatched (system : Disk) (start : MachineState) (keys : List Key) (begun done : ℕ) (watch : Watch) : Type 0 where
   pub polled : HasPolled system start keys watch.polls (last_count 0 keys) (done + 1) (screen_at system start keys done)
-  pub wanted : AreWanted system start keys
-  pub brief : HasNoLongWait system start keys done
+  pub brief : HasNoLongWait system start keys begun done
 
 -- so many polls, where there are none
 none-polled : (system : Disk) (start : MachineState) (keys : List Key) (count from until : ℕ) (shown : List ℕ) → count ≡ 0 → HasPolled system start keys count from until shown
 none-polled system start keys count from until shown none = polled-fewer system start keys count 0 from until shown (omega arith) (polled-none system start keys from until shown)
 
-pub watched-start : (system : Disk) (start : MachineState) (watch : Watch) → watch.polls ≡ 0 → IsWatched system start [] 0 watch
-watched-start system start watch none = record {
-  polled = none-polled system start [] watch.polls 0 1 (screen_at system start [] 0) none;
-  wanted = tt;
-  brief = λ n below. absurd (omega arith);
+pub watched-start : (system : Disk) (start : MachineState) (keys : List Key) (done : ℕ) (watch : Watch) → watch.polls ≡ 0 → IsWatched system start keys done done watch
+watched-start system start keys done watch none = record {
+  polled = none-polled system start keys watch.polls (last_count 0 keys) (done + 1) (screen_at system start keys done) none;
+  brief = λ n low below. absurd (omega arith);
 }
 
-module _ {system : Disk} {steps most : ℕ} {start now : MachineState} {before written unrecorded record_now : Option (List ℕ)} {keys : List Key} {done : ℕ} {watch : Watch}
-    (going : IsGoing system steps most start now before written unrecorded record_now keys done) (watched : IsWatched system start keys done watch) where
+module _ {system : Disk} {steps most : ℕ} {start now : MachineState} {before written unrecorded record_now : Option (List ℕ)} {keys : List Key} {begun done : ℕ} {watch : Watch}
+    (going : IsGoing system steps most start now before written unrecorded record_now keys done) (watched : IsWatched system start keys begun done watch) where
   -- a key more
-  pub watched-key : (next : Watch) (more : List Key) (key : Key) → next.polls ≡ 0 → more ≡ keys ++ key ∷ [] → key.count ≡ done → IsKeyWanted system start keys done → IsWatched system start more done next
-  watched-key next more key none is at wants = record {
+  pub watched-key : (next : Watch) (more : List Key) (key : Key) → next.polls ≡ 0 → more ≡ keys ++ key ∷ [] → key.count ≡ done → IsWatched system start more begun done next
+  watched-key next more key none is at = record {
     polled = none-polled system start more next.polls (last_count 0 more) (done + 1) (screen_at system start more done) none;
-    wanted = subst (AreWanted system start) (sym is) (wanted-append system start [] keys key watched.wanted (subst (IsKeyWanted system start keys) (sym at) wants));
-    brief = λ n below waits. watched.brief n below
-        (λ i low high. sym (ap (λ (s : MachineState). (look_of s).waiting) (alone-before system start keys more key i is (omega arith))) ∙ waits i low high);
+    brief = λ n low below waits. watched.brief n low below
+        (λ i more_than high. sym (ap (λ (s : MachineState). (look_of s).waiting) (alone-before system start keys more key i is (omega arith))) ∙ waits i more_than high);
   }
 
   -- ---- a turn
 
   -- no wait is longer, where it did not wait before
-  brief-turn : (k : ℕ) → k ≤ longest_turn → waits_at system start keys done ≡ false → HasNoLongWait system start keys (done + k)
-  brief-turn k few busy n below waits = ⊎_elim (λ early. watched.brief n early waits)
+  brief-turn : (k : ℕ) → k ≤ longest_turn → waits_at system start keys done ≡ false → HasNoLongWait system start keys begun (done + k)
+  brief-turn k few busy n from below waits = ⊎_elim (λ early. watched.brief n from early waits)
       (λ late. true≢false (sym (waits done (omega arith) (omega arith)) ∙ busy))
       (cases_lt (n + longest_turn) done)
 
@@ -191,35 +192,47 @@ module _ {system : Disk} {steps most : ℕ} {start now : MachineState} {before w
       (record { later = omega arith; sooner = omega arith; asks = asks-alone k turned is one.1; still = refl }) kept)
 
   pub watched-turn : (k : ℕ) (turned : MachineState) (next : Watch) → 0 < k → k ≤ longest_turn → waits_at system start keys done ≡ false → turned ≡ after system k now → HasWatched watch next k turned →
-      IsWatched system start keys (done + k) next
+      IsWatched system start keys begun (done + k) next
   watched-turn k turned next some few busy is watches = record {
     polled = turned-polls k turned next some is watches;
-    wanted = watched.wanted;
     brief = brief-turn k few busy;
   }
 
   -- ---- whether a key is wanted
 
-  module _ (look : Look) (is : look ≡ look_of now) (wants : Bool) (told : wants ≡ (look.keys == 0 && (look.waiting || nat_le polls_enough watch.polls))) where
-    both : (none waits polls : Bool) → (none && (waits || polls)) ≡ true → (none ≡ true) × ((waits ≡ true) ⊎ (polls ≡ true))
+  module _ (look : Look) (is : look ≡ look_of now) (need : KeyNeed) (told : need ≡ need_of watch look) where
+    both : (none waits polls : Bool) → Wanted ≡ (if none then (if waits || polls then Wanted else Possible) else Pending) → (none ≡ true) × ((waits ≡ true) ⊎ (polls ≡ true))
     both true true polls e = (refl, inl refl)
     both true false true e = (refl, inr refl)
     both true false false e = absurd (let bad : ⊥ = cc in bad)
     both false waits polls e = absurd (let bad : ⊥ = cc in bad)
 
-    pub none-here : wants ≡ true → now.session.console.keys ≡ []
+    bare : (none asks : Bool) → (if none then (if asks then Wanted else Possible) else Pending) ≢ Pending → none ≡ true
+    bare true asks other = refl
+    bare false asks other = absurd (other refl)
+
+    not_pending : (n : KeyNeed) (byte : ℕ) → CanBeHeard n (heard.Key byte) → n ≢ Pending
+    not_pending Pending byte fits e = absurd fits
+    not_pending Possible byte fits e = let bad : ⊥ = cc in bad
+    not_pending Wanted byte fits e = let bad : ⊥ = cc in bad
+
+    pub none-here : (byte : ℕ) → CanBeHeard need (heard.Key byte) → now.session.console.keys ≡ []
     unfolding look_of
-    none-here asked =
-        let parts = both (look.keys == 0) look.waiting (nat_le polls_enough watch.polls) (sym told ∙ asked) in
+    none-here byte fits =
+        let other : need_of watch look ≢ Pending = λ e. not_pending need byte fits (told ∙ e) in
+        let first = bare (look.keys == 0) (look.waiting || nat_le polls_enough watch.polls) other in
         let counted : look.keys ≡ length now.session.console.keys = ap (λ (l : Look). l.keys) is in
-        let first = parts.0 in
         nil_from_length now.session.console.keys (grind (arith, nat_tests))
 
-    pub wanted-here : wants ≡ true → IsKeyWanted system start keys done
+    pub wanted-here : need ≡ Wanted → IsKeyWanted system start keys done
+    unfolding look_of
     wanted-here asked =
-        let parts = both (look.keys == 0) look.waiting (nat_le polls_enough watch.polls) (sym told ∙ asked) in
+        let parts = both (look.keys == 0) look.waiting (nat_le polls_enough watch.polls) (sym asked ∙ told) in
+        let counted : look.keys ≡ length now.session.console.keys = ap (λ (l : Look). l.keys) is in
+        let first = parts.0 in
+        let none : now.session.console.keys ≡ [] = nil_from_length now.session.console.keys (grind (arith, nat_tests)) in
         record {
-          none = sym (ap (λ (s : MachineState). s.session.console.keys) going.gone.state) ∙ none-here asked;
+          none = sym (ap (λ (s : MachineState). s.session.console.keys) going.gone.state) ∙ none;
           why = ⊎_elim (λ waits. inl (sym (going-waiting system steps most start now before written unrecorded record_now keys done going) ∙ sym (ap (λ (l : Look). l.waiting) is) ∙ waits))
               (λ polls.
               let enough : polls_enough ≤ watch.polls = grind (arith, nat_tests) in
@@ -232,9 +245,9 @@ module _ {system : Disk} {steps most : ℕ} {start now : MachineState} {before w
     waits-bare true false (x ∷ xs) e = absurd (let bad : ⊥ = cc in bad)
     waits-bare false needs (x ∷ xs) e = absurd (let bad : ⊥ = cc in bad)
 
-    pub busy-here : wants ≡ false → waits_at system start keys done ≡ false
+    pub idle-here : (need ≡ Wanted → ⊥) → (look_of now).waiting ≡ false
     unfolding look_of
-    busy-here idle = sym (going-waiting system steps most start now before written unrecorded record_now keys done going) ∙ by_test (look_of now).waiting refl
+    idle-here other = by_test (look_of now).waiting refl
       where
         by_test : (b : Bool) → (look_of now).waiting ≡ b → b ≡ false
         by_test false e = refl
@@ -243,4 +256,7 @@ module _ {system : Disk} {steps most : ℕ} {start now : MachineState} {before w
             let counted : look.keys ≡ length now.session.console.keys = ap (λ (l : Look). l.keys) is in
             let waits : look.waiting ≡ true = ap (λ (l : Look). l.waiting) is ∙ e in
             let none : (look.keys == 0) ≡ true = grind (arith, nat_tests) in
-            absurd (true≢false (sym (rw (none, waits) refl) ∙ sym told ∙ idle))
+            absurd (other (told ∙ (rw (none, waits) refl)))
+
+    pub busy-here : (need ≡ Wanted → ⊥) → waits_at system start keys done ≡ false
+    busy-here other = sym (going-waiting system steps most start now before written unrecorded record_now keys done going) ∙ idle-here other

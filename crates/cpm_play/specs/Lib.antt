@@ -5,6 +5,8 @@ pub mod Laws
 pub mod Players
 pub mod Typing
 pub mod Wanting
+pub mod Typist
 pub mod Live
 pub mod Cued
+pub mod Sitting
 pub mod Shown

@@ -1,17 +1,14 @@
--- One machine that is played live: its keys come as it wants them, and what it then has shown, recorded and become. All of it is own.
-use Rattle.std.specs.Prelude.{⊤, ◌≡◌, ℕ, ◌<◌, ◌≤◌, List, [], ◌∷◌, ◌++◌, length, map, Option, false, ◌⊎◌}
-use Rattle.std.specs.Io.KnownBytes.{Appends, IsAtEnd}
+-- One machine that is played live: its keys so far, and what it then has shown, recorded and become. All of it is own.
+use Rattle.std.specs.Prelude.{⊤, ◌≡◌, ℕ, ◌≤◌, List, [], ◌∷◌, length, map, Option}
+use Rattle.std.specs.Io.KnownBytes.{Appends}
 use Rattle.cpm_geom.specs.Disk.{Disk}
 use Rattle.cpm_script.specs.Recording.{AreTyped, recorded}
 use Rattle.cpm_script.specs.declared.script.Key.{Key}
 use Rattle.cpm_machine.specs.Calls.{state_behind}
 use Rattle.cpm_machine.specs.MachineState.{MachineState}
-use Rattle.cpm_machine.specs.Step.{is_running}
 use Rattle.cpm_play.specs.declared.live.LiveError.{LiveError}
 use Rattle.cpm_play.specs.declared.live.LiveError.TheVariants.{Unreadable, Unwritable, Unrecorded, OutOfMemory}
 use Rattle.cpm_play.specs.Playing.{EndsAs, HasText, IsQuiet, alone_by}
-use Rattle.cpm_play.specs.Typing.{HasQuit, HasReadKeys}
-use Rattle.cpm_play.specs.Wanting.{AreWanted, IsKeyWanted}
 
 -- ---- the keys
 
@@ -51,19 +48,7 @@ pub record IsGoing (system : Disk) (steps most : ℕ) (start now : MachineState)
   pub few : length keys ≤ most
   pub noted : Appends unrecorded record_now (recorded keys)
 
--- ---- what is said of a session that was played
-
--- the keys are those that were read: all bytes below 80h, up to ^], which ends the session
-abbrev pub AreTypedKeysRead : Option (List ℕ) → Option (List ℕ) → List Key → Type 0
-AreTypedKeysRead unread left keys = HasReadKeys unread left (bytes_of keys) ⊎ HasQuit unread left (bytes_of keys)
-
--- It ends after its steps, or where the machine has ended, or where a key is wanted: when it has had as many as it may, or the input is at its end, or with ^].
-abbrev pub HasReason : Disk → MachineState → (steps most : ℕ) → (unread left : Option (List ℕ)) → List Key → ℕ → MachineState → Type 0
-HasReason system start steps most unread left keys done now =
-    (done ≡ steps) ⊎ (is_running now.ended ≡ false)
-    ⊎ (IsKeyWanted system start keys done × ((length keys ≡ most) ⊎ IsAtEnd left ⊎ HasQuit unread left (bytes_of keys)))
-
--- ---- what is said of one that was not
+-- ---- as far as it came
 
 -- it has come so far by these keys, all of them and no other, and showed all of its text
 pub record HasCome (system : Disk) (steps most : ℕ) (start now : MachineState) (before written : Option (List ℕ)) (keys : List Key) : Type 0 where
@@ -79,34 +64,6 @@ pub record HadText (system : Disk) (steps most : ℕ) (start : MachineState) (ke
   pub within : done ≤ steps
   pub given : AreGiven most done keys
   pub text : HasText (alone_by system keys done start)
-
--- and so far a key is wanted, of which it may have one more, and each of these was
-pub record HasPaused (system : Disk) (steps most : ℕ) (start now : MachineState) (before written : Option (List ℕ)) (keys : List Key) : Type 0 where
-  pub come : HasCome system steps most start now before written keys
-  pub wants : IsKeyWanted system start keys come.done
-  pub room : length keys < most
-  pub wanted : AreWanted system start keys
-
--- these keys were read, and one more
-abbrev pub HasReadOneMore : Option (List ℕ) → Option (List ℕ) → List Key → Type 0
-HasReadOneMore unread left keys = (b : ℕ) × HasReadKeys unread left (bytes_of keys ++ b ∷ [])
-
--- Why it was not played to its end, and what it had come to. The reader fails where a key is wanted, and all is shown and recorded. The writer fails where
--- there is text, and all keys are recorded. The record fails at a key that was read and is not pressed, and all is shown. Memory is refused for such a key,
--- and all is shown and recorded.
-abbrev pub IsCutShort : Disk → (steps most : ℕ) → (start now : MachineState)
-    → (before written unrecorded record_now unread left : Option (List ℕ)) → LiveError → Type 0
-IsCutShort system steps most start now before written unrecorded record_now unread left (Unreadable e) =
-    (keys : List Key) × HasPaused system steps most start now before written keys × Appends unrecorded record_now (recorded keys)
-    × HasReadKeys unread left (bytes_of keys)
-IsCutShort system steps most start now before written unrecorded record_now unread left OutOfMemory =
-    (keys : List Key) × HasPaused system steps most start now before written keys × Appends unrecorded record_now (recorded keys)
-    × HasReadOneMore unread left keys
-IsCutShort system steps most start now before written unrecorded record_now unread left (Unwritable e) =
-    (keys : List Key) × HadText system steps most start keys × AreWanted system start keys × Appends unrecorded record_now (recorded keys)
-    × HasReadKeys unread left (bytes_of keys)
-IsCutShort system steps most start now before written unrecorded record_now unread left (Unrecorded e) =
-    (keys : List Key) × HasPaused system steps most start now before written keys × HasReadOneMore unread left keys
 
 -- ---- the errors of its parts
 

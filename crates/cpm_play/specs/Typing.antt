@@ -1,6 +1,6 @@
 -- Keys that are typed: which of the bytes of an input are the keys of a live session. All of it is own.
-use Rattle.std.specs.Prelude.{◌≡◌, ℕ, ◌<◌, ◌==◌, nat_lt, List, [], ◌∷◌, ◌++◌, Option, Some, None, ◌⊎◌, if◌then◌else◌}
-use Rattle.std.specs.Io.KnownBytes.{Consumes, IsAtEnd}
+use Rattle.std.specs.Prelude.{◌≡◌, ℕ, ◌<◌, ◌==◌, nat_lt, List, [], ◌∷◌, ◌++◌, Option, if◌then◌else◌}
+use Rattle.std.specs.Io.KnownBytes.{Consumes}
 
 -- ^], which ends a live session and is no key of it
 abbrev pub end_key : ℕ
@@ -22,12 +22,3 @@ pub record HasQuit (before after : Option (List ℕ)) (keys : List ℕ) : Type 0
   pub bytes : List ℕ
   pub consumed : Consumes before after (bytes ++ end_key ∷ [])
   pub goes_on : (rest : List ℕ) → typed_keys (bytes ++ rest) ≡ keys ++ typed_keys rest
-
--- no key comes any more
-abbrev pub IsOver : Option (List ℕ) → Option (List ℕ) → Type 0
-IsOver before after = HasQuit before after [] ⊎ (HasReadKeys before after [] × IsAtEnd after)
-
--- the next key, or none
-abbrev pub IsTyped : Option (List ℕ) → Option (List ℕ) → Option ℕ → Type 0
-IsTyped before after (Some key) = (key < 128) × HasReadKeys before after (key ∷ [])
-IsTyped before after None = IsOver before after

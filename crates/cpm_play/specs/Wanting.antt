@@ -13,6 +13,8 @@ use Rattle.cpm_machine.specs.declared.reply.Look.{Look}
 use Rattle.cpm_machine.specs.declared.reply.Why.{Why}
 use Rattle.cpm_machine.specs.declared.reply.Why.TheVariants.{Break}
 use Rattle.cpm_play.specs.Playing.{alone_by, last_count, screen_at, waits_at}
+use Rattle.cpm_play.specs.declared.typist.KeyNeed.{KeyNeed}
+use Rattle.cpm_play.specs.declared.typist.KeyNeed.TheVariants.{Pending, Possible, Wanted}
 use Rattle.cpm_play.specs.declared.watch.Watch.{Watch}
 
 -- ---- the calls that ask whether a key is there
@@ -61,22 +63,22 @@ abbrev pub AreWantedAfter : Disk → MachineState → (given keys : List Key) �
 AreWantedAfter system start given [] = ⊤
 AreWantedAfter system start given (k ∷ keys) = IsKeyWanted system start given k.count × AreWantedAfter system start (given ++ k ∷ []) keys
 
--- each key came where the machine run alone by the keys before it wants one
-abbrev pub AreWanted : Disk → MachineState → List Key → Type 0
-AreWanted system start keys = AreWantedAfter system start [] keys
-
 -- ---- where none was given
 
 -- own: the steps of the longest turn
 abbrev pub longest_turn : ℕ
 longest_turn = 100000
 
--- as far as so many steps go, it waits for a key for no longer than a turn: of 100,001 counts in a row there is one at which it does not wait
-abbrev pub HasNoLongWait : Disk → MachineState → List Key → ℕ → Type 0
-HasNoLongWait system start keys done =
-    (n : ℕ) → n + longest_turn < done → ((i : ℕ) → n ≤ i → i ≤ n + longest_turn → waits_at system start keys i ≡ true) → ⊥
+-- from one count up to another it waits for a key for no longer than a turn: of 100,001 counts in a row there is one at which it does not wait
+abbrev pub HasNoLongWait : Disk → MachineState → List Key → (from until : ℕ) → Type 0
+HasNoLongWait system start keys from until =
+    (n : ℕ) → from ≤ n → n + longest_turn < until → ((i : ℕ) → n ≤ i → i ≤ n + longest_turn → waits_at system start keys i ≡ true) → ⊥
 
 -- ---- what is watched
+
+-- what it can do with a key, of which this is seen
+abbrev pub need_of : Watch → Look → KeyNeed
+need_of watch look = if look.keys == 0 then (if look.waiting || nat_le polls_enough watch.polls then Wanted else Possible) else Pending
 
 -- before which address the next turn stops
 abbrev pub watched_address : Watch → ℕ

@@ -248,7 +248,7 @@ impl LivePlay {
 }
 
 /// Plays a machine by a script as far as its keys come.
-fn follow<W: Write, S: Write, T: Watcher>(
+pub(crate) fn follow<W: Write, S: Write, T: Watcher>(
     alloc: Global,
     system: &Image,
     machine: &mut Machine,

@@ -15,12 +15,14 @@ mod scripted_slot;
 mod shown;
 mod turn;
 mod typing;
+mod typist;
 mod watch;
 
 pub use cued::{CuedKeys, play_cues};
 pub use error::PlayError;
-pub use live::{LiveError, LivePlay, play_live};
+pub use live::{LiveError, LivePlay, PlayEnd, TypedPlay, play_live};
 pub use player::{Fork, Player};
 pub use progress::{NoWatcher, Progress, Watcher};
 pub use rounds::play;
 pub use scripted_slot::ScriptedSlot;
+pub use typist::{Heard, KeyNeed, KeyReader, TypingEnd, Typist};

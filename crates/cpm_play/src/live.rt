@@ -1,31 +1,37 @@
 //! One machine that is played live.
 
-ghost use Rattle.std.specs.Prelude.{◌≡◌, ◌≤◌, ◌<◌, ◌++◌, ◌∷◌, [], false, true, IfErr, IfOk, OnErr, OnOk};
+ghost use Rattle.std.specs.Prelude.{◌≡◌, ◌≤◌, ◌<◌, ◌++◌, ◌∷◌, [], false, true, length, IfErr, IfOk, OnErr, OnOk};
 ghost use Rattle.std.specs.Io.KnownBytes.{Appends};
 ghost use Rattle.cpm_script.specs.Recording.{key_line, recorded};
+ghost use Rattle.cpm_script.specs.Script.{most_keys};
 ghost use Rattle.cpm_machine.specs.Serve.{keyed, look_of, takes_key};
 ghost use Rattle.cpm_machine.specs.Step.{after, is_running};
-ghost use Rattle.cpm_play.specs.Live.{AreGiven, AreTypedKeysRead, HasReason, IsCutShort, IsNotGiven, IsUnreadable, IsUnwritable};
+ghost use Rattle.cpm_play.specs.Cued.{AreAscii, IsCued, IsCutOff, key_count};
+ghost use Rattle.cpm_play.specs.Live.{AreGiven, IsGoing, IsNotGiven, IsUnreadable, IsUnwritable};
 ghost use Rattle.cpm_play.specs.Pacing.{without_list, without_text};
 ghost use Rattle.cpm_play.specs.Playing.{EndsAs, HasText, IsFresh, IsQuiet, alone_by, waits_at};
-ghost use Rattle.cpm_play.specs.Typing.{HasReadKeys, IsTyped};
-ghost use Rattle.cpm_play.specs.Wanting.{AreWanted, HasNoLongWait, HasWatched, longest_turn};
+ghost use Rattle.cpm_play.specs.Sitting.{IsTypedPlay, IsTypingCut, sitting};
+ghost use Rattle.cpm_play.specs.Typist.{CanBeHeard, HasHeardNothing, IsHeard, IsHeardPatiently};
+ghost use Rattle.cpm_play.specs.Wanting.{HasWatched, longest_turn};
+ghost use Rattle.cpm_play.specs.declared.typist.KeyNeed.TheVariants.{Wanted};
 
+use crate::cued::{CuedKeys, follow};
 use crate::machine::{drop_list, move_text};
-use crate::typing::next_key;
+use crate::progress::NoWatcher;
+use crate::typist::{Heard, KeyNeed, TypingEnd, Typist};
 use crate::watch::Watch;
 use cpm_geom::Image;
 use cpm_machine::Machine;
-use cpm_script::{Key, key_line};
+use cpm_script::{Cue, Key, key_line};
 use std::alloc::Global;
 use std::io;
-use std::io::{Read, Write};
+use std::io::{ErrorKind, Write};
 use thiserror::Error;
 
 /// Why a live session was not played to its end.
 #[derive(Clone, Copy, Debug, Drop, Error)]
 pub enum LiveError {
-    /// A key can't be read.
+    /// The typist failed.
     #[error("can't read keys: {0}")]
     Unreadable(io::Error),
     /// The console's text can't be written.
@@ -46,13 +52,42 @@ pub struct LivePlay {
     pub steps: u64,
 }
 
-/// The next key that is typed, or none where no more come.
-fn hear<I: Read>(input: &mut I) -> Result<Option<u8>, LiveError>
-    ensures key { IfOk result (IsTyped (I.remaining input.old) (I.remaining input.new)) }
-    ensures none { OnErr result (HasReadKeys (I.remaining input.old) (I.remaining input.new) []) }
+/// Why the play of a session that was typed at ended.
+#[derive(Clone, Copy, Debug, PartialEq, Eq, Drop)]
+pub enum PlayEnd {
+    /// It has executed all its steps.
+    Steps,
+    /// The machine has ended.
+    Ended,
+    /// No more was typed.
+    Typing(TypingEnd),
+}
+
+/// A session that was typed at, and why that ended.
+#[derive(Drop)]
+pub struct TypedPlay {
+    pub live: LivePlay,
+    pub end: PlayEnd,
+}
+
+/// What is heard of a typist.
+fn hear<T: Typist>(typist: &mut T, need: KeyNeed, count: u64) -> Result<Heard, LiveError>
+    ensures heard { IfOk result (IsHeard count (T.typing typist.old) (T.typing typist.new)) }
+    ensures fits { IfOk result (CanBeHeard need) }
+    ensures patient { T.patient typist.old ≡ true → IfOk result (IsHeardPatiently need) }
+    ensures nature { T.patient typist.new ≡ T.patient typist.old }
+    ensures none { OnErr result (HasHeardNothing (T.typing typist.old) (T.typing typist.new)) }
+    ensures early { T.patient typist.old ≡ true → OnErr result (need ≡ Wanted) }
     ensures refused { IfErr result IsUnreadable }
 {
-    next_key(input).map_err(LiveError::Unreadable)
+    typist.hear(need, count).map_err(LiveError::Unreadable)
+}
+
+/// The refusal of a typist that was asked again and again and gave nothing.
+fn unheard() -> LiveError
+    ensures { IsUnreadable result }
+{
+    LiveError::Unreadable(io::Error::new(ErrorKind::TimedOut, "no key came"))
 }
 
 /// Writes the line of a key at once.
@@ -113,9 +148,16 @@ pub(crate) fn show<W: Write>(machine: &mut Machine, out: &mut W) -> Result<(), L
     Ok(())
 }
 
-/// Executes the steps of a turn, at most so many, and says how many.
-fn turn(system: &Image, machine: &mut Machine, left: u64, watch: &mut Watch) -> u64
-    requires { 0 < left }
+/// Executes the steps of a turn, at most so many, and says how many. For a patient typist the calls are watched that ask for a key.
+fn turn(
+    system: &Image,
+    machine: &mut Machine,
+    left: u64,
+    is_patient: bool,
+    watch: &mut Watch,
+) -> u64
+    requires some { 0 < left }
+    requires busy { (look_of machine.old).waiting ≡ false }
     ensures within { result ≤ left }
     ensures few { result ≤ longest_turn }
     ensures state { machine.new ≡ after system.now result machine.old }
@@ -123,68 +165,124 @@ fn turn(system: &Image, machine: &mut Machine, left: u64, watch: &mut Watch) -> 
     ensures watched { HasWatched watch.old watch.new result machine.new }
 {
     let most = watch.most().min(left);
-    let granted = machine.grant_until(system, most, watch.address());
-    watch.see(&machine.look(), granted.why);
-    granted.executed
+    if is_patient {
+        let granted = machine.grant_until(system, most, watch.address());
+        watch.see(&machine.look(), granted.why);
+        granted.executed
+    } else {
+        let executed = machine.grant_to_wait(system, most);
+        watch.pass();
+        executed
+    }
 }
 
-/// Plays one machine for at most so many steps with keys that are typed meanwhile, at most so many, and writes its console bytes as they come. List bytes are
-/// dropped.
-///
-/// A key is read from `input` where the machine wants one: where it waits for a key, or asks again and again whether there is one (`IsKeyWanted`). While it
-/// waits it is run on for one turn at most. The key is pressed at the count where the machine then stands, and written to `record` as a line of a key script:
-/// by that script the machine shows and does the same again. A byte of 80h or more is no key and is passed over.
-///
-/// The session ends after its steps, where the machine ends, and where a key is wanted with ^], at the end of `input`, or after `most_keys` keys.
-pub fn play_live<I: Read, W: Write, S: Write>(
+/// Plays a machine by a script, as far as its keys come. Where it says nothing, nothing is done.
+fn play_script<W: Write, S: Write>(
     alloc: Global,
     system: &Image,
     machine: &mut Machine,
     steps: u64,
-    most_keys: usize,
-    input: &mut I,
+    cues: &[Cue],
     out: &mut W,
     record: &mut S,
 ) -> Result<LivePlay, LiveError>
     requires fresh { IsFresh machine.old }
-    ensures within { IfOk result (λ live. live.steps ≤ steps) }
-    ensures keys { IfOk result (λ live. AreGiven most_keys live.steps live.keys.items) }
-    ensures text { IfOk result (λ live. Appends (W.contents out.old) (W.contents out.new)
-        (alone_by system.now live.keys.items live.steps machine.old).session.console.screen) }
-    ensures ending { IfOk result (λ live. EndsAs (alone_by system.now live.keys.items live.steps machine.old) machine.new) }
-    ensures record { IfOk result (λ live. Appends (S.contents record.old) (S.contents record.new) (recorded live.keys.items)) }
-    ensures input { IfOk result (λ live. AreTypedKeysRead (I.remaining input.old) (I.remaining input.new) live.keys.items) }
-    ensures waits { IfOk result (λ live. (look_of machine.new).waiting ≡ waits_at system.now machine.old live.keys.items live.steps) }
-    ensures ends { IfOk result (λ live. HasReason system.now machine.old steps most_keys (I.remaining input.old) (I.remaining input.new)
-        live.keys.items live.steps machine.new) }
-    ensures wanted { IfOk result (λ live. AreWanted system.now machine.old live.keys.items) }
-    ensures brief { IfOk result (λ live. HasNoLongWait system.now machine.old live.keys.items live.steps) }
-    ensures refused { IfErr result (IsCutShort system.now steps most_keys machine.old machine.new (W.contents out.old) (W.contents out.new)
-        (S.contents record.old) (S.contents record.new) (I.remaining input.old) (I.remaining input.new)) }
+    requires ascii { AreAscii cues.now }
+    requires few { key_count cues.now ≤ most_keys }
+    ensures going { IfOk result (λ live. IsGoing system.now steps (key_count cues.entry.now) machine.old machine.new
+        (W.contents out.old) (W.contents out.new) (S.contents record.old) (S.contents record.new) live.keys.items live.steps) }
+    ensures keys { IfOk result (λ live. IsCued system.now machine.old steps 0 cues.entry.now live.keys.items) }
+    ensures none { IfOk result (λ live. cues.entry.now ≡ [] → live.steps ≡ 0) }
+    ensures refused { IfErr result (IsCutOff system.now steps 0 cues.entry.now machine.old machine.new
+        (W.contents out.old) (W.contents out.new) (S.contents record.old) (S.contents record.new)) }
 {
-    let mut live = LivePlay {
-        keys: Vec::new(alloc),
-        steps: 0,
+    if cues.is_empty() {
+        return Ok(LivePlay {
+            keys: Vec::new(alloc),
+            steps: 0,
+        });
+    }
+    let cued = CuedKeys {
+        cues,
+        waits_from: 0,
+        stops_idle: false,
     };
+    follow(
+        alloc,
+        system,
+        machine,
+        steps,
+        cued,
+        out,
+        record,
+        &mut NoWatcher,
+    )
+}
+
+/// Plays one machine for at most so many steps, by what a script says and then by the keys that are typed, and writes its console bytes as they come. List
+/// bytes are dropped.
+///
+/// The typist is asked after each turn. Each key is pressed at the count where the machine then stands, and written to `record` as a line of a key script: by
+/// these lines the machine shows and does the same again. A machine that waits for a key executes no step before it comes.
+///
+/// `Unreadable` has the typist's error, `Unwritable` and `Unrecorded` those of the writers. `OutOfMemory` comes where memory for a key is refused.
+pub fn play_live<T: Typist, W: Write, S: Write>(
+    alloc: Global,
+    system: &Image,
+    machine: &mut Machine,
+    steps: u64,
+    cues: &[Cue],
+    typist: &mut T,
+    out: &mut W,
+    record: &mut S,
+) -> Result<TypedPlay, LiveError>
+    requires fresh { IsFresh machine.old }
+    requires ascii { AreAscii cues.now }
+    requires few { key_count cues.now ≤ most_keys }
+    ensures within { IfOk result (λ play. play.live.steps ≤ steps) }
+    ensures keys { IfOk result (λ play. AreGiven (length play.live.keys.items) play.live.steps play.live.keys.items) }
+    ensures played { IfOk result (λ play. IsTypedPlay (sitting (T.patient typist.old) system.now machine.old steps cues.entry.now)
+        (T.typing typist.old) (T.typing typist.new) play.live.keys.items play.live.steps play.end) }
+    ensures text { IfOk result (λ play. Appends (W.contents out.old) (W.contents out.new)
+        (alone_by system.now play.live.keys.items play.live.steps machine.old).session.console.screen) }
+    ensures ending { IfOk result (λ play. EndsAs (alone_by system.now play.live.keys.items play.live.steps machine.old) machine.new) }
+    ensures record { IfOk result (λ play. Appends (S.contents record.old) (S.contents record.new) (recorded play.live.keys.items)) }
+    ensures waits { IfOk result (λ play. (look_of machine.new).waiting ≡ waits_at system.now machine.old play.live.keys.items play.live.steps) }
+    ensures refused { IfErr result (IsTypingCut (sitting (T.patient typist.old) system.now machine.old steps cues.entry.now) machine.new
+        (W.contents out.old) (W.contents out.new) (S.contents record.old) (S.contents record.new) (T.typing typist.old) (T.typing typist.new)) }
+{
+    let mut live = play_script(alloc, system, machine, steps, cues, out, record)?;
+    let is_patient = typist.is_patient();
     let mut watch = Watch::new();
+    let mut asks = u64::MAX;
     while live.steps < steps {
-        if watch.wants_key(&machine.look()) {
-            if live.keys.len() >= most_keys {
-                return Ok(live);
+        let need = watch.need(&machine.look());
+        match hear(typist, need, live.steps)? {
+            Heard::End(end) => {
+                let end = PlayEnd::Typing(end);
+                return Ok(TypedPlay { live, end });
             }
-            let Some(byte) = hear(input)? else {
-                return Ok(live);
-            };
-            live.give(machine, byte, record)?;
-            watch.give();
-        } else {
-            let executed = turn(system, machine, steps - live.steps, &mut watch);
-            if executed == 0 {
-                return Ok(live);
+            Heard::Key(byte) => {
+                live.give(machine, byte, record)?;
+                watch.give();
             }
-            live.steps += executed;
-            show(machine, out)?;
+            Heard::Nothing if need.is_wanted() => {
+                if asks == 0 {
+                    return Err(unheard());
+                }
+                asks -= 1;
+            }
+            Heard::Nothing => {
+                let executed = turn(system, machine, steps - live.steps, is_patient, &mut watch);
+                if executed == 0 {
+                    let end = PlayEnd::Ended;
+                    return Ok(TypedPlay { live, end });
+                }
+                live.steps += executed;
+                show(machine, out)?;
+            }
         }
     }
-    Ok(live)
+    let end = PlayEnd::Steps;
+    Ok(TypedPlay { live, end })
 }

@@ -1,9 +1,11 @@
-//! Keys that are typed.
+//! Keys that are read.
 
 ghost use Rattle.std.specs.Prelude.{[], ◌∷◌, IfOk, MatchOption, OnErr};
 ghost use Rattle.std.specs.Io.KnownBytes.{Consumes, IsAtEnd, Keeps};
-ghost use Rattle.cpm_play.specs.Typing.{HasReadKeys, IsTyped};
+ghost use Rattle.cpm_play.specs.Typing.{HasReadKeys};
+ghost use Rattle.cpm_play.specs.Typist.{IsReadAs, IsSomething};
 
+use crate::typist::{Heard, TypingEnd};
 use std::io;
 use std::io::{ErrorKind, Read};
 
@@ -24,16 +26,17 @@ fn read_byte<I: Read>(input: &mut I) -> io::Result<Option<u8>>
     }
 }
 
-/// The next key that is typed, or none after ^] and at the end of the input. A byte of 80h or more is no key and is passed over.
-pub(crate) fn next_key<I: Read>(input: &mut I) -> io::Result<Option<u8>>
-    ensures key { IfOk result (IsTyped (I.remaining input.old) (I.remaining input.new)) }
+/// The next key that is typed, or why there is none: after ^] and at the end of the input. A byte of 80h or more is no key and is passed over.
+pub(crate) fn next_key<I: Read>(input: &mut I) -> io::Result<Heard>
+    ensures key { IfOk result (IsReadAs (I.remaining input.old) (I.remaining input.new)) }
+    ensures something { IfOk result IsSomething }
     ensures none { OnErr result (HasReadKeys (I.remaining input.old) (I.remaining input.new) []) }
 {
     for _ in 0..u64::MAX {
         match read_byte(input) {
-            Ok(None) => return Ok(None),
-            Ok(Some(END_KEY)) => return Ok(None),
-            Ok(Some(byte)) if byte.is_ascii() => return Ok(Some(byte)),
+            Ok(None) => return Ok(Heard::End(TypingEnd::InputEnd)),
+            Ok(Some(END_KEY)) => return Ok(Heard::End(TypingEnd::Quit)),
+            Ok(Some(byte)) if byte.is_ascii() => return Ok(Heard::Key(byte)),
             Ok(Some(_)) => {}
             Err(error) if error.kind() == ErrorKind::Interrupted => {}
             Err(error) => return Err(error),

@@ -1,9 +1,10 @@
 //! When a machine that is played live wants a key.
 
-ghost use Rattle.std.specs.Prelude.{◌≡◌, ◌<◌, ◌≤◌, ◌==◌, ◌&&◌, ◌||◌, nat_le};
-ghost use Rattle.cpm_play.specs.Wanting.{is_poll, longest_turn, polls_enough, polls_more, polls_seen, watched_address};
+ghost use Rattle.std.specs.Prelude.{◌≡◌, ◌<◌, ◌≤◌, ◌||◌};
+ghost use Rattle.cpm_play.specs.Wanting.{is_poll, longest_turn, need_of, polls_more, polls_seen, watched_address};
 
 use crate::machine::QUANTUM;
+use crate::typist::KeyNeed;
 use cpm_flags::Regs;
 use cpm_machine::{Look, Why};
 use cpm_memory::layout::{BDOS, FIRST_BIOS};
@@ -83,11 +84,17 @@ impl Watch {
         }
     }
 
-    /// Whether the machine, of which this is seen, wants a key: it waits for one, or it polls, and none is pending.
-    pub(crate) fn wants_key(&self, look: &Look) -> bool
-        ensures { result ≡ (look.now.keys == 0 && (look.now.waiting || nat_le polls_enough self.now.polls)) }
+    /// What the machine, of which this is seen, can do with a key. It wants one where it waits for it, or polls, and none is pending.
+    pub(crate) fn need(&self, look: &Look) -> KeyNeed
+        ensures { result ≡ need_of self.now look.now }
     {
-        look.keys == 0 && (look.waiting || self.polls >= POLLS)
+        if look.keys != 0 {
+            KeyNeed::Pending
+        } else if look.waiting || self.polls >= POLLS {
+            KeyNeed::Wanted
+        } else {
+            KeyNeed::Possible
+        }
     }
 
     /// Sees what a turn left, before its text is taken, and why it ended.
@@ -114,6 +121,14 @@ impl Watch {
             self.polls = 0;
         }
         self.at_status = false;
+    }
+
+    /// Sees that a turn stopped before no call, where calls are not watched.
+    pub(crate) fn pass(&mut self)
+        ensures { self.new.polls ≡ 0 }
+    {
+        self.polls = 0;
+        self.quantum = self.quantum.saturating_mul(2);
     }
 
     /// Sees that a turn stopped before no call.

@@ -1,89 +1,174 @@
-use Rattle.std.proofs.Common.{◌≡◌, ◌<◌, ◌≤◌, ◌^◌, ◌∙◌, List, ap, arith, length, subst, sym}
-use Rattle.std.proofs.lemmas.Grind.{common_steps}
+use Rattle.std.proofs.Common.{◌≡◌, ◌-◌, ◌<◌, ◌≤◌, ◌^◌, ◌∙◌, refl, ap, arith, inl, inr, sym}
 use Rattle.std.proofs.lemmas.Result.{err_from_is_err_and}
-use Rattle.cpm_script.specs.declared.script.Key.{Key}
 use Rattle.cpm_machine.specs.Step.{after}
-use Rattle.cpm_play.proofs.GoingLemmas.{going-waiting}
-use Rattle.cpm_play.proofs.LiveLemmas.{IsLive, live-full, live-key, live-not-given, live-over, live-start, live-turn, live-unread, live-unshown, takes-first}
-use Rattle.cpm_play.proofs.WantingLemmas.{busy-here, none-here, wanted-here}
+use Rattle.cpm_play.specs.Live.{IsGoing}
+use Rattle.cpm_play.specs.Sitting.{IsWantedByPatient, sitting}
+use Rattle.cpm_play.specs.Typist.{IsHeard}
+use Rattle.cpm_play.specs.declared.typist.Heard.TheVariants as heard
+use Rattle.cpm_play.specs.declared.typist.KeyNeed.TheVariants.{Wanted}
+use Rattle.cpm_play.proofs.GoingLemmas.{going-ending, going-given, going-shown, going-waiting}
+use Rattle.cpm_play.proofs.LiveLemmas.{listened-failed, listened-still, live-done, live-ended, live-key, live-not-given, live-quit, live-start, live-still, live-turn, live-unheard, live-unshown, live-watched, fewer-asks, is-wanted, not-wanted, patient-wanted, room-used, takes-first}
+use Rattle.cpm_play.proofs.WantingLemmas.{busy-here, idle-here, none-here, wanted-here}
 use Rattle.cpm_play.proofs.live.play_live.Goals as goal
 
 pub loop-live-init : goal.loop-live-init
-loop-live-init g c =
-    subst (λ (keys : List Key). IsLive c.args.system.now c.args.steps c.args.most_keys c.args.machine.now c.args.machine.now (g.W.Write.contents c.args.out.now) (g.W.Write.contents c.args.out.now)
-    (g.S.Write.contents c.args.record.now) (g.S.Write.contents c.args.record.now) (g.I.Read.remaining c.args.input.now) (g.I.Read.remaining c.args.input.now) keys 0 c.new-watch.result) (sym c.new.ensures.items)
-    (live-start c.args.system.now c.args.steps c.args.most_keys c.args.machine.now (g.W.Write.contents c.args.out.now) (g.S.Write.contents c.args.record.now) (g.I.Read.remaining c.args.input.now) c.new-watch.result c.new-watch.ensures c.requires.fresh)
+loop-live-init g c = (
+  live-start (sitting (g.T.Typist.patient c.args.typist.now) c.args.system.now c.args.machine.now c.args.steps c.args.cues.now) _ c.play_script.new.machine (g.W.Write.contents c.args.out.now) (g.W.Write.contents c.play_script.new.out)
+      (g.S.Write.contents c.args.record.now) (g.S.Write.contents c.play_script.new.record) (g.T.Typist.typing c.args.typist.now) c.in_ok-live.live.keys.items c.in_ok-live.live.steps c.new-watch.result
+      c.in_ok-live.ensures.going c.in_ok-live.ensures.keys c.in_ok-live.ensures.none c.new-watch.ensures,
+  refl,
+)
 
-pub returns-then-len-most_keys-clause-ends : goal.returns-then-len-most_keys-clause-ends
-returns-then-len-most_keys-clause-ends g c =
-    let wants = wanted-here c.loop-live.invariant.going c.loop-live.invariant.watched c.look.result c.look.ensures c.wants_key.result c.wants_key.ensures c.if-wants_key.true in
-    let full : c.args.most_keys ≤ length c.loop-live.live.keys.items = let count = c.len.ensures in let enough = c.if-len-most_keys.true in grind (arith, common_steps) in
-    live-full _ _ _ _ _ _ _ _ _ _ _ _ _ _ c.loop-live.invariant wants full
+pub returns-in_err-end-clause-refused : goal.returns-in_err-end-clause-refused
+returns-in_err-end-clause-refused g c =
+    let p = err_from_is_err_and c.from_residual-in_err-end.result c.from_residual-in_err-end.ensures.1 in
+    let live = c.loop-live.invariant.0 in
+    rw (p.1, p.2) (inr (live-unheard live (g.T.Typist.typing c.hear.new.typist) c.in_err-end.field-0.0 c.in_err-end.ensures.refused (listened-failed live.listened (g.T.Typist.typing c.hear.new.typist) c.in_err-end.ensures.none)
+    (λ patient. wanted-here live.going (live-watched live) c.look.result c.look.ensures c.need-need.result c.need-need.ensures (c.in_err-end.ensures.early (c.loop-live.invariant.1 ∙ patient)))))
 
-pub returns-in_err-byte-clause-refused : goal.returns-in_err-byte-clause-refused
-returns-in_err-byte-clause-refused g c =
-    let p = err_from_is_err_and c.from_residual.result c.from_residual.ensures.1 in
-    let wants = wanted-here c.loop-live.invariant.going c.loop-live.invariant.watched c.look.result c.look.ensures c.wants_key.result c.wants_key.ensures c.if-wants_key.true in
-    let room : length c.loop-live.live.keys.items < c.args.most_keys = let count = c.len.ensures in let less = c.if-len-most_keys.false in grind (arith, common_steps) in
-    rw (p.1, p.2) (live-unread _ _ _ _ _ _ _ _ _ _ _ _ _ _ c.loop-live.invariant wants (g.I.Read.remaining c.hear.new.input) c.in_err-byte.field-0.0 room c.in_err-byte.ensures.refused c.in_err-byte.ensures.none)
-
-pub returns-in_default-clause-input : goal.returns-in_default-clause-input
-returns-in_default-clause-input g c =
-    let wants = wanted-here c.loop-live.invariant.going c.loop-live.invariant.watched c.look.result c.look.ensures c.wants_key.result c.wants_key.ensures c.if-wants_key.true in
-    (live-over _ _ _ _ _ _ _ _ _ _ _ _ _ _ c.loop-live.invariant wants (g.I.Read.remaining c.hear.new.input) (rw c.in_default.is at c.in_ok-byte.ensures.key)).0
-
-pub returns-in_default-clause-ends : goal.returns-in_default-clause-ends
-returns-in_default-clause-ends g c =
-    let wants = wanted-here c.loop-live.invariant.going c.loop-live.invariant.watched c.look.result c.look.ensures c.wants_key.result c.wants_key.ensures c.if-wants_key.true in
-    (live-over _ _ _ _ _ _ _ _ _ _ _ _ _ _ c.loop-live.invariant wants (g.I.Read.remaining c.hear.new.input) (rw c.in_default.is at c.in_ok-byte.ensures.key)).1
+pub returns-in-End-clause-played : goal.returns-in-End-clause-played
+returns-in-End-clause-played g c =
+    let live = c.loop-live.invariant.0 in
+    let is : IsHeard c.loop-live.live.steps (g.T.Typist.typing c.loop-live.typist) (g.T.Typist.typing c.hear.new.typist) (heard.End c.in-End.end) = rw c.in-End.is at c.in_ok-end.ensures.heard in
+    live-quit live (g.T.Typist.typing c.hear.new.typist) c.in-End.end is
+    (λ patient. wanted-here live.going (live-watched live) c.look.result c.look.ensures c.need-need.result c.need-need.ensures
+    (patient-wanted c.need-need.result (heard.End c.in-End.end) (λ e. let bad : ⊥ = cc in bad) (rw c.in-End.is at (c.in_ok-end.ensures.patient (c.loop-live.invariant.1 ∙ patient)))))
 
 pub give-requires-clause-room : goal.give-requires-clause-room
 give-requires-clause-room g c =
-    takes-first c.loop-live.machine (none-here c.loop-live.invariant.going c.loop-live.invariant.watched c.look.result c.look.ensures c.wants_key.result c.wants_key.ensures c.if-wants_key.true)
+    let live = c.loop-live.invariant.0 in
+    takes-first c.loop-live.machine (none-here live.going (live-watched live) c.look.result c.look.ensures c.need-need.result c.need-need.ensures c.in-Key.byte (rw c.in-Key.is at c.in_ok-end.ensures.fits))
 
-pub returns-in_err-give-clause-refused : goal.returns-in_err-give-clause-refused
-returns-in_err-give-clause-refused g c =
-    let p = err_from_is_err_and c.from_residual-in_err-give.result c.from_residual-in_err-give.ensures.1 in
-    let wants = wanted-here c.loop-live.invariant.going c.loop-live.invariant.watched c.look.result c.look.ensures c.wants_key.result c.wants_key.ensures c.if-wants_key.true in
-    let room : length c.loop-live.live.keys.items < c.args.most_keys = let count = c.len.ensures in let less = c.if-len-most_keys.false in grind (arith, common_steps) in
-    let typed = rw c.in-Some.is at c.in_ok-byte.ensures.key in
-    rw (p.1, p.2) (live-not-given _ _ _ _ _ _ _ _ _ _ _ _ _ _ c.loop-live.invariant wants c.in-Some.byte c.give.new.machine (g.S.Write.contents c.give.new.record) (g.I.Read.remaining c.hear.new.input)
-    c.in_err-give.field-0.0 room typed.1 c.in_err-give.ensures.waits c.in_err-give.ensures.refused)
+pub returns-in_err-give-in-Key-clause-refused : goal.returns-in_err-give-in-Key-clause-refused
+returns-in_err-give-in-Key-clause-refused g c =
+    let p = err_from_is_err_and c.from_residual-in_err-give-in-Key.result c.from_residual-in_err-give-in-Key.ensures.1 in
+    let live = c.loop-live.invariant.0 in
+    let is : IsHeard c.loop-live.live.steps (g.T.Typist.typing c.loop-live.typist) (g.T.Typist.typing c.hear.new.typist) (heard.Key c.in-Key.byte) = rw c.in-Key.is at c.in_ok-end.ensures.heard in
+    rw (p.1, p.2) (inr (live-not-given live (g.T.Typist.typing c.hear.new.typist) c.in-Key.byte c.give.new.machine (g.S.Write.contents c.give.new.record) c.in_err-give-in-Key.field-0.0 is
+    (λ patient. wanted-here live.going (live-watched live) c.look.result c.look.ensures c.need-need.result c.need-need.ensures
+    (patient-wanted c.need-need.result (heard.Key c.in-Key.byte) (λ e. let bad : ⊥ = cc in bad) (rw c.in-Key.is at (c.in_ok-end.ensures.patient (c.loop-live.invariant.1 ∙ patient)))))
+    c.in_err-give-in-Key.ensures.waits c.in_err-give-in-Key.ensures.refused))
 
-pub loop-live-preserved-then-wants_key : goal.loop-live-preserved-then-wants_key
-loop-live-preserved-then-wants_key g c =
-    let typed = rw c.in-Some.is at c.in_ok-byte.ensures.key in
-    let wants = wanted-here c.loop-live.invariant.going c.loop-live.invariant.watched c.look.result c.look.ensures c.wants_key.result c.wants_key.ensures c.if-wants_key.true in
-    let room : length c.loop-live.live.keys.items < c.args.most_keys = let count = c.len.ensures in let less = c.if-len-most_keys.false in grind (arith, common_steps) in
+pub loop-live-smaller-in-Key : goal.loop-live-smaller-in-Key
+loop-live-smaller-in-Key g c =
+    let live = c.loop-live.invariant.0 in
+    let none = none-here live.going (live-watched live) c.look.result c.look.ensures c.need-need.result c.need-need.ensures c.in-Key.byte (rw c.in-Key.is at c.in_ok-end.ensures.fits) in
+    rw c.give.ensures.steps (room-used c.loop-live.asks (c.args.steps - c.loop-live.live.steps) c.in-Key.byte c.loop-live.machine c.give.new.machine none c.in_ok-give-in-Key.ensures.pressed)
+
+pub loop-live-preserved-in-Key : goal.loop-live-preserved-in-Key
+loop-live-preserved-in-Key g c =
+    let live = c.loop-live.invariant.0 in
+    let is : IsHeard c.loop-live.live.steps (g.T.Typist.typing c.loop-live.typist) (g.T.Typist.typing c.hear.new.typist) (heard.Key c.in-Key.byte) = rw c.in-Key.is at c.in_ok-end.ensures.heard in
     let fits : c.loop-live.live.steps < 2 ^ 64 = let less = c.loop-live-test.true in let most = c.ranges.steps.fits in omega arith in
-    rw c.give.ensures.steps
-    (live-key _ _ _ _ _ _ _ _ _ _ _ _ c.loop-live.live.steps c.loop-live.watch c.loop-live.invariant wants c.in-Some.byte c.give.new.machine (g.S.Write.contents c.give.new.record) (g.I.Read.remaining c.hear.new.input) c.give.new.self.keys.items
-    c.give-then-wants_key.new.self typed.0 fits room c.in_ok-give.ensures.key c.in_ok-give.ensures.pressed c.in_ok-give.ensures.record typed.1 c.give-then-wants_key.ensures)
+    rw c.give.ensures.steps (
+      live-key live (g.T.Typist.typing c.hear.new.typist) c.in-Key.byte c.give.new.machine (g.S.Write.contents c.give.new.record) c.give.new.self.keys.items c.give-in-Key.new.self is
+          (λ patient. wanted-here live.going (live-watched live) c.look.result c.look.ensures c.need-need.result c.need-need.ensures
+          (patient-wanted c.need-need.result (heard.Key c.in-Key.byte) (λ e. let bad : ⊥ = cc in bad) (rw c.in-Key.is at (c.in_ok-end.ensures.patient (c.loop-live.invariant.1 ∙ patient)))))
+          fits c.in_ok-give-in-Key.ensures.key c.in_ok-give-in-Key.ensures.pressed c.in_ok-give-in-Key.ensures.record c.give-in-Key.ensures,
+      c.hear.ensures.nature ∙ c.loop-live.invariant.1,
+    )
+
+pub returns-then-asks-eq0-clause-refused : goal.returns-then-asks-eq0-clause-refused
+returns-then-asks-eq0-clause-refused g c =
+    let live = c.loop-live.invariant.0 in
+    let is : IsHeard c.loop-live.live.steps (g.T.Typist.typing c.loop-live.typist) (g.T.Typist.typing c.hear.new.typist) heard.Nothing = rw c.in-Nothing.is at c.in_ok-end.ensures.heard in
+    inr (live-unheard live (g.T.Typist.typing c.hear.new.typist) c.unheard.result c.unheard.ensures (listened-still live.listened (g.T.Typist.typing c.hear.new.typist) is)
+    (λ patient. wanted-here live.going (live-watched live) c.look.result c.look.ensures c.need-need.result c.need-need.ensures (is-wanted c.need-need.result (sym c.is_wanted.ensures ∙ c.if-is_wanted.true))))
+
+pub loop-live-smaller-then-is_wanted : goal.loop-live-smaller-then-is_wanted
+loop-live-smaller-then-is_wanted g c =
+    let some = c.if-asks-eq0.false in
+    fewer-asks c.loop-live.asks _ (omega (arith, some))
+
+pub loop-live-preserved-then-is_wanted : goal.loop-live-preserved-then-is_wanted
+loop-live-preserved-then-is_wanted g c =
+    let live = c.loop-live.invariant.0 in
+    let is : IsHeard c.loop-live.live.steps (g.T.Typist.typing c.loop-live.typist) (g.T.Typist.typing c.hear.new.typist) heard.Nothing = rw c.in-Nothing.is at c.in_ok-end.ensures.heard in
+    (live-still live (g.T.Typist.typing c.hear.new.typist) is, c.hear.ensures.nature ∙ c.loop-live.invariant.1)
+
+pub turn-executed-requires-clause-busy : goal.turn-executed-requires-clause-busy
+turn-executed-requires-clause-busy g c =
+    let live = c.loop-live.invariant.0 in
+    idle-here live.going (live-watched live) c.look.result c.look.ensures c.need-need.result c.need-need.ensures (not-wanted c.need-need.result (sym c.is_wanted.ensures ∙ c.if-is_wanted.false))
+
+pub returns-then-executed-eq0-clause-played : goal.returns-then-executed-eq0-clause-played
+returns-then-executed-eq0-clause-played g c =
+    let live = c.loop-live.invariant.0 in
+    let is : IsHeard c.loop-live.live.steps (g.T.Typist.typing c.loop-live.typist) (g.T.Typist.typing c.hear.new.typist) heard.Nothing = rw c.in-Nothing-2.is at c.in_ok-end.ensures.heard in
+    live-ended live (g.T.Typist.typing c.hear.new.typist) is (c.turn-executed.ensures.ended c.if-executed-eq0.true live.going.quiet)
 
 pub loop-live-preserved : goal.loop-live-preserved
 loop-live-preserved g c =
-    let busy = busy-here c.loop-live.invariant.going c.loop-live.invariant.watched c.look.result c.look.ensures c.wants_key.result c.wants_key.ensures c.if-wants_key.false in
+    let live = c.loop-live.invariant.0 in
+    let is : IsHeard c.loop-live.live.steps (g.T.Typist.typing c.loop-live.typist) (g.T.Typist.typing c.hear.new.typist) heard.Nothing = rw c.in-Nothing-2.is at c.in_ok-end.ensures.heard in
     let some : 0 < c.turn-executed.result = let more = c.if-executed-eq0.false in omega (arith, more) in
-    live-turn _ _ _ _ _ _ _ _ _ _ _ _ _ _ c.loop-live.invariant c.turn-executed.result c.turn-executed.new.machine c.show.new.machine (g.W.Write.contents c.show.new.out) c.turn-executed.new.watch
-    some c.turn-executed.ensures.within c.turn-executed.ensures.few busy c.turn-executed.ensures.state c.turn-executed.ensures.watched c.in_ok-show.ensures.state c.in_ok-show.ensures.text
+    let busy = busy-here live.going (live-watched live) c.look.result c.look.ensures c.need-need.result c.need-need.ensures (not-wanted c.need-need.result (sym c.is_wanted.ensures ∙ c.if-is_wanted.false)) in (
+      live-turn live (g.T.Typist.typing c.hear.new.typist) c.turn-executed.result c.turn-executed.new.machine c.show.new.machine (g.W.Write.contents c.show.new.out) c.turn-executed.new.watch is
+          some c.turn-executed.ensures.within c.turn-executed.ensures.few busy c.turn-executed.ensures.state c.turn-executed.ensures.watched c.in_ok-show-in-Nothing-2.ensures.state c.in_ok-show-in-Nothing-2.ensures.text,
+      c.hear.ensures.nature ∙ c.loop-live.invariant.1,
+    )
 
-pub returns-in_err-show-clause-refused : goal.returns-in_err-show-clause-refused
-returns-in_err-show-clause-refused g c =
-    let p = err_from_is_err_and c.from_residual-in_err-show.result c.from_residual-in_err-show.ensures.1 in
-    rw (p.1, p.2) (live-unshown _ _ _ _ _ _ _ _ _ _ _ _ _ _ c.loop-live.invariant c.turn-executed.result c.turn-executed.new.machine c.show.new.machine (g.W.Write.contents c.show.new.out) c.in_err-show.field-0.0
-    c.turn-executed.ensures.within c.turn-executed.ensures.state c.in_err-show.ensures.refused)
+pub returns-in_err-show-in-Nothing-2-clause-refused : goal.returns-in_err-show-in-Nothing-2-clause-refused
+returns-in_err-show-in-Nothing-2-clause-refused g c =
+    let p = err_from_is_err_and c.from_residual-in_err-show-in-Nothing-2.result c.from_residual-in_err-show-in-Nothing-2.ensures.1 in
+    let live = c.loop-live.invariant.0 in
+    let is : IsHeard c.loop-live.live.steps (g.T.Typist.typing c.loop-live.typist) (g.T.Typist.typing c.hear.new.typist) heard.Nothing = rw c.in-Nothing-2.is at c.in_ok-end.ensures.heard in
+    rw (p.1, p.2) (inr (live-unshown live (g.T.Typist.typing c.hear.new.typist) c.turn-executed.result c.turn-executed.new.machine c.show.new.machine (g.W.Write.contents c.show.new.out) c.in_err-show-in-Nothing-2.field-0.0 is
+    c.turn-executed.ensures.within c.turn-executed.ensures.state c.in_err-show-in-Nothing-2.ensures.refused))
 
-pub returns-then-len-most_keys-clause-waits : goal.returns-then-len-most_keys-clause-waits
-returns-then-len-most_keys-clause-waits g c = going-waiting _ _ _ _ _ _ _ _ _ _ _ c.loop-live.invariant.going
+pub returns-clause-within : goal.returns-clause-within
+returns-clause-within g c = c.loop-live.invariant.0.going.within
 
-pub returns-in_default-clause-waits : goal.returns-in_default-clause-waits
-returns-in_default-clause-waits g c = going-waiting _ _ _ _ _ _ _ _ _ _ _ c.loop-live.invariant.going
+pub returns-clause-played : goal.returns-clause-played
+returns-clause-played g c = live-done c.loop-live.invariant.0 (let past = c.loop-live-test.false in omega arith)
+
+pub returns-in-End-clause-keys : goal.returns-in-End-clause-keys
+returns-in-End-clause-keys g c = going-given _ _ _ _ _ _ _ _ _ _ _ c.loop-live.invariant.0.going
+
+pub returns-in-End-clause-text : goal.returns-in-End-clause-text
+returns-in-End-clause-text g c = going-shown _ _ _ _ _ _ _ _ _ _ _ c.loop-live.invariant.0.going
+
+pub returns-in-End-clause-ending : goal.returns-in-End-clause-ending
+returns-in-End-clause-ending g c = going-ending _ _ _ _ _ _ _ _ _ _ _ c.loop-live.invariant.0.going
+
+pub returns-in-End-clause-record : goal.returns-in-End-clause-record
+returns-in-End-clause-record g c = c.loop-live.invariant.0.going.noted
+
+pub returns-in-End-clause-waits : goal.returns-in-End-clause-waits
+returns-in-End-clause-waits g c = going-waiting _ _ _ _ _ _ _ _ _ _ _ c.loop-live.invariant.0.going
+
+pub returns-clause-keys : goal.returns-clause-keys
+returns-clause-keys g c = going-given _ _ _ _ _ _ _ _ _ _ _ c.loop-live.invariant.0.going
+
+pub returns-clause-text : goal.returns-clause-text
+returns-clause-text g c = going-shown _ _ _ _ _ _ _ _ _ _ _ c.loop-live.invariant.0.going
+
+pub returns-clause-ending : goal.returns-clause-ending
+returns-clause-ending g c = going-ending _ _ _ _ _ _ _ _ _ _ _ c.loop-live.invariant.0.going
+
+pub returns-clause-record : goal.returns-clause-record
+returns-clause-record g c = c.loop-live.invariant.0.going.noted
 
 pub returns-clause-waits : goal.returns-clause-waits
-returns-clause-waits g c = going-waiting _ _ _ _ _ _ _ _ _ _ _ c.loop-live.invariant.going
+returns-clause-waits g c = going-waiting _ _ _ _ _ _ _ _ _ _ _ c.loop-live.invariant.0.going
+
+pub returns-then-executed-eq0-clause-keys : goal.returns-then-executed-eq0-clause-keys
+returns-then-executed-eq0-clause-keys g c = going-given _ _ _ _ _ _ _ _ _ _ _ c.loop-live.invariant.0.going
+
+pub returns-then-executed-eq0-clause-text : goal.returns-then-executed-eq0-clause-text
+returns-then-executed-eq0-clause-text g c = going-shown _ _ _ _ _ _ _ _ _ _ _ c.loop-live.invariant.0.going
+
+pub returns-then-executed-eq0-clause-ending : goal.returns-then-executed-eq0-clause-ending
+returns-then-executed-eq0-clause-ending g c =
+    let still : c.turn-executed.new.machine ≡ c.loop-live.machine =
+    c.turn-executed.ensures.state ∙ ap (λ k. after c.args.system.now k c.loop-live.machine) c.if-executed-eq0.true in
+    rw still (going-ending _ _ _ _ _ _ _ _ _ _ _ c.loop-live.invariant.0.going)
+
+pub returns-then-executed-eq0-clause-record : goal.returns-then-executed-eq0-clause-record
+returns-then-executed-eq0-clause-record g c = c.loop-live.invariant.0.going.noted
 
 pub returns-then-executed-eq0-clause-waits : goal.returns-then-executed-eq0-clause-waits
 returns-then-executed-eq0-clause-waits g c =
     let still : c.turn-executed.new.machine ≡ c.loop-live.machine =
     c.turn-executed.ensures.state ∙ ap (λ k. after c.args.system.now k c.loop-live.machine) c.if-executed-eq0.true in
-    rw still (going-waiting _ _ _ _ _ _ _ _ _ _ _ c.loop-live.invariant.going)
+    rw still (going-waiting _ _ _ _ _ _ _ _ _ _ _ c.loop-live.invariant.0.going)

@@ -1,10 +1,14 @@
-use Rattle.std.proofs.Common.{◌+◌, ◌-◌, length}
+use Rattle.std.proofs.Common.{◌≡◌, ◌+◌, ◌-◌, ◌*◌, ◌==◌, length, if◌then◌else◌}
+use Rattle.cpm_play.specs.Sitting.{sitting}
 use Rattle.cpm_play.proofs.LiveLemmas.{IsLive}
 use Rattle.cpm_play.proofs.live.play_live.Given as goal
 
 abbrev pub invariant-loop-live : goal.invariant-loop-live
-invariant-loop-live g l = IsLive l.system l.fn.steps l.fn.most_keys l.fn.machine l.machine (g.W.Write.contents l.fn.out) (g.W.Write.contents l.out)
-    (g.S.Write.contents l.fn.record) (g.S.Write.contents l.record) (g.I.Read.remaining l.fn.input) (g.I.Read.remaining l.input) l.live.keys.items l.live.steps l.watch
+invariant-loop-live g l =
+    IsLive (sitting (g.T.Typist.patient l.fn.typist) l.system l.fn.machine l.fn.steps l.cues) l.machine (g.W.Write.contents l.fn.out) (g.W.Write.contents l.out)
+    (g.S.Write.contents l.fn.record) (g.S.Write.contents l.record) (g.T.Typist.typing l.fn.typist) (g.T.Typist.typing l.typist) l.live.keys.items l.live.steps l.watch
+    × (g.T.Typist.patient l.typist ≡ g.T.Typist.patient l.fn.typist)
 
+-- a key is given only where none is pending, and then steps are executed before the next
 abbrev pub decreases-loop-live : goal.decreases-loop-live
-decreases-loop-live g l = (l.fn.steps - l.live.steps) + (l.fn.most_keys - length l.live.keys.items)
+decreases-loop-live g l = l.asks + ((l.steps - l.live.steps) * 2 + (if length l.machine.session.console.keys == 0 then 1 else 0))

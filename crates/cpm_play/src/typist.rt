@@ -1,0 +1,108 @@
+//! Who types at a machine that is played live, and what is heard of it.
+
+ghost use Rattle.std.specs.Prelude.{◌≡◌, Bool, true, IfOk, None, OnErr};
+ghost use Rattle.cpm_play.specs.Typist.{CanBeHeard, HasHeardNothing, IsHeard, IsHeardPatiently, TypingState, is_wanted};
+ghost use Rattle.cpm_play.specs.declared.typist.KeyNeed.TheVariants.{Wanted};
+
+use crate::typing::next_key;
+use std::io;
+use std::io::Read;
+
+/// What a machine can do with a key.
+#[derive(Clone, Copy, Debug, PartialEq, Eq, Drop)]
+pub enum KeyNeed {
+    /// One is pending. No other is pressed before it is read.
+    Pending,
+    /// It takes one.
+    Possible,
+    /// It takes one, and does nothing else before: it waits for it, or asks again and again whether there is one.
+    Wanted,
+}
+
+impl KeyNeed {
+    /// Whether a key is wanted.
+    pub fn is_wanted(self) -> bool
+        ensures { result ≡ is_wanted self }
+    {
+        match self {
+            KeyNeed::Wanted => true,
+            _ => false,
+        }
+    }
+}
+
+/// Why no more is typed.
+#[derive(Clone, Copy, Debug, PartialEq, Eq, Drop)]
+pub enum TypingEnd {
+    /// ^] was typed.
+    Quit,
+    /// The input is at its end.
+    InputEnd,
+    /// A signal came that ends it.
+    Signal,
+}
+
+/// What is heard of a typist that is asked for a key.
+#[derive(Clone, Copy, Debug, PartialEq, Eq, Drop)]
+pub enum Heard {
+    /// This key, which is below 80h.
+    Key(u8),
+    /// None was typed so far.
+    Nothing,
+    /// No more is typed.
+    End(TypingEnd),
+}
+
+/// Who types at a machine. It is asked after each turn of the machine whether there is a key.
+pub trait Typist {
+    // What is still to be read of what was typed, and what was heard so far, as far as that is known.
+    ghost typing: { Self → TypingState };
+
+    // Whether it waits for a key where one is wanted, and gives none elsewhere. One that doesn't answers at once, also that there is none so far.
+    ghost patient: { Self → Bool };
+
+    /// Whether it is patient.
+    fn is_patient(&self) -> bool
+        ensures { result ≡ patient self.now };
+
+    /// What it types where the machine can do so much with a key and has executed so many steps. A byte of 80h or more is no key and is passed over.
+    fn hear(&mut self, need: KeyNeed, count: u64) -> io::Result<Heard>
+        ensures heard { IfOk result (IsHeard count (typing self.old) (typing self.new)) }
+        ensures fits { IfOk result (CanBeHeard need) }
+        ensures patient { patient self.old ≡ true → IfOk result (IsHeardPatiently need) }
+        ensures nature { patient self.new ≡ patient self.old }
+        ensures none { OnErr result (HasHeardNothing (typing self.old) (typing self.new)) }
+        ensures early { patient self.old ≡ true → OnErr result (need ≡ Wanted) };
+}
+
+/// Keys that are read where a machine wants one, by a read that waits for it. So by the same bytes they come at the same counts each time.
+#[derive(Drop)]
+pub struct KeyReader<I: Read> {
+    input: I,
+}
+
+impl<I: Read> KeyReader<I> {
+    /// The keys of an input.
+    pub fn new(input: I) -> KeyReader<I>
+        ensures { result.input ≡ input }
+    {
+        KeyReader { input }
+    }
+}
+
+impl<I: Read> Typist for KeyReader<I> {
+    ghost typing = { λ reader. record { unread = I.remaining reader.input; heard = None } };
+
+    ghost patient = { λ _. true };
+
+    fn is_patient(&self) -> bool {
+        true
+    }
+
+    fn hear(&mut self, need: KeyNeed, _count: u64) -> io::Result<Heard> {
+        match need {
+            KeyNeed::Wanted => next_key(&mut self.input),
+            _ => Ok(Heard::Nothing),
+        }
+    }
+}
