@@ -46,7 +46,9 @@ ScriptsAreRecordings = (text : List ℕ) (keys : List Key) → script text ≡ O
 
 -- a script with another fault than too many keys is no recording either, and has this fault
 abbrev pub FaultsOfScripts : Type 0
-FaultsOfScripts = (text : List ℕ) (number : ℕ) (fault : LineFault) → script text ≡ Err (number, fault) → fault ≢ TooManyKeys → recording text ≡ Err (number, fault)
+FaultsOfScripts =
+    (text : List ℕ) (number : ℕ) (fault : LineFault) → script text ≡ Err (number, fault) → fault ≢ TooManyKeys
+    → recording text ≡ Err (number, fault)
 
 -- a recording of at most 4,096 keys is a script with them
 abbrev pub FewAreScripts : Type 0
