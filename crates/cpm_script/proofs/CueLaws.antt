@@ -126,7 +126,7 @@ plain-same text = same-lines 1 [] (lines text)
 
 -- ---- keys are below 80h
 
-abbrev AreAscii : List ℕ → Type 0
+abbrev pub AreAscii : List ℕ → Type 0
 AreAscii [] = ⊤
 AreAscii (b ∷ bytes) = (b < 128) × AreAscii bytes
 
@@ -151,7 +151,7 @@ ascii-caret false b c rest all one two e = ascii-onto (plain_key b) (keys_of (c 
 no-keys : (all : List ℕ) → Some [] ≡ Some all → AreAscii all
 no-keys all is = let same : [] ≡ all = cc in subst AreAscii same tt
 
-ascii-keys : (text all : List ℕ) → keys_of text ≡ Some all → AreAscii all
+pub ascii-keys : (text all : List ℕ) → keys_of text ≡ Some all → AreAscii all
 ascii-keys [] all is = no-keys all is
 ascii-keys (b ∷ []) all is = ascii-onto (plain_key b) (Some []) all is (λ k. ascii-plain b k) no-keys
 ascii-keys (b ∷ c ∷ rest) all is = ascii-caret (b == caret) b c rest all (λ bytes. ascii-keys rest bytes) (λ bytes. ascii-keys (c ∷ rest) bytes) is

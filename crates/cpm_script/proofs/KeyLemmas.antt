@@ -1,11 +1,11 @@
 -- The keys of a text, one after another.
 use Rattle.std.proofs.Common.{◌≡◌, ◌<◌, ◌≤◌, ◌+◌, ℕ, Bool, true, false, List, [], ◌∷◌, ◌++◌, Option, Some, None, length, arith, refl, ap, ◌∙◌, sym, append_assoc, option_map, length-append}
-use Rattle.std.specs.Prelude.{Result, Ok, Err, option_and_then, is_some, ◌==◌, nat_le, if◌then◌else◌}
+use Rattle.std.specs.Prelude.{IfSome, Result, Ok, Err, option_and_then, is_some, not, ◌==◌, nat_le, if◌then◌else◌}
 use Rattle.std.proofs.lemmas.List.{append-nil, length-map}
 use Rattle.std.proofs.lemmas.Bool.{eqb-true}
 use Rattle.std.proofs.lemmas.Bool.Decides.{nat_tests}
 use Rattle.cpm_script.specs.KeyText.{caret, control_key, first_key_of_text, keys_of, onto, plain_key}
-use Rattle.cpm_script.specs.Script.{keys_at, most_keys, or_fault, keys_added}
+use Rattle.cpm_script.specs.Script.{is_allowed, keys_at, keys_added_within, most_keys, or_fault}
 use Rattle.cpm_script.specs.declared.fault.LineFault.{LineFault}
 use Rattle.cpm_script.specs.declared.fault.LineFault.TheVariants.{NotAKey, TooManyKeys}
 use Rattle.cpm_script.specs.declared.script.Key.{Key}
@@ -75,45 +75,69 @@ fits n m room = grind (arith, nat_tests)
 pub too_many : (n m : ℕ) → most_keys < n + m → nat_le (n + m) most_keys ≡ false
 too_many n m over = grind (arith, nat_tests)
 
+-- a number that is no more than the limit is allowed
+pub allowed : (limit : Option ℕ) (n : ℕ) → IfSome limit (λ most. n ≤ most) → is_allowed limit n ≡ true
+allowed None n room = refl
+allowed (Some most) n room = grind (arith, nat_tests, room)
+
+-- what is more than a number that is too large is so too
+over : (limit : Option ℕ) (n m : ℕ) → is_allowed limit n ≡ false → n ≤ m → is_allowed limit m ≡ false
+over None n m full more = absurd (cc)
+over (Some most) n m full more = grind (arith, nat_tests, full, more)
+
+-- where one more is allowed there is room for it
+pub room_for_one : (limit : Option ℕ) (n : ℕ) → false ≡ not (is_allowed limit (n + 1)) → IfSome limit (λ most. n + 1 ≤ most)
+room_for_one None n fit = tt
+room_for_one (Some most) n fit = by_test (nat_le (n + 1) most) refl fit
+  where
+    by_test : (t : Bool) → nat_le (n + 1) most ≡ t → false ≡ not t → n + 1 ≤ most
+    by_test true e f = grind (arith, nat_tests, e)
+    by_test false e f = absurd (cc)
+
+pub not_allowed : (t : Bool) → true ≡ not t → t ≡ false
+not_allowed true e = absurd (cc)
+not_allowed false e = refl
+
 -- the text's keys, or the fault of the line
-abbrev pub added : List Key → ℕ → Option (List ℕ) → Result (List Key) LineFault
-added keys count text = or_fault NotAKey text (keys_added keys count)
+abbrev pub added : Option ℕ → List Key → ℕ → Option (List ℕ) → Result (List Key) LineFault
+added limit keys count text = or_fault NotAKey text (keys_added_within limit keys count)
 
 -- all keys of a text were added
-pub added-all : (old now : List Key) (count : ℕ) (text : Option (List ℕ)) → ((ks : List ℕ) → text ≡ Some ks → 0 < length ks)
-    → length now ≤ most_keys → Some now ≡ joined old count text → added old count text ≡ Ok now
-added-all old now count None some room same = absurd (cc)
-added-all old now count (Some []) some room same = absurd (omega (arith, some [] refl))
-added-all old now count (Some (k ∷ ks)) some room same =
+pub added-all : (limit : Option ℕ) (old now : List Key) (count : ℕ) (text : Option (List ℕ)) → ((ks : List ℕ) → text ≡ Some ks → 0 < length ks)
+    → IfSome limit (λ most. length now ≤ most) → Some now ≡ joined old count text → added limit old count text ≡ Ok now
+added-all limit old now count None some room same = absurd (cc)
+added-all limit old now count (Some []) some room same = absurd (omega (arith, some [] refl))
+added-all limit old now count (Some (k ∷ ks)) some room same =
     let is : now ≡ old ++ keys_at count (k ∷ ks) = cc in
-    let lengths = ap length is ∙ length-append old (keys_at count (k ∷ ks)) in
-    let same_length : length (keys_at count (k ∷ ks)) ≡ length (k ∷ ks) = length-map (k ∷ ks) _ in
-    rw (fits (length old) (length (k ∷ ks)) (omega (arith, lengths, same_length))) (ap Ok (sym is))
+    let lengths : length now ≡ length old + length (k ∷ ks) = ap length is ∙ length-append old (keys_at count (k ∷ ks)) ∙ ap (λ n. length old + n) (length-map (k ∷ ks) _) in
+    rw (ap (is_allowed limit) (sym lengths) ∙ allowed limit (length now) room) (ap Ok (sym is))
 
 -- a text whose rest is refused is refused
-pub added-refused : (old now : List Key) (count : ℕ) (rest text : Option (List ℕ)) → joined now count rest ≡ joined old count text → rest ≡ None
-    → added old count text ≡ Err NotAKey
-added-refused old now count rest None same none = refl
-added-refused old now count None (Some ks) same none = absurd (cc)
-added-refused old now count (Some rs) (Some ks) same none = absurd (cc)
+pub added-refused : (limit : Option ℕ) (old now : List Key) (count : ℕ) (rest text : Option (List ℕ)) → joined now count rest ≡ joined old count text → rest ≡ None
+    → added limit old count text ≡ Err NotAKey
+added-refused limit old now count rest None same none = refl
+added-refused limit old now count None (Some ks) same none = absurd (cc)
+added-refused limit old now count (Some rs) (Some ks) same none = absurd (cc)
 
-full : (old : List Key) (count : ℕ) (ks : List ℕ) → most_keys < length old + length ks → 0 < length ks → keys_added old count ks ≡ Err TooManyKeys
-full old count [] over some = absurd (omega (arith, some))
-full old count (k ∷ ks) over some = rw (too_many (length old) (length (k ∷ ks)) over) refl
+full : (limit : Option ℕ) (old : List Key) (count : ℕ) (ks : List ℕ) → is_allowed limit (length old + length ks) ≡ false → 0 < length ks
+    → keys_added_within limit old count ks ≡ Err TooManyKeys
+full limit old count [] many some = absurd (omega (arith, some))
+full limit old count (k ∷ ks) many some = rw many refl
 
 -- a text whose rest has no room is refused, for its rest or for its length
-pub added-full : (old now : List Key) (count : ℕ) (rest text : Option (List ℕ)) → joined now count rest ≡ joined old count text
-    → ((ks : List ℕ) → rest ≡ Some ks → 0 < length ks) → length old ≤ most_keys → most_keys ≤ length now
-    → added old count text ≡ Err (if is_some rest then TooManyKeys else NotAKey)
-added-full old now count None text same some room over = added-refused old now count None text same refl
-added-full old now count (Some rs) None same some room over = absurd (cc)
-added-full old now count (Some rs) (Some ks) same some room over =
+pub added-full : (limit : Option ℕ) (old now : List Key) (count : ℕ) (rest text : Option (List ℕ)) → joined now count rest ≡ joined old count text
+    → ((ks : List ℕ) → rest ≡ Some ks → 0 < length ks) → ((ks : List ℕ) → text ≡ Some ks → 0 < length ks) → is_allowed limit (length now + 1) ≡ false
+    → added limit old count text ≡ Err (if is_some rest then TooManyKeys else NotAKey)
+added-full limit old now count None text same some some_key many = added-refused limit old now count None text same refl
+added-full limit old now count (Some rs) None same some some_key many = absurd (cc)
+added-full limit old now count (Some rs) (Some ks) same some some_key many =
     let is : now ++ keys_at count rs ≡ old ++ keys_at count ks = cc in
     let here = some rs refl in
     let lengths = sym (length-append now (keys_at count rs)) ∙ ap length is ∙ length-append old (keys_at count ks) in
     let same_rest : length (keys_at count rs) ≡ length rs = length-map rs _ in
     let same_text : length (keys_at count ks) ≡ length ks = length-map ks _ in
-    full old count ks (omega (arith, here, lengths, same_rest, same_text)) (omega (arith, here, room, lengths, same_rest, same_text))
+    full limit old count ks (over limit (length now + 1) (length old + length ks) many (omega (arith, here, lengths, same_rest, same_text)))
+    (some_key ks refl)
 
 -- ---- how many keys a text stands for
 

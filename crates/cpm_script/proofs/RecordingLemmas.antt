@@ -1,6 +1,6 @@
 -- A key written as a line of a script, and read back.
 use Rattle.std.proofs.Common.{◌≡◌, ◌≢◌, ◌<◌, ◌≤◌, ◌+◌, ◌-◌, ◌%◌, ◌^◌, ℕ, Bool, true, false, List, [], ◌∷◌, ◌++◌, Some, Ok, length, get_or, take, drop, arith, refl, ap, ◌∙◌, sym, append_assoc, append-nil, length-append, decimal, slice_get, nat_le, nat_lt}
-use Rattle.std.specs.Prelude.{◌==◌, if◌then◌else◌}
+use Rattle.std.specs.Prelude.{◌==◌, if◌then◌else◌, IfSome, Option, None}
 use Rattle.std.specs.Char.{is_ascii_digit}
 use Rattle.std.specs.Int.{IsInRange}
 use Rattle.std.specs.List.{All, after_first, before_first, list_all, position_or_len, slice_split}
@@ -15,10 +15,11 @@ use Rattle.std.proofs.lemmas.List.Splits.{length-slice_split, slice_split_at}
 use Rattle.std.proofs.lemmas.List.Sums.{list_all-from_AllPass, position_or_len_is}
 use Rattle.std.proofs.lemmas.Str.Parse.{digit_at}
 use Rattle.cpm_script.specs.KeyText.{caret, control_key, count_of, keys_of, onto, plain_key}
-use Rattle.cpm_script.specs.Laws.{RecordedKeys}
+use Rattle.cpm_script.specs.Laws.{RecordedKeys, RecordingsGiveTheirKeysAgain}
 use Rattle.cpm_script.specs.Recording.{AreTyped, key_line, key_text, recorded}
-use Rattle.cpm_script.specs.Script.{is_after, is_skipped, is_script_space, most_keys, at_line, script_from, keys_added, keys_with_line}
+use Rattle.cpm_script.specs.Script.{is_after, is_skipped, is_script_space, most_keys, at_line, script_from_within, keys_added_within, keys_with_line_within}
 use Rattle.cpm_script.specs.declared.script.Key.{Key}
+use Rattle.cpm_script.proofs.KeyLemmas.{allowed}
 use Rattle.cpm_script.proofs.LineLemmas.{line_before}
 
 -- a byte that a line may have inside
@@ -137,26 +138,24 @@ after-pushed keys k count late =
     ap (λ i. option_map_or (λ (x : Key). nat_le x.count count) (slice_get (keys ++ k ∷ []) i) true) place
     ∙ ap (λ o. option_map_or (λ (x : Key). nat_le x.count count) o true) (last-pushed keys k) ∙ grind (arith, nat_tests)
 
-one_more : (keys : List Key) (k : Key) → length keys < most_keys → keys_added keys k.count (k.byte ∷ []) ≡ Ok (keys ++ k ∷ [])
-one_more keys k room =
-    let fits : nat_le (length keys + 1) most_keys ≡ true = grind (arith, nat_tests) in
-    rw fits refl
+one_more : (limit : Option ℕ) (keys : List Key) (k : Key) → IfSome limit (λ most. length keys + 1 ≤ most) → keys_added_within limit keys k.count (k.byte ∷ []) ≡ Ok (keys ++ k ∷ [])
+one_more limit keys k room = rw (allowed limit (length keys + 1) room) refl
 
-counted_line : (keys : List Key) (k : Key) (line number text : List ℕ) → is_skipped line ≡ false → before_first is_script_space line ≡ number
+counted_line : (limit : Option ℕ) (keys : List Key) (k : Key) (line number text : List ℕ) → is_skipped line ≡ false → before_first is_script_space line ≡ number
     → after_first is_script_space line ≡ text → count_of number ≡ Some k.count → is_after keys k.count ≡ true → keys_of text ≡ Some (k.byte ∷ [])
-    → length keys < most_keys → keys_with_line keys line ≡ Ok (keys ++ k ∷ [])
-counted_line keys k line number text counts number_is text_is count late key room =
-    rw (counts, number_is, text_is, count, late, key) (one_more keys k room)
+    → IfSome limit (λ most. length keys + 1 ≤ most) → keys_with_line_within limit keys line ≡ Ok (keys ++ k ∷ [])
+counted_line limit keys k line number text counts number_is text_is count late key room =
+    rw (counts, number_is, text_is, count, late, key) (one_more limit keys k room)
 
 -- the line of a key without its end
 abbrev key_front : Key → List ℕ
 key_front k = decimal k.count ++ 0x20 ∷ key_text k.byte
 
-line-read : (keys : List Key) (k : Key) → k.count < 2 ^ 64 → k.byte < 128 → is_after keys k.count ≡ true → length keys < most_keys
-    → keys_with_line keys (key_front k) ≡ Ok (keys ++ k ∷ [])
-line-read keys k small ascii late room =
+line-read : (limit : Option ℕ) (keys : List Key) (k : Key) → k.count < 2 ^ 64 → k.byte < 128 → is_after keys k.count ≡ true → IfSome limit (λ most. length keys + 1 ≤ most)
+    → keys_with_line_within limit keys (key_front k) ≡ Ok (keys ++ k ∷ [])
+line-read limit keys k small ascii late room =
     let digits = digits-decimal k.count small in
-    counted_line keys k (key_front k) (decimal k.count) (key_text k.byte)
+    counted_line limit keys k (key_front k) (decimal k.count) (key_text k.byte)
     (line-counts (decimal k.count) (0x20 ∷ key_text k.byte) (decimal_nonempty k.count small) digits)
     (line-number (decimal k.count) (key_text k.byte) digits) (line-text (decimal k.count) (key_text k.byte) digits)
     (count-read k.count small) late (key-read k.byte ascii) room
@@ -194,17 +193,27 @@ lines-recorded k keys small = ap lines (line-joined k (recorded keys)) ∙ line-
 
 -- ---- all keys
 
+-- a smaller number is no more than the limit either
+less : (limit : Option ℕ) (n m : ℕ) → IfSome limit (λ most. m ≤ most) → n ≤ m → IfSome limit (λ most. n ≤ most)
+less None n m room low = tt
+less (Some most) n m room low = omega (arith, room, low)
+
 -- the keys of the lines, behind those so far
-read-behind : (number n : ℕ) (before keys : List Key) → ((count : ℕ) → n ≤ count → is_after before count ≡ true) → AreTyped n keys
-    → length before + length keys ≤ most_keys → script_from number before (lines (recorded keys)) ≡ Ok (before ++ keys)
-read-behind number n before [] late typed room = ap Ok (sym (append-nil before))
-read-behind number n before (k ∷ keys) late typed room =
+read-behind : (limit : Option ℕ) (number n : ℕ) (before keys : List Key) → ((count : ℕ) → n ≤ count → is_after before count ≡ true) → AreTyped n keys
+    → IfSome limit (λ most. length before + length keys ≤ most) → script_from_within limit number before (lines (recorded keys)) ≡ Ok (before ++ keys)
+read-behind limit number n before [] late typed room = ap Ok (sym (append-nil before))
+read-behind limit number n before (k ∷ keys) late typed room =
     let more = before ++ k ∷ [] in
-    let first = line-read before k typed.1 typed.2 (late k.count typed.0) (omega (arith, room)) in
-    let rest = read-behind (number + 1) k.count more keys (λ count low. after-pushed before k count low) typed.3 (omega (arith, room, length_push before k)) in
-    ap (script_from number before) (lines-recorded k keys typed.1)
-    ∙ ap (λ r. at_line number r (λ ks. script_from (number + 1) ks (lines (recorded keys)))) first
+    let all = length before + length (k ∷ keys) in
+    let first = line-read limit before k typed.1 typed.2 (late k.count typed.0) (less limit (length before + 1) all room (omega arith)) in
+    let rest = read-behind limit (number + 1) k.count more keys (λ count low. after-pushed before k count low) typed.3
+    (less limit (length more + length keys) all room (omega (arith, length_push before k))) in
+    ap (script_from_within limit number before) (lines-recorded k keys typed.1)
+    ∙ ap (λ r. at_line number r (λ ks. script_from_within limit (number + 1) ks (lines (recorded keys)))) first
     ∙ rest ∙ ap Ok (append_assoc before (k ∷ []) keys)
 
 pub recorded-read : RecordedKeys
-recorded-read keys typed room = read-behind 1 0 [] keys (λ count low. refl) typed (omega (arith, room))
+recorded-read keys typed room = read-behind (Some most_keys) 1 0 [] keys (λ count low. refl) typed (omega (arith, room))
+
+pub recording-read : RecordingsGiveTheirKeysAgain
+recording-read keys typed = read-behind None 1 0 [] keys (λ count low. refl) typed tt

@@ -1,12 +1,12 @@
--- Laws over the keys before a fork, of recorded ones, and of scripts with lines that wait. (own)
+-- Laws over the keys before a fork, of recorded ones, of recordings, and of scripts with lines that wait. (own)
 use Rattle.std.specs.Prelude.{⊤, ◌≡◌, ◌≢◌, ℕ, ◌+◌, ◌<◌, ◌≤◌, Bool, true, false, List, [], ◌∷◌, ◌++◌, length, map, Result, Ok, Err, IfOk}
 use Rattle.std.specs.List.{All}
 use Rattle.cpm_script.specs.Cues.{Awaited, Counted, Pressed, CueText, cues, cued_key_count}
 use Rattle.cpm_script.specs.Fork.{forked_cues, keys_before}
-use Rattle.cpm_script.specs.Recording.{AreTyped, recorded}
+use Rattle.cpm_script.specs.Recording.{AreTyped, recorded, recording}
 use Rattle.cpm_script.specs.Script.{most_keys, script}
 use Rattle.cpm_script.specs.declared.fault.LineFault.{LineFault}
-use Rattle.cpm_script.specs.declared.fault.LineFault.TheVariants.{NoCount}
+use Rattle.cpm_script.specs.declared.fault.LineFault.TheVariants.{NoCount, TooManyKeys}
 use Rattle.cpm_script.specs.declared.script.Key.{Key}
 
 -- the counts are at least this one, and do not fall
@@ -29,6 +29,30 @@ KeysBeforeAreFirst = (n at : ℕ) (keys : List Key) → AreFrom n keys → IsCut
 -- the lines of keys that were typed are a script with just these keys
 abbrev pub RecordedKeys : Type 0
 RecordedKeys = (keys : List Key) → AreTyped 0 keys → length keys ≤ most_keys → script (recorded keys) ≡ Ok keys
+
+-- ---- recordings, of any number of keys
+
+-- the lines of keys that were typed are a recording of just these keys, however many
+abbrev pub RecordingsGiveTheirKeysAgain : Type 0
+RecordingsGiveTheirKeysAgain = (keys : List Key) → AreTyped 0 keys → recording (recorded keys) ≡ Ok keys
+
+-- what a recording gives might have been typed
+abbrev pub RecordingsInOrder : Type 0
+RecordingsInOrder = (text : List ℕ) → IfOk (recording text) (AreTyped 0)
+
+-- a script with its keys is a recording of them
+abbrev pub ScriptsAreRecordings : Type 0
+ScriptsAreRecordings = (text : List ℕ) (keys : List Key) → script text ≡ Ok keys → recording text ≡ Ok keys
+
+-- a script with another fault than too many keys is no recording either, and has this fault
+abbrev pub FaultsOfScripts : Type 0
+FaultsOfScripts =
+    (text : List ℕ) (number : ℕ) (fault : LineFault) → script text ≡ Err (number, fault) → fault ≢ TooManyKeys
+    → recording text ≡ Err (number, fault)
+
+-- a recording of at most 4,096 keys is a script with them
+abbrev pub FewAreScripts : Type 0
+FewAreScripts = (text : List ℕ) (keys : List Key) → recording text ≡ Ok keys → length keys ≤ most_keys → script text ≡ Ok keys
 
 -- ---- scripts with lines that wait
 

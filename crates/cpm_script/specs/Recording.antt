@@ -1,7 +1,9 @@
--- The keys of a live session written as a key script, a line for each. All of it is own: this project's
--- form of key scripts.
-use Rattle.std.specs.Prelude.{⊤, ℕ, ◌≤◌, ◌<◌, ◌+◌, ◌^◌, ◌==◌, nat_lt, if◌then◌else◌, List, [], ◌∷◌, ◌++◌, decimal}
+-- The keys of a live session written as a recording, a line for each, and read back. All of it is own: this
+-- project's form of recordings.
+use Rattle.std.specs.Prelude.{⊤, ℕ, ◌≤◌, ◌<◌, ◌+◌, ◌^◌, ◌==◌, nat_lt, if◌then◌else◌, List, [], ◌∷◌, ◌++◌, None, Result, decimal}
 use Rattle.cpm_script.specs.KeyText.{caret}
+use Rattle.cpm_script.specs.Script.{script_within}
+use Rattle.cpm_script.specs.declared.fault.LineFault.{LineFault}
 use Rattle.cpm_script.specs.declared.script.Key.{Key}
 
 -- how a key below 80h is written: 00h to 1Fh as a caret and the byte 40h above it (@ A to Z [ \ ] ^ _), the
@@ -23,3 +25,8 @@ recorded (k ∷ ks) = key_line k ++ recorded ks
 abbrev pub AreTyped : ℕ → List Key → Type 0
 AreTyped n [] = ⊤
 AreTyped n (k ∷ ks) = (n ≤ k.count) × (k.count < 2 ^ 64) × (k.byte < 128) × AreTyped k.count ks
+
+-- the keys of a recording, whose lines are those of a script, without a limit of keys; or the number of its first
+-- line with a fault, and the fault
+abbrev pub recording : List ℕ → Result (List Key) (ℕ × LineFault)
+recording = script_within None

@@ -1,10 +1,11 @@
 //! Key scripts, line by line.
-ghost use Rattle.std.specs.Prelude.{◌≡◌, ◌==◌, ◌≤◌, ◌++◌, ◌∷◌, [], length, slice_index, IsErrOf, OnOk, is_some, true};
+ghost use Rattle.std.specs.Prelude.{◌≡◌, ◌==◌, ◌≤◌, ◌+◌, ◌++◌, ◌∷◌, [], length, not, slice_index, IfSome, IsErrOf, OnOk, is_some, true};
 ghost use Rattle.std.specs.Str.Lines.{lines};
 ghost use Rattle.cpm_script.specs.KeyText.{count_of};
 ghost use Rattle.std.specs.List.{after_first, before_first, list_all};
 ghost use Rattle.cpm_script.specs.Script.{Adds, Reads, fault_past_last_key, has_count, is_after, is_counted};
-ghost use Rattle.cpm_script.specs.Script.{is_script_space, script, keys_with_counted, keys_with_line, keys_with_text, most_keys};
+ghost use Rattle.cpm_script.specs.Script.{is_allowed, is_script_space, script, script_within};
+ghost use Rattle.cpm_script.specs.Script.{keys_with_counted_within, keys_with_line_within, keys_with_text_within};
 
 use crate::count::count_of;
 use crate::fault::{LineFault, ScriptError};
@@ -56,6 +57,16 @@ fn is_after(keys: &[Key], count: u64) -> bool
     }
 }
 
+/// Whether after so many keys there may be no more.
+fn is_full(count: usize, limit: Option<usize>) -> bool
+    ensures { result ≡ not (is_allowed limit (count + 1)) }
+{
+    match limit {
+        Some(most) => count >= most,
+        None => false,
+    }
+}
+
 fn add_key(keys: &mut Vec<Key>, key: Key) -> Result<(), AllocError>
     ensures { OnOk result (keys.new.items ≡ keys.old.items ++ key ∷ []) }
 {
@@ -64,10 +75,15 @@ fn add_key(keys: &mut Vec<Key>, key: Key) -> Result<(), AllocError>
 }
 
 /// Adds the keys that a text stands for, all at one count.
-fn add_keys(keys: &mut Vec<Key>, count: u64, text: &[u8]) -> Result<(), KeyStop>
-    requires { length keys.old.items ≤ most_keys }
-    ensures added { Adds (keys_with_text keys.old.items count text.now) result keys.new.items }
-    ensures room { OnOk result (length keys.new.items ≤ most_keys) }
+fn add_keys(
+    keys: &mut Vec<Key>,
+    count: u64,
+    text: &[u8],
+    limit: Option<usize>,
+) -> Result<(), KeyStop>
+    requires { IfSome limit (λ most. length keys.old.items ≤ most) }
+    ensures added { Adds (keys_with_text_within limit keys.old.items count text.now) result keys.new.items }
+    ensures room { OnOk result (IfSome limit (λ most. length keys.new.items ≤ most)) }
 {
     if text.is_empty() {
         return Err(KeyStop::Fault(LineFault::NoKey));
@@ -77,7 +93,7 @@ fn add_keys(keys: &mut Vec<Key>, count: u64, text: &[u8]) -> Result<(), KeyStop>
         let Some((byte, after)) = first_key(rest) else {
             return Err(KeyStop::Fault(LineFault::NotAKey));
         };
-        if keys.len() >= MOST_KEYS {
+        if is_full(keys.len(), limit) {
             return Err(KeyStop::Fault(fault_past_last_key(rest)));
         }
         match add_key(keys, Key { count, byte }) {
@@ -111,34 +127,64 @@ pub(crate) fn parted(line: &[u8]) -> (&[u8], &[u8])
 }
 
 /// Adds the keys of a text at the count that a number writes.
-fn add_counted(keys: &mut Vec<Key>, number: &[u8], text: &[u8]) -> Result<(), KeyStop>
-    requires { length keys.old.items ≤ most_keys }
-    ensures added { Adds (keys_with_counted keys.old.items number.now text.now) result keys.new.items }
-    ensures room { OnOk result (length keys.new.items ≤ most_keys) }
+fn add_counted(
+    keys: &mut Vec<Key>,
+    number: &[u8],
+    text: &[u8],
+    limit: Option<usize>,
+) -> Result<(), KeyStop>
+    requires { IfSome limit (λ most. length keys.old.items ≤ most) }
+    ensures added { Adds (keys_with_counted_within limit keys.old.items number.now text.now) result keys.new.items }
+    ensures room { OnOk result (IfSome limit (λ most. length keys.new.items ≤ most)) }
     ensures memory { IsErrOf result KeyStop.OutOfMemory → is_some (count_of number.now) ≡ true }
 {
     let Some(count) = count_of(number) else {
         return Err(KeyStop::Fault(LineFault::NoCount));
     };
     if is_after(keys.as_slice(), count) {
-        add_keys(keys, count, text)
+        add_keys(keys, count, text, limit)
     } else {
         Err(KeyStop::Fault(LineFault::CountFalls))
     }
 }
 
 /// Adds the keys of one more line.
-fn add_line(keys: &mut Vec<Key>, line: &[u8]) -> Result<(), KeyStop>
-    requires { length keys.old.items ≤ most_keys }
-    ensures added { Adds (keys_with_line keys.old.items line.now) result keys.new.items }
-    ensures room { OnOk result (length keys.new.items ≤ most_keys) }
+fn add_line(keys: &mut Vec<Key>, line: &[u8], limit: Option<usize>) -> Result<(), KeyStop>
+    requires { IfSome limit (λ most. length keys.old.items ≤ most) }
+    ensures added { Adds (keys_with_line_within limit keys.old.items line.now) result keys.new.items }
+    ensures room { OnOk result (IfSome limit (λ most. length keys.new.items ≤ most)) }
     ensures memory { IsErrOf result KeyStop.OutOfMemory → is_counted line.now ≡ true }
 {
     if is_blank(line) || is_comment(line) {
         return Ok(());
     }
     let (number, text) = parted(line);
-    add_counted(keys, number, text)
+    add_counted(keys, number, text, limit)
+}
+
+/// The keys of a text in order, no more than the limit, where there is one.
+pub(crate) fn read_within(
+    alloc: Global,
+    text: &[u8],
+    limit: Option<usize>,
+) -> Result<Vec<Key>, ScriptError>
+    ensures read { Reads result (script_within limit text.now) }
+    // It is out of memory only where a line has a count.
+    ensures memory { IsErrOf result ScriptError.OutOfMemory → has_count (lines text.now) ≡ true }
+{
+    let mut keys = Vec::new(alloc);
+    let mut rest = text;
+    let mut number: u64 = 0;
+    while !rest.is_empty() {
+        let (line, after) = first_line(rest);
+        number += 1;
+        match add_line(&mut keys, line, limit) {
+            Ok(()) => rest = after,
+            Err(KeyStop::Fault(fault)) => return Err(ScriptError::Line { number, fault }),
+            Err(KeyStop::OutOfMemory) => return Err(ScriptError::OutOfMemory),
+        }
+    }
+    Ok(keys)
 }
 
 /// The keys of a script in order, each with the count of steps at which it comes.
@@ -154,17 +200,5 @@ pub fn read_keys(alloc: Global, text: &[u8]) -> Result<Vec<Key>, ScriptError>
     // It is out of memory only where a line has a count.
     ensures memory { IsErrOf result ScriptError.OutOfMemory → has_count (lines text.now) ≡ true }
 {
-    let mut keys = Vec::new(alloc);
-    let mut rest = text;
-    let mut number: u64 = 0;
-    while !rest.is_empty() {
-        let (line, after) = first_line(rest);
-        number += 1;
-        match add_line(&mut keys, line) {
-            Ok(()) => rest = after,
-            Err(KeyStop::Fault(fault)) => return Err(ScriptError::Line { number, fault }),
-            Err(KeyStop::OutOfMemory) => return Err(ScriptError::OutOfMemory),
-        }
-    }
-    Ok(keys)
+    read_within(alloc, text, Some(MOST_KEYS))
 }

@@ -1,7 +1,8 @@
-//! Key scripts: the keys that they have, those that wait, those of forked sessions, and keys that are recorded.
+//! Key scripts: the keys that they have, those that wait, those of forked sessions, and keys that are recorded and read back.
 
 use cpm_script::{
-    Cue, Key, MOST_KEYS, ScriptError, key_line, keys_before, read_cues, read_forked_cues, read_keys,
+    Cue, Key, MOST_KEYS, ScriptError, key_line, keys_before, read_cues, read_forked_cues,
+    read_keys, read_recording,
 };
 use std::alloc::{AllocError, Global};
 use test_language::{RowAnswer, RowFault, RowLine, Scene, Word, byte, count, number};
@@ -25,7 +26,10 @@ impl Scene for Scripts {
     }
 
     fn is_alone(verb: &str) -> bool {
-        matches!(verb, "keys" | "cues" | "is-plain" | "plain-keys" | "told")
+        matches!(
+            verb,
+            "keys" | "recording" | "cues" | "is-plain" | "plain-keys" | "told"
+        )
     }
 
     fn takes_text(verb: &str) -> bool {
@@ -41,6 +45,7 @@ impl Scene for Scripts {
             "first" => self.cut(line.arguments()),
             "record" => self.record(alloc, line.arguments()),
             "keys" => self.keys(alloc),
+            "recording" => self.recording(alloc),
             "keys-before" => self.keys_before(alloc, line.arguments()),
             "cues" => self.cues(alloc),
             "forked-cues" => self.forked_cues(alloc, line.arguments()),
@@ -81,6 +86,14 @@ impl Scripts {
     /// `keys`: the keys of the script.
     fn keys(&mut self, alloc: Global) -> Result<RowAnswer, RowFault> {
         match read_keys(alloc, self.script.as_slice()) {
+            Ok(keys) => shown_keys(alloc, keys.as_slice()),
+            Err(error) => self.refused(alloc, error),
+        }
+    }
+
+    /// `recording`: the keys of the script, which may be more than those of a script.
+    fn recording(&mut self, alloc: Global) -> Result<RowAnswer, RowFault> {
+        match read_recording(alloc, self.script.as_slice()) {
             Ok(keys) => shown_keys(alloc, keys.as_slice()),
             Err(error) => self.refused(alloc, error),
         }
