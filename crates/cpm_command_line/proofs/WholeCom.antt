@@ -9,7 +9,7 @@ use Rattle.clap.specs.Walk.{answers_to}
 use Rattle.clap.specs.Faults.{check_fault, entered_fault, fault_of, level_fault}
 use Rattle.clap.specs.declared.builder.value_parser.ValueParser.TheVariants as parser
 use Rattle.clap.proofs.ValueTestLemmas.{accepts-Accepts}
-use Rattle.cpm_command_line.specs.CommandLine.{IsCountIfAny, IsPick, IsWhole, IsWholeAsm, IsWholeCheck, IsWholeCom, IsWholeDebug, IsWholeList, IsWholeRun, asm_app, check_app, com_app, debug_app, host_app, list_app, operand, repeated_option, run_app, steps_option, value_option, words_left_out}
+use Rattle.cpm_command_line.specs.CommandLine.{IsCountIfAny, IsPick, IsWhole, IsWholeAsm, IsWholeCheck, IsWholeCom, IsWholeDebug, IsWholeList, IsWholeRun, asm_app, check_app, com_app, count_option, debug_app, host_app, list_app, operand, repeated_option, run_app, value_option, words_left_out}
 use Rattle.cpm_flags.specs.declared.regs.Cpu.TheVariants.{I8080, Z80}
 use Rattle.cpm_command_line.proofs.FilledRows.{HasText, IsPlain, IsSetting, plain_by_ids, same_bytes}
 use Rattle.cpm_command_line.proofs.LeafRows.{both_given, default_text, flag_in, flag_rule, flag_word, given_first, help_found, help_word, leaf_checked, one_given, text_or_none}
@@ -50,15 +50,15 @@ tail_words = record { action = inr (inr (inl refl)); values = inl refl }
 value_word : (name : Text) → IsSetting (filled (value_option name))
 value_word name = record { action = inl refl; values = inl refl }
 
-steps_word : IsSetting (filled steps_option)
-steps_word = record { action = inl refl; values = inl refl }
+count_word : (name : Text) → IsSetting (filled (count_option name))
+count_word name = record { action = inl refl; values = inl refl }
 
 repeated_words : (name : Text) → IsSetting (filled (repeated_option name))
 repeated_words name = record { action = inr (inr (inl refl)); values = inl refl }
 
 com_plain : IsPlain com_built.rules
 com_plain = plain_by_ids com_built.rules refl
-    (operand_word _ _, (tail_words, (flag_word _, (steps_word, (value_word _, (repeated_words _, (repeated_words _, (flag_word _, (value_word _, (flag_word _, (flag_word _, (flag_word _, (flag_word _, (help_word, tt))))))))))))))
+    (operand_word _ _, (tail_words, (flag_word _, (count_word _, (value_word _, (repeated_words _, (repeated_words _, (flag_word _, (value_word _, (flag_word _, (flag_word _, (flag_word _, (flag_word _, (flag_word _, (flag_word _, (value_word _, (count_word _, (help_word, tt))))))))))))))))))
 
 com_shorts : HasHelpShorts com_built.rules
 com_shorts x a is = help_found x a is
@@ -71,8 +71,8 @@ file_rule = with_index 1 (filled (operand (codes "file")))
 abbrev z80_rule : Rule
 z80_rule = flag_rule (codes "z80")
 
-abbrev steps_rule : Rule
-steps_rule = filled steps_option
+abbrev count_rule : Text → Rule
+count_rule name = filled (count_option name)
 
 pick_of : (rows : List Row) → HasText z80_rule rows → IsPick (one_of (codes "z80") rows)
 pick_of rows has = go (bytes_eq has.text (codes "true")) refl has.passes
@@ -81,9 +81,9 @@ pick_of rows has = go (bytes_eq has.text (codes "true")) refl has.passes
     go true e pass = record { cpu = Z80; given = has.one ∙ ap (λ (v : Text). Some v) (same_bytes _ _ e) }
     go false e pass = record { cpu = I8080; given = has.one ∙ ap (λ (v : Text). Some v) (same_bytes _ _ pass) }
 
-count_of : (rows : List Row) → (one_of (codes "steps") rows ≡ None) ⊎ HasText steps_rule rows → IsCountIfAny (one_of (codes "steps") rows)
-count_of rows (inl none) = inl none
-count_of rows (inr has) =
+count_of : (name : Text) (rows : List Row) → (one_of name rows ≡ None) ⊎ HasText (count_rule name) rows → IsCountIfAny (one_of name rows)
+count_of name rows (inl none) = inl none
+count_of name rows (inr has) =
     let taken = accepts-Accepts false (parser.Unsigned 0 18446744073709551615) has.text has.passes in
     inr (record { digits = has.text; given = has.one; numeral = taken.0; fits = taken.1 })
 
@@ -94,7 +94,7 @@ com_whole words e =
     record {
       file = given_first com_built com_plain com_shorts words e file_rule (inl refl) file;
       z80 = pick_of rows (default_text com_built com_plain com_shorts words e z80_rule (inr (inr (inl refl))) tt);
-      steps = count_of rows (text_or_none com_built com_plain com_shorts words e steps_rule (inr (inr (inr (inl refl)))));
+      steps = count_of (codes "steps") rows (text_or_none com_built com_plain com_shorts words e (count_rule (codes "steps")) (inr (inr (inr (inl refl)))));
       keyboard = flag_in (codes "keyboard") rows
           (default_text com_built com_plain com_shorts words e (flag_rule (codes "keyboard")) (inr (inr (inr (inr (inr (inr (inr (inl refl)))))))) tt);
       progress = flag_in (codes "progress") rows
@@ -108,6 +108,15 @@ com_whole words e =
       quiet = flag_in (codes "quiet") rows
           (default_text com_built com_plain com_shorts words e (flag_rule (codes "quiet"))
           (inr (inr (inr (inr (inr (inr (inr (inr (inr (inr (inr (inr (inl refl))))))))))))) tt);
+      partial = flag_in (codes "partial") rows
+          (default_text com_built com_plain com_shorts words e (flag_rule (codes "partial"))
+          (inr (inr (inr (inr (inr (inr (inr (inr (inr (inr (inr (inr (inr (inl refl)))))))))))))) tt);
+      status = flag_in (codes "status") rows
+          (default_text com_built com_plain com_shorts words e (flag_rule (codes "status"))
+          (inr (inr (inr (inr (inr (inr (inr (inr (inr (inr (inr (inr (inr (inr (inl refl))))))))))))))) tt);
+      pace = count_of (codes "pace") rows
+          (text_or_none com_built com_plain com_shorts words e (count_rule (codes "pace"))
+          (inr (inr (inr (inr (inr (inr (inr (inr (inr (inr (inr (inr (inr (inr (inr (inr (inl refl))))))))))))))))));
     }
 
 -- ---- the other subcommands
@@ -165,7 +174,7 @@ check_whole words e =
 
 run_plain : IsPlain run_built.rules
 run_plain = plain_by_ids run_built.rules refl
-    (operand_word _ _, (value_word _, (value_word _, (flag_word _, (flag_word _, (value_word _, (flag_word _, (repeated_words _, (flag_word _, (help_word, tt))))))))))
+    (operand_word _ _, (value_word _, (value_word _, (flag_word _, (flag_word _, (value_word _, (flag_word _, (repeated_words _, (flag_word _, (count_word _, (help_word, tt)))))))))))
 
 run_shorts : HasHelpShorts run_built.rules
 run_shorts x a is = help_found x a is
@@ -188,6 +197,9 @@ run_whole words e =
       here = flag_in (codes "outputs-here") rows
           (default_text run_built run_plain run_shorts words e (flag_rule (codes "outputs-here"))
           (inr (inr (inr (inr (inr (inr (inr (inr (inl refl))))))))) tt);
+      pace = count_of (codes "pace") rows
+          (text_or_none run_built run_plain run_shorts words e (count_rule (codes "pace"))
+          (inr (inr (inr (inr (inr (inr (inr (inr (inr (inl refl)))))))))));
     }
 
 debug_plain : IsPlain debug_built.rules

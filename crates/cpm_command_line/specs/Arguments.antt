@@ -3,8 +3,8 @@ use Rattle.std.specs.Prelude.{[], ◌∷◌, List}
 use Rattle.std.specs.Borrow.{Bor}
 use Rattle.clap.specs.Words.{App, Rule, Text, new_app, with_rule, with_subcommand}
 use Rattle.cpm_command_line.specs.declared.build.Argument.{Argument}
-use Rattle.cpm_command_line.specs.declared.build.Argument.TheVariants.{Flag, Steps, User, UserIfAny, Value, Values, Word, Words, WordsIfAny}
-use Rattle.cpm_command_line.specs.CommandLine.{flag, operand, repeated_option, steps_option, value_option, words_left_out}
+use Rattle.cpm_command_line.specs.declared.build.Argument.TheVariants.{Count, Flag, User, UserIfAny, Value, Values, Word, Words, WordsIfAny}
+use Rattle.cpm_command_line.specs.CommandLine.{count_option, flag, operand, repeated_option, value_option, words_left_out}
 use Rattle.cpm_command_line.specs.DiskLine.{operands, user_if_any_option, user_option}
 
 -- own: the rule of an argument
@@ -15,7 +15,7 @@ rule_for (WordsIfAny id shown) = words_left_out id.now
 rule_for (Flag name) = flag name.now
 rule_for (Value name shown) = value_option name.now
 rule_for (Values name shown) = repeated_option name.now
-rule_for Steps = steps_option
+rule_for (Count name) = count_option name.now
 rule_for UserIfAny = user_if_any_option
 rule_for User = user_option
 

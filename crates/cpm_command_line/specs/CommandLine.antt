@@ -36,23 +36,29 @@ value_option name = record (new_rule name) { long = Some name; value_names = 1 }
 abbrev pub repeated_option : List ℕ → Rule
 repeated_option name = record (value_option name) { action = Some Append }
 
--- `--steps N`, of `u64`, which may be left out
-abbrev pub steps_option : Rule
-steps_option = record (value_option (codes "steps")) { parser = Some (parser.Unsigned 0 18446744073709551615) }
+-- own: an option `--name N` with a number of `u64`, which may be left out
+abbrev pub count_option : List ℕ → Rule
+count_option name = record (value_option name) { parser = Some (parser.Unsigned 0 18446744073709551615) }
 
 -- ---- the subcommands
 
 -- own: `com FILE [TAIL..] [--z80] [--steps N] [--keys SCRIPT]`: the program and what it runs with
 abbrev pub program_app : App
 program_app = with_rule (with_rule (with_rule (with_rule (with_rule (new_app (codes "com"))
-    (operand (codes "file"))) (words_left_out (codes "tail"))) (flag (codes "z80"))) steps_option) (value_option (codes "keys"))
+    (operand (codes "file"))) (words_left_out (codes "tail"))) (flag (codes "z80"))) (count_option (codes "steps")))
+    (value_option (codes "keys"))
 
 -- own: `com`, with `[--disk IMAGE].. [--out-disk IMAGE].. [--keyboard] [--record SCRIPT] [--progress] [--stop-idle] [--raw]
 -- [--quiet]` after these
-abbrev pub com_app : App
-com_app = with_rule (with_rule (with_rule (with_rule (with_rule (with_rule (with_rule (with_rule program_app
+abbrev pub played_app : App
+played_app = with_rule (with_rule (with_rule (with_rule (with_rule (with_rule (with_rule (with_rule program_app
     (repeated_option (codes "disk"))) (repeated_option (codes "out-disk"))) (flag (codes "keyboard"))) (value_option (codes "record")))
     (flag (codes "progress"))) (flag (codes "stop-idle"))) (flag (codes "raw"))) (flag (codes "quiet"))
+
+-- own: `com`, with `[--partial] [--status] [--replay RECORDING] [--pace N]` after these
+abbrev pub com_app : App
+com_app = with_rule (with_rule (with_rule (with_rule played_app
+    (flag (codes "partial"))) (flag (codes "status"))) (value_option (codes "replay"))) (count_option (codes "pace"))
 
 -- own: `asm SOURCE OUT [--list FILE]`
 abbrev pub asm_app : App
@@ -68,12 +74,12 @@ abbrev pub check_app : App
 check_app = with_rule (new_app (codes "check")) (operand (codes "image"))
 
 -- own: `run CONFIG [--keyboard NAME] [--record SCRIPT] [--progress] [--stop-idle] [--record-all FOLDER] [--raw]
--- [--within FOLDER].. [--outputs-here]`
+-- [--within FOLDER].. [--outputs-here] [--pace N]`
 abbrev pub run_app : App
-run_app = with_rule (with_rule (with_rule (with_rule (with_rule (with_rule (with_rule (with_rule (with_rule (new_app (codes "run"))
+run_app = with_rule (with_rule (with_rule (with_rule (with_rule (with_rule (with_rule (with_rule (with_rule (with_rule (new_app (codes "run"))
     (operand (codes "config"))) (value_option (codes "keyboard"))) (value_option (codes "record"))) (flag (codes "progress")))
     (flag (codes "stop-idle"))) (value_option (codes "record-all"))) (flag (codes "raw"))) (repeated_option (codes "within")))
-    (flag (codes "outputs-here"))
+    (flag (codes "outputs-here"))) (count_option (codes "pace"))
 
 -- own: `debug FILE [--z80] [--list FILE]`
 abbrev pub debug_app : App
@@ -143,6 +149,10 @@ HasEntriesOf given (Com task) =
     × (one_of (codes "stop-idle") given.1 ≡ Some (bool_text task.stops_idle))
     × (one_of (codes "raw") given.1 ≡ Some (bool_text task.is_raw))
     × (one_of (codes "quiet") given.1 ≡ Some (bool_text task.is_quiet))
+    × (one_of (codes "partial") given.1 ≡ Some (bool_text task.is_partial))
+    × (one_of (codes "status") given.1 ≡ Some (bool_text task.has_status))
+    × (first_of (codes "replay") given.1 ≡ option_map (λ t. t.now) task.replay)
+    × ReadsCountIfAny (one_of (codes "pace") given.1) task.pace
 HasEntriesOf given (Asm source out list) =
     (given.0 ≡ codes "asm") × (first_of (codes "source") given.1 ≡ Some source.now)
     × (first_of (codes "out") given.1 ≡ Some out.now)
@@ -162,6 +172,7 @@ HasEntriesOf given (Run task) =
     × (one_of (codes "raw") given.1 ≡ Some (bool_text task.is_raw))
     × ReadsWordsIfAny (all_of (codes "within") given.1) task.folders.items
     × (one_of (codes "outputs-here") given.1 ≡ Some (bool_text task.has_outputs_here))
+    × ReadsCountIfAny (one_of (codes "pace") given.1) task.pace
 HasEntriesOf given (Debug file cpu list) =
     (given.0 ≡ codes "debug") × (first_of (codes "file") given.1 ≡ Some file.now)
     × (one_of (codes "z80") given.1 ≡ Some (flag_text cpu))
@@ -202,6 +213,9 @@ pub record IsWholeCom (rows : List Row) : Type 0 where
   pub idle : IsFlag (one_of (codes "stop-idle") rows)
   pub raw : IsFlag (one_of (codes "raw") rows)
   pub quiet : IsFlag (one_of (codes "quiet") rows)
+  pub partial : IsFlag (one_of (codes "partial") rows)
+  pub status : IsFlag (one_of (codes "status") rows)
+  pub pace : IsCountIfAny (one_of (codes "pace") rows)
 
 -- the entries of `asm` are whole
 pub record IsWholeAsm (rows : List Row) : Type 0 where
@@ -224,6 +238,7 @@ pub record IsWholeRun (rows : List Row) : Type 0 where
   pub idle : IsFlag (one_of (codes "stop-idle") rows)
   pub raw : IsFlag (one_of (codes "raw") rows)
   pub here : IsFlag (one_of (codes "outputs-here") rows)
+  pub pace : IsCountIfAny (one_of (codes "pace") rows)
 
 -- the entries of `debug` are whole
 pub record IsWholeDebug (rows : List Row) : Type 0 where

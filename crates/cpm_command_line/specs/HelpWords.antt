@@ -7,6 +7,7 @@ use Rattle.cpm_command_line.specs.Shown.{shown_of}
 use Rattle.cpm_command_line.specs.declared.fault.UsageFault.{UsageFault}
 use Rattle.cpm_command_line.specs.declared.fault.UsageFault.TheVariants as fault
 use Rattle.cpm_command_line.specs.declared.fault.UsageRefusal.{UsageRefusal}
+use Rattle.cpm_command_line.specs.declared.disk_pages.TheConstants as disk_text
 use Rattle.cpm_command_line.specs.declared.pages.TheConstants as text
 use Rattle.cpm_command_line.specs.declared.usage.Page.{Page}
 use Rattle.cpm_command_line.specs.declared.usage.Page.TheVariants as page
@@ -136,13 +137,13 @@ text_of_page page.List = text.LIST_PAGE.now
 text_of_page page.Check = text.CHECK_PAGE.now
 text_of_page page.Run = text.RUN_PAGE.now
 text_of_page page.Debug = text.DEBUG_PAGE.now
-text_of_page page.Disk = text.DISK_PAGE.now
-text_of_page page.DiskNew = text.DISK_NEW_PAGE.now
-text_of_page page.DiskList = text.DISK_LIST_PAGE.now
-text_of_page page.DiskPut = text.DISK_PUT_PAGE.now
-text_of_page page.DiskGet = text.DISK_GET_PAGE.now
-text_of_page page.DiskRemove = text.DISK_REMOVE_PAGE.now
-text_of_page page.DiskRename = text.DISK_RENAME_PAGE.now
+text_of_page page.Disk = disk_text.DISK_PAGE.now
+text_of_page page.DiskNew = disk_text.DISK_NEW_PAGE.now
+text_of_page page.DiskList = disk_text.DISK_LIST_PAGE.now
+text_of_page page.DiskPut = disk_text.DISK_PUT_PAGE.now
+text_of_page page.DiskGet = disk_text.DISK_GET_PAGE.now
+text_of_page page.DiskRemove = disk_text.DISK_REMOVE_PAGE.now
+text_of_page page.DiskRename = disk_text.DISK_RENAME_PAGE.now
 text_of_page page.Status = text.STATUS_PAGE.now
 
 -- own: the words of a line that prints a page

@@ -1,29 +1,38 @@
 -- Options that don't go together. Clap's rules take them; what is wrong with them comes after what clap finds.
-use Rattle.std.specs.Prelude.{◌&&◌, ◌||◌, if◌then◌else◌, nat_lt, not, Option, Some, None, is_some, length}
+use Rattle.std.specs.Prelude.{◌&&◌, ◌||◌, ◌==◌, Bool, ℕ, false, if◌then◌else◌, nat_lt, not, Option, Some, None, is_some, length}
 use Rattle.cpm_command_line.specs.declared.fault.UsageFault.{UsageFault}
-use Rattle.cpm_command_line.specs.declared.fault.UsageFault.TheVariants.{OutWithoutDisk, ProgressAtKeyboard, RecordAlone}
-use Rattle.cpm_command_line.specs.declared.fault.UsageFault.TheVariants.{RecordUntyped, TooManyDisks, TwoScripts}
+use Rattle.cpm_command_line.specs.declared.fault.UsageFault.TheVariants.{OutWithoutDisk, PaceZero, PartialWithoutOut}
+use Rattle.cpm_command_line.specs.declared.fault.UsageFault.TheVariants.{ProgressAtKeyboard, RecordAlone, RecordUntyped}
+use Rattle.cpm_command_line.specs.declared.fault.UsageFault.TheVariants.{TooManyDisks, TwoScripts}
 use Rattle.cpm_command_line.specs.declared.task.ComTask.{ComTask}
 use Rattle.cpm_command_line.specs.declared.task.RunTask.{RunTask}
 use Rattle.cpm_command_line.specs.declared.task.Task.{Task}
 use Rattle.cpm_command_line.specs.declared.task.Task.TheVariants.{Com, Run}
 
+-- own: a pace of no steps in a second
+abbrev pub is_zero_pace : Option ℕ → Bool
+is_zero_pace None = false
+is_zero_pace (Some n) = n == 0
+
 -- own: what is wrong first with the options of `com`. Four drives, A to D, can have an image
 abbrev pub fault_of_com : ComTask → Option UsageFault
 fault_of_com task =
-    if is_some task.«record» && not (task.is_live || is_some task.keys) then Some RecordAlone
-    else (if is_some task.keys && task.is_live then Some TwoScripts
+    if is_some task.«record» && not (task.is_live || (is_some task.keys || is_some task.replay)) then Some RecordAlone
+    else (if is_some task.keys && is_some task.replay then Some TwoScripts
     else (if nat_lt 4 (length task.drives.items) then Some TooManyDisks
     else (if nat_lt (length task.drives.items) (length task.outs.items) then Some OutWithoutDisk
+    else (if task.is_partial && (length task.outs.items == 0) then Some PartialWithoutOut
     else (if task.has_progress && task.is_live then Some ProgressAtKeyboard
-    else None))))
+    else (if is_zero_pace task.pace then Some PaceZero
+    else None))))))
 
 -- own: what is wrong first with the options of `run`
 abbrev pub fault_of_run : RunTask → Option UsageFault
 fault_of_run task =
     if is_some task.«record» && not (is_some task.keyboard) then Some RecordUntyped
     else (if task.has_progress && is_some task.keyboard then Some ProgressAtKeyboard
-    else None)
+    else (if is_zero_pace task.pace then Some PaceZero
+    else None))
 
 -- own: what is wrong first with the options of a task
 abbrev pub task_fault : Task → Option UsageFault

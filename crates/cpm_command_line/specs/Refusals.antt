@@ -25,6 +25,7 @@ kinds_of (fault.UnexpectedArgument word) = kind.UnknownArgument ∷ []
 kinds_of (fault.MissingArgument word) = kind.MissingRequiredArgument ∷ []
 kinds_of (fault.MissingValue word) = kind.InvalidValue ∷ []
 kinds_of (fault.NotANumber word) = kind.ValueValidation ∷ []
+kinds_of (fault.NotAPace word) = kind.ValueValidation ∷ []
 kinds_of (fault.NotAUser word) = kind.ValueValidation ∷ []
 kinds_of (fault.GivenTwice word) = kind.ArgumentConflict ∷ []
 kinds_of fault.RecordAlone = []
@@ -32,7 +33,9 @@ kinds_of fault.RecordUntyped = []
 kinds_of fault.TwoScripts = []
 kinds_of fault.TooManyDisks = []
 kinds_of fault.OutWithoutDisk = []
+kinds_of fault.PartialWithoutOut = []
 kinds_of fault.ProgressAtKeyboard = []
+kinds_of fault.PaceZero = []
 kinds_of (fault.Other word) =
     kind.NoEquals ∷ kind.TooManyValues ∷ kind.TooFewValues ∷ kind.WrongNumberOfValues
     ∷ kind.DisplayVersion ∷ kind.Io ∷ kind.Format ∷ []
@@ -42,6 +45,7 @@ abbrev pub IsOfLine : Bool → UsageFault → Type 0
 IsOfLine is_disk fault.NoCommand = is_disk ≡ false
 IsOfLine is_disk fault.NoDiskCommand = is_disk ≡ true
 IsOfLine is_disk (fault.NotANumber word) = is_disk ≡ false
+IsOfLine is_disk (fault.NotAPace word) = is_disk ≡ false
 IsOfLine is_disk (fault.NotAUser word) = is_disk ≡ true
 IsOfLine is_disk f = ⊤
 

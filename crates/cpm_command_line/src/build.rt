@@ -2,8 +2,8 @@
 ghost use Rattle.std.specs.Prelude.{IfOk};
 ghost use Rattle.clap.specs.Words.{App, new_app, with_subcommand};
 ghost use Rattle.cpm_command_line.specs.Arguments.{app_for, rule_for, with_arguments, with_commands};
-ghost use Rattle.cpm_command_line.specs.CommandLine.{IsArgumentOf, IsCommandOf, flag, host_app, operand, repeated_option};
-ghost use Rattle.cpm_command_line.specs.CommandLine.{steps_option, top_app, value_option, words_left_out};
+ghost use Rattle.cpm_command_line.specs.CommandLine.{IsArgumentOf, IsCommandOf, count_option, flag, host_app, operand};
+ghost use Rattle.cpm_command_line.specs.CommandLine.{repeated_option, top_app, value_option, words_left_out};
 ghost use Rattle.cpm_command_line.specs.DiskLine.{disk_app, operands, user_if_any_option, user_option};
 
 use clap::{Arg, ArgAction, Command};
@@ -24,8 +24,8 @@ pub(crate) enum Argument {
     Value(&'static str, &'static str),
     /// An option of this name with a value, which may be left out, and given several times.
     Values(&'static str, &'static str),
-    /// `--steps N`
-    Steps,
+    /// An option of this name with a number, which may be left out.
+    Count(&'static str),
     /// `--user N`, which may be left out.
     UserIfAny,
     /// `--user N`, which is 0 where it is left out.
@@ -43,7 +43,7 @@ const HOST_COMMANDS: [NamedCommand; 6] = [
             Argument::Word("file", "FILE"),
             Argument::WordsIfAny("tail", "TAIL"),
             Argument::Flag("z80"),
-            Argument::Steps,
+            Argument::Count("steps"),
             Argument::Value("keys", "SCRIPT"),
             Argument::Values("disk", "IMAGE"),
             Argument::Values("out-disk", "IMAGE"),
@@ -53,6 +53,10 @@ const HOST_COMMANDS: [NamedCommand; 6] = [
             Argument::Flag("stop-idle"),
             Argument::Flag("raw"),
             Argument::Flag("quiet"),
+            Argument::Flag("partial"),
+            Argument::Flag("status"),
+            Argument::Value("replay", "RECORDING"),
+            Argument::Count("pace"),
         ],
     ),
     (
@@ -80,6 +84,7 @@ const HOST_COMMANDS: [NamedCommand; 6] = [
             Argument::Flag("raw"),
             Argument::Values("within", "FOLDER"),
             Argument::Flag("outputs-here"),
+            Argument::Count("pace"),
         ],
     ),
     (
@@ -185,11 +190,11 @@ fn repeated_argument<'a>(alloc: Global, name: &'a str, shown: &'a str) -> Arg<'a
     value_argument(alloc, name, shown).action(ArgAction::Append)
 }
 
-/// `--steps N`
-fn steps_argument<'a>(alloc: Global) -> Arg<'a>
-    ensures { IsArgumentOf steps_option result }
+/// An option of this name with a number, which may be left out.
+fn count_argument<'a>(alloc: Global, name: &'a str) -> Arg<'a>
+    ensures { IsArgumentOf (count_option name.now) result }
 {
-    value_argument(alloc, "steps", "N").value_parser(clap::value_parser!(u64))
+    value_argument(alloc, name, "N").value_parser(clap::value_parser!(u64))
 }
 
 /// `--user N`, which may be left out.
@@ -217,7 +222,7 @@ fn argument_of<'a>(alloc: Global, argument: Argument) -> Arg<'a>
         Argument::Flag(name) => flag_argument(alloc, name),
         Argument::Value(name, shown) => value_argument(alloc, name, shown),
         Argument::Values(name, shown) => repeated_argument(alloc, name, shown),
-        Argument::Steps => steps_argument(alloc),
+        Argument::Count(name) => count_argument(alloc, name),
         Argument::UserIfAny => user_if_any_argument(alloc),
         Argument::User => user_argument(alloc),
     }

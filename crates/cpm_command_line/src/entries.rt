@@ -72,12 +72,12 @@ pub(crate) fn cpu_of(matches: &ArgMatches<'_>) -> Cpu
     }
 }
 
-/// The number of steps, where it was given.
-pub(crate) fn steps_of(matches: &ArgMatches<'_>) -> Option<u64>
-    requires { IsCountIfAny (one_of (codes "steps") (rows_of (found_of matches.now))) }
-    ensures { ReadsCountIfAny (one_of (codes "steps") (rows_of (found_of matches.now))) result }
+/// The number of an argument that may be left out.
+pub(crate) fn count_if_any(matches: &ArgMatches<'_>, id: &str) -> Option<u64>
+    requires { IsCountIfAny (one_of id.now (rows_of (found_of matches.now))) }
+    ensures { ReadsCountIfAny (one_of id.now (rows_of (found_of matches.now))) result }
 {
-    matches.get_one::<u64>("steps")
+    matches.get_one::<u64>(id)
 }
 
 /// The number of the user.

@@ -42,6 +42,9 @@ pub enum UsageFault {
     /// The value of `--steps` is no number of 64 bits.
     #[error("invalid value '{0}' for '--steps': a number from 0 to 18446744073709551615 is wanted")]
     NotANumber(ShownWord),
+    /// The value of `--pace` is no number of 64 bits.
+    #[error("invalid value '{0}' for '--pace': a number from 1 to 18446744073709551615 is wanted")]
+    NotAPace(ShownWord),
     /// The value of `--user` is no number of a user.
     #[error("invalid value '{0}' for '--user': a number from 0 to 15 is wanted")]
     NotAUser(ShownWord),
@@ -49,13 +52,13 @@ pub enum UsageFault {
     #[error("the argument '{0}' was given twice")]
     GivenTwice(ShownWord),
     /// The keys of a program are to be recorded, and come from nowhere.
-    #[error("'--record' takes the keys of '--keyboard' or '--keys'; give one of these with it")]
+    #[error("'--record' takes the keys of '--keyboard', '--keys' or '--replay'; give one of these with it")]
     RecordAlone,
     /// The keys of a session are to be recorded, and none are typed.
     #[error("'--record' takes the keys of '--keyboard'; give both, or neither")]
     RecordUntyped,
-    /// The keys are to come from a script, and to be typed.
-    #[error("'--keys' and '--keyboard' both give the keys; give one of them")]
+    /// The keys are to come from a script, and from a recording.
+    #[error("'--keys' and '--replay' both give the keys; give one of them")]
     TwoScripts,
     /// There are more images than drives.
     #[error("'--disk' was given more than 4 times; give it for the drives A to D")]
@@ -63,9 +66,15 @@ pub enum UsageFault {
     /// A drive is to be written, and has no image.
     #[error("'--out-disk' was given more often than '--disk'; give a '--disk' for each")]
     OutWithoutDisk,
+    /// Drives are to be written even where the program is cut off, and none is to be written at all.
+    #[error("'--partial' needs '--out-disk'")]
+    PartialWithoutOut,
     /// The terminal is to show what is typed at, and how much is done.
     #[error("'--progress' and '--keyboard' both write to the terminal; give one of them")]
     ProgressAtKeyboard,
+    /// No steps are to pass in a second.
+    #[error("'--pace' needs a number from 1")]
+    PaceZero,
     /// Anything else, in the words of the reader of command lines.
     #[error("{0}")]
     Other(ShownWord),
@@ -229,22 +238,34 @@ fn missing_command(is_disk: bool) -> UsageFault
     }
 }
 
-/// What is wrong where a number is none, in a line of `disk` or another.
-fn wrong_number(word: ShownWord, is_disk: bool) -> UsageFault
-    ensures { result ≡ (if is_disk then UsageFault.NotAUser word else UsageFault.NotANumber word) }
+/// Whether an error of `clap` on a value names `--pace` behind it.
+fn names_pace(text: &str) -> bool {
+    match text.rsplit_once("' for '") {
+        Some((_, option)) => option.starts_with("--pace"),
+        None => false,
+    }
+}
+
+/// What is wrong where a number is none: in a line of `disk` a user's, and in another a pace or a number of steps.
+fn wrong_number(word: ShownWord, is_disk: bool, is_pace: bool) -> UsageFault
+    ensures { result ≡ (if is_disk then UsageFault.NotAUser word
+        else (if is_pace then UsageFault.NotAPace word else UsageFault.NotANumber word)) }
 {
     if is_disk {
         UsageFault::NotAUser(word)
+    } else if is_pace {
+        UsageFault::NotAPace(word)
     } else {
         UsageFault::NotANumber(word)
     }
 }
 
-/// What is wrong by an error of `clap` of this kind, which says `message`, in a line of `disk` or another.
+/// What is wrong by an error of `clap` of this kind, which says `text`, in a line of `disk` or another.
 /// Nothing is where memory was refused or help is asked for.
-fn fault_of_kind(kind: ErrorKind, message: &str, is_disk: bool) -> Option<UsageFault>
+fn fault_of_kind(kind: ErrorKind, text: &str, is_disk: bool) -> Option<UsageFault>
     ensures { IfSome result (λ fault. IsAmong kind (kinds_of fault) × IsOfLine is_disk fault) }
 {
+    let message = message_of(text);
     match kind {
         ErrorKind::OutOfMemory | ErrorKind::DisplayHelp => None,
         ErrorKind::MissingSubcommand | ErrorKind::DisplayHelpOnMissingArgumentOrSubcommand => {
@@ -258,7 +279,10 @@ fn fault_of_kind(kind: ErrorKind, message: &str, is_disk: bool) -> Option<UsageF
             Some(UsageFault::MissingArgument(missing_name(message)))
         }
         ErrorKind::InvalidValue => Some(UsageFault::MissingValue(quoted(message, "' but"))),
-        ErrorKind::ValueValidation => Some(wrong_number(quoted(message, "' for '"), is_disk)),
+        ErrorKind::ValueValidation => {
+            let word = quoted(message, "' for '");
+            Some(wrong_number(word, is_disk, names_pace(text)))
+        }
         ErrorKind::ArgumentConflict => Some(UsageFault::GivenTwice(quoted(message, "' cannot"))),
         ErrorKind::NoEquals
         | ErrorKind::TooManyValues
@@ -270,11 +294,11 @@ fn fault_of_kind(kind: ErrorKind, message: &str, is_disk: bool) -> Option<UsageF
     }
 }
 
-/// The refusal for an error of `clap` that says `message`, in a line of `disk` or another that has this page.
-fn refusal_of(kind: ErrorKind, message: &str, is_disk: bool, page: Page) -> UsageError
+/// The refusal for an error of `clap` that says `text`, in a line of `disk` or another that has this page.
+fn refusal_of(kind: ErrorKind, text: &str, is_disk: bool, page: Page) -> UsageError
     ensures { IsOfKind is_disk page kind result }
 {
-    match fault_of_kind(kind, message, is_disk) {
+    match fault_of_kind(kind, text, is_disk) {
         Some(fault) => UsageError::Usage(UsageRefusal { fault, page }),
         None => UsageError::OutOfMemory,
     }
@@ -293,7 +317,7 @@ pub(crate) fn answer<'a>(
     match error.kind() {
         ErrorKind::DisplayHelp => Ok(Task::Help(page)),
         kind => match error.to_string(alloc) {
-            Ok(text) => Err(refusal_of(kind, message_of(text.as_str()), is_disk, page)),
+            Ok(text) => Err(refusal_of(kind, text.as_str(), is_disk, page)),
             Err(_) => Err(UsageError::OutOfMemory),
         },
     }

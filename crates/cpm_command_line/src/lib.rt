@@ -3,6 +3,7 @@
 
 mod build;
 mod disk;
+mod disk_pages;
 mod entries;
 mod fault;
 mod options;

@@ -1,6 +1,6 @@
 //! Options that don't go together, in a task that the reader of command lines takes.
 ghost use Rattle.std.specs.Prelude.{◌≡◌};
-ghost use Rattle.cpm_command_line.specs.Options.{fault_of_com, fault_of_run, task_fault};
+ghost use Rattle.cpm_command_line.specs.Options.{fault_of_com, fault_of_run, is_zero_pace, task_fault};
 
 use crate::fault::UsageFault;
 use crate::task::{ComTask, RunTask, Task};
@@ -8,20 +8,35 @@ use crate::task::{ComTask, RunTask, Task};
 /// How many drives can have an image: A to D.
 const DRIVES: usize = 4;
 
+/// Whether a pace was given, of no steps in a second.
+fn is_zero_pace(pace: Option<u64>) -> bool
+    ensures { result ≡ is_zero_pace pace }
+{
+    match pace {
+        Some(n) => n == 0,
+        None => false,
+    }
+}
+
 /// What is wrong first with the options of `com`.
 fn com_fault(task: &ComTask<'_>) -> Option<UsageFault>
     ensures { result ≡ fault_of_com task.now }
 {
-    if task.record.is_some() && !task.is_live && task.keys.is_none() {
+    let has_script = task.keys.is_some() || task.replay.is_some();
+    if task.record.is_some() && !task.is_live && !has_script {
         Some(UsageFault::RecordAlone)
-    } else if task.keys.is_some() && task.is_live {
+    } else if task.keys.is_some() && task.replay.is_some() {
         Some(UsageFault::TwoScripts)
     } else if task.drives.len() > DRIVES {
         Some(UsageFault::TooManyDisks)
     } else if task.outs.len() > task.drives.len() {
         Some(UsageFault::OutWithoutDisk)
+    } else if task.is_partial && task.outs.is_empty() {
+        Some(UsageFault::PartialWithoutOut)
     } else if task.has_progress && task.is_live {
         Some(UsageFault::ProgressAtKeyboard)
+    } else if is_zero_pace(task.pace) {
+        Some(UsageFault::PaceZero)
     } else {
         None
     }
@@ -35,6 +50,8 @@ fn run_fault(task: &RunTask<'_>) -> Option<UsageFault>
         Some(UsageFault::RecordUntyped)
     } else if task.has_progress && task.keyboard.is_some() {
         Some(UsageFault::ProgressAtKeyboard)
+    } else if is_zero_pace(task.pace) {
+        Some(UsageFault::PaceZero)
     } else {
         None
     }

@@ -3,6 +3,10 @@ ghost use Rattle.std.specs.Prelude.{◌≡◌, Some};
 ghost use Rattle.cpm_command_line.specs.HelpWords.{line_of_page, joined_by_spaces, text_of_page};
 ghost use Rattle.cpm_command_line.specs.Line.{asked_page};
 
+use crate::disk_pages::{
+    DISK_GET_PAGE, DISK_LIST_PAGE, DISK_NEW_PAGE, DISK_PAGE, DISK_PUT_PAGE, DISK_REMOVE_PAGE,
+    DISK_RENAME_PAGE,
+};
 use crate::usage::Page;
 
 /// What `cpmhost --help` prints.
@@ -32,7 +36,8 @@ A file whose name begins with '-' is given as './NAME'.
 pub const COM_PAGE: &str = "\
 Usage: cpmhost com FILE [TAIL..] [--z80] [--steps N] [--keys SCRIPT]
        [--disk IMAGE].. [--out-disk IMAGE].. [--keyboard] [--record SCRIPT]
-       [--progress] [--stop-idle] [--raw] [--quiet]
+       [--progress] [--stop-idle] [--raw] [--quiet] [--partial] [--status]
+       [--replay RECORDING] [--pace N]
 
 Run the CP/M program in FILE, such as a .COM file, with the words TAIL..
 after its name on the command line of CP/M, and print what it writes to its
@@ -41,31 +46,46 @@ console. After '--' these words may begin with '-'.
 Options:
   --z80       run it on the Z80; it is the 8080 unless this is given
   --steps N   stop after N steps. N is a number from 0 to 18446744073709551615.
-              Without it the limit is 1000000 steps, and with --keyboard there
-              is none. A step is an instruction, or a part of a system call
+              A step is an instruction, or a part of a system call. Without
+              --steps there is a limit of 1,000,000 steps, but none with
+              --keyboard or --out-disk
   --keys SCRIPT
               press the keys of SCRIPT. A line of it is empty, a comment that
               begins with '#', or says when keys come: 'N KEYS' after N steps,
               'wait KEYS' where the program waits for a key, and 'expect \"TEXT\"
               KEYS' where it does and has shown TEXT. '^M' is Return, '^C' is
               Control and C, '^?' is Rubout, '^~' a caret, the others themselves
+  --replay RECORDING
+              press the keys of RECORDING, a file that --record wrote: a script
+              of lines 'N KEYS', without a limit of keys. It doesn't go with
+              --keys
   --disk IMAGE
               the image of the disk in drive A; given again, of those in B, C
               and D; a blank disk is in A where none is given
   --out-disk IMAGE
               write the disk in drive A, as the program left it, to this file;
-              given again, those in B, C and D
+              given again, those in B, C and D; where the limit of --steps cut
+              the program off while it computed, nothing is written without
+              --partial, and it ends with HO10, status 10
+  --partial   write the files of --out-disk also where the program was cut off
+              by its limit of steps
   --keyboard  take the keys from standard input as they are typed; '^]', Control
-              and ], ends it. It goes with neither --keys nor --progress
+              and ], ends it. The keys of --keys or --replay come before these.
+              It doesn't go with --progress
   --record SCRIPT
-              write the keys that come by --keyboard or --keys to the file
-              SCRIPT, which --keys takes; one of the two must be given
+              write the keys that come by --keyboard, --keys or --replay to the
+              file SCRIPT, which --replay takes; one of these must be given
   --progress  report on standard error how much of the steps is done
+  --pace N    let N thousand steps pass in a second at most; N is a number from
+              1 to 18446744073709551615
   --stop-idle
               end where the program waits for a key and no key will come
   --raw       send control bytes of the program to a terminal as they are;
               without it they are shown as ^[ and the like
   --quiet     leave out the last line, which says how the program ended
+  --status    end with the exit status of the program's end: 0 for Exited and
+              Halted, 11 for Running, 12 for Illegal, 13 for Quota and 14 for
+              CountEnd
   -h, --help  print this page
 
 Examples:
@@ -136,7 +156,7 @@ Examples:
 pub const RUN_PAGE: &str = "\
 Usage: cpmhost run CONFIG [--keyboard NAME] [--record SCRIPT] [--progress]
        [--stop-idle] [--record-all FOLDER] [--raw] [--within FOLDER]..
-       [--outputs-here]
+       [--outputs-here] [--pace N]
 
 Run the sessions of the configuration in CONFIG by turns, write their files,
 and print how each session ended.
@@ -161,6 +181,8 @@ Options:
   --outputs-here
               refuse outputs whose names are not plain names of files in the
               current folder
+  --pace N    let N thousand steps pass in a second at most; N is a number from
+              1 to 18446744073709551615
   -h, --help  print this page
 
 Examples:
@@ -201,137 +223,11 @@ Lines that debug reads, where HHHH is an address of four hexadecimal digits:
   Q           end
 ";
 
-/// The page of `disk`.
-pub const DISK_PAGE: &str = "\
-Usage: cpmhost disk COMMAND IMAGE [WORDS..] [OPTIONS..]
-
-Make the image of a disk, or work with the files in one.
-
-Commands:
-  new         write the image of a blank disk
-  list        list the files in an image
-  put         copy files into an image
-  get         copy files out of an image
-  remove      remove files from an image
-  rename      give a file in an image another name
-
-Options:
-  -h, --help  print this page, or after a command of disk its page
-
-Examples:
-  cpmhost help disk put
-  cpmhost disk get --help
-";
-
-/// The page of `disk new`.
-pub const DISK_NEW_PAGE: &str = "\
-Usage: cpmhost disk new IMAGE [--large]
-
-Write the image of a blank disk to the file IMAGE.
-
-Options:
-  --large     make a large disk, of 2,105,344 bytes in place of 256,256
-  -h, --help  print this page
-
-Examples:
-  cpmhost disk new work.img
-  cpmhost disk new large.img --large
-";
-
-/// The page of `disk list`.
-pub const DISK_LIST_PAGE: &str = "\
-Usage: cpmhost disk list IMAGE [--user N]
-
-List the files in the image IMAGE of a disk.
-
-Options:
-  --user N    the files of user N: N is a number from 0 to 15; where it is left
-              out, those of all users
-  -h, --help  print this page
-
-Examples:
-  cpmhost disk list work.img
-";
-
-/// The page of `disk put`.
-pub const DISK_PUT_PAGE: &str = "\
-Usage: cpmhost disk put IMAGE FILE.. [--user N] [--text] [--read-only]
-       [--system]
-
-Copy files into the image IMAGE of a disk, each under its own name or, as
-FILE=NAME.TYP, under another.
-
-Options:
-  --user N    the files of user N: N is a number from 0 to 15; where it is left
-              out it is 0
-  --text      change the ends of lines to those of CP/M
-  --read-only
-              mark the files as read-only
-  --system    mark the files as files of the system
-  -h, --help  print this page
-
-Examples:
-  cpmhost disk put work.img life.com notes.txt=NOTES.DOC --user 3
-";
-
-/// The page of `disk get`.
-pub const DISK_GET_PAGE: &str = "\
-Usage: cpmhost disk get IMAGE NAME.TYP.. [--user N] [--text] [--to PATH]
-       [--force] [--dry-run]
-
-Copy files out of the image IMAGE of a disk.
-
-Options:
-  --user N    the files of user N: N is a number from 0 to 15; where it is left
-              out it is 0
-  --text      change the ends of lines back from those of CP/M
-  --to PATH   write into the folder PATH, or the one file to the file PATH;
-              files get their names in small letters where PATH is a folder or
-              left out
-  --force     replace files that are there; without it they are refused, and
-              nothing is written
-  --dry-run   print the files that would be written, and write none
-  -h, --help  print this page
-
-Examples:
-  cpmhost disk get work.img NOTES.DOC --text
-  cpmhost disk get work.img LIFE.COM PIP.COM --to programs
-";
-
-/// The page of `disk remove`.
-pub const DISK_REMOVE_PAGE: &str = "\
-Usage: cpmhost disk remove IMAGE NAME.TYP.. [--user N]
-
-Remove files from the image IMAGE of a disk.
-
-Options:
-  --user N    the files of user N: N is a number from 0 to 15; where it is left
-              out it is 0
-  -h, --help  print this page
-
-Examples:
-  cpmhost disk remove work.img NOTES.BAK
-";
-
-/// The page of `disk rename`.
-pub const DISK_RENAME_PAGE: &str = "\
-Usage: cpmhost disk rename IMAGE NEW=OLD [--user N]
-
-Give the file OLD in the image IMAGE of a disk the name NEW.
-
-Options:
-  --user N    the files of user N: N is a number from 0 to 15; where it is left
-              out it is 0
-  -h, --help  print this page
-
-Examples:
-  cpmhost disk rename work.img NOTES.TXT=NOTES.DOC
-";
-
 /// The page of exit statuses.
 pub const STATUS_PAGE: &str = "\
 Exit status:
-  0   nothing was refused, however the program or the sessions ended
+  0   nothing was refused, however the program or the sessions ended; with
+      --status of com its end was Exited or Halted
   1   the command line is wrong, or a name on it: of a session that isn't in
       the configuration or is forked, or one that no file of CP/M can have
   2   the configuration is wrong; nothing is written
@@ -347,6 +243,12 @@ Exit status:
   8   out of memory
   9   the program in FILE has more than 58,112 bytes, or the quotas of all
       sessions exceed the frames of the configuration
+  10  a program was cut off by its limit of steps, so that its drives were not
+      written
+  11  with --status of com: the program still runs, its end was Running
+  12  with --status of com: its end was Illegal
+  13  with --status of com: its end was Quota
+  14  with --status of com: its end was CountEnd
 
 The launcher has two more: 70 where this machine can't run the program, and 71
 where 'cpmhost --version --check' finds another program than the released one.

@@ -11,7 +11,7 @@ ghost use Rattle.cpm_command_line.specs.Refusals.{IsHelpAnswer, IsRefusalBy, IsR
 
 use crate::build::host_command;
 use crate::disk::disk_task;
-use crate::entries::{cpu_of, flag_of, steps_of, text_if_any, text_of, texts_if_any};
+use crate::entries::{count_if_any, cpu_of, flag_of, text_if_any, text_of, texts_if_any};
 use crate::fault::{UsageError, UsageRefusal, answer};
 use crate::options::options_fault;
 use crate::task::{ComTask, RunTask, Task};
@@ -36,7 +36,7 @@ fn com_task_with<'a>(
         file: text_of(matches, "file"),
         tail,
         cpu: cpu_of(matches),
-        steps: steps_of(matches),
+        steps: count_if_any(matches, "steps"),
         keys: text_if_any(matches, "keys"),
         drives,
         outs,
@@ -46,6 +46,10 @@ fn com_task_with<'a>(
         stops_idle: flag_of(matches, "stop-idle"),
         is_raw: flag_of(matches, "raw"),
         is_quiet: flag_of(matches, "quiet"),
+        is_partial: flag_of(matches, "partial"),
+        has_status: flag_of(matches, "status"),
+        replay: text_if_any(matches, "replay"),
+        pace: count_if_any(matches, "pace"),
     })
 }
 
@@ -110,6 +114,7 @@ fn run_task<'a>(alloc: Global, matches: &ArgMatches<'a>) -> Result<Task<'a>, All
         is_raw: flag_of(matches, "raw"),
         folders,
         has_outputs_here: flag_of(matches, "outputs-here"),
+        pace: count_if_any(matches, "pace"),
     }))
 }
 

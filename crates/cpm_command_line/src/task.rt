@@ -40,50 +40,70 @@ pub enum Task<'a> {
 }
 
 /// `com FILE [TAIL..] [--z80] [--steps N] [--keys SCRIPT] [--disk IMAGE].. [--out-disk IMAGE]..
-/// [--keyboard] [--record SCRIPT] [--progress] [--stop-idle] [--raw] [--quiet]`: run the program in FILE on
-/// that processor for at most `steps` steps, with the words of `tail` after its name, and with the keys of SCRIPT or,
-/// where it is live, of standard input. `drives` are the images of the drives from A on, and `outs` the
-/// files that these are written to; `record` is the script that its keys are written to, where it is live
-/// or has a script. With `has_progress` it is told how much of the steps is done. With `stops_idle` it
-/// ends where the program waits for a key and no key of the script will come. With `is_raw` the control
-/// bytes of the program go to a terminal as they are. With `is_quiet` the last line, which says how the
-/// program ended, is left out.
+/// [--keyboard] [--record SCRIPT] [--progress] [--stop-idle] [--raw] [--quiet] [--partial] [--status]
+/// [--replay RECORDING] [--pace N]`: run the program in FILE.
 #[derive(Debug, PartialEq, Eq, Drop)]
 pub struct ComTask<'a> {
+    /// The file that the program is in.
     pub file: &'a str,
+    /// The words after the program's name.
     pub tail: Vec<&'a str>,
+    /// The processor that it runs on.
     pub cpu: Cpu,
+    /// How many steps it makes at most, where that was given.
     pub steps: Option<u64>,
+    /// The file of a key script, whose keys are pressed. Not with `replay`.
     pub keys: Option<&'a str>,
+    /// The images of the drives from A on, of which there are four at most.
     pub drives: Vec<&'a str>,
+    /// The files that these drives are written to.
     pub outs: Vec<&'a str>,
+    /// The keys of standard input are taken as they are typed, after those of a script or a recording.
     pub is_live: bool,
+    /// The script that the keys are written to, where it is live, or has a script or a recording.
     pub record: Option<&'a str>,
+    /// It is told how much of the steps is done. Not where it is live.
     pub has_progress: bool,
+    /// It ends where the program waits for a key and no key will come.
     pub stops_idle: bool,
+    /// The control bytes of the program go to a terminal as they are.
     pub is_raw: bool,
+    /// The last line, which says how the program ended, is left out.
     pub is_quiet: bool,
+    /// The files of `outs` are written also where the program was cut off by its limit of steps. Only with `outs`.
+    pub is_partial: bool,
+    /// The exit status is that of the program's end.
+    pub has_status: bool,
+    /// The file of a recording, whose keys are pressed, without a limit of keys. Not with `keys`.
+    pub replay: Option<&'a str>,
+    /// How many thousands of steps pass in a second at most, from 1 on, where that was given.
+    pub pace: Option<u64>,
 }
 
 /// `run CONFIG [--keyboard NAME] [--record SCRIPT] [--progress] [--stop-idle] [--record-all FOLDER] [--raw]
-/// [--within FOLDER].. [--outputs-here]`: run the sessions of the configuration in CONFIG. `keyboard` is the session that gets the keys of standard
-/// input, and `record` the script that these are written to. With `has_progress` it is told how much of
-/// the steps is done. With `stops_idle` a session ends where it waits for a key and no key of its script
-/// will come. `scripts` is the folder that the keys of each session are written to, as a script NAME.keys.
-/// With `is_raw` the control bytes of a program go to a terminal as they are. `folders` are the folders
-/// that the files of the configuration may lie in, all where there is none. With `has_outputs_here` the
-/// names of outputs are plain names of files in the current folder.
+/// [--within FOLDER].. [--outputs-here] [--pace N]`: run the sessions of the configuration in CONFIG.
 #[derive(Debug, PartialEq, Eq, Drop)]
 pub struct RunTask<'a> {
+    /// The file of the configuration.
     pub config: &'a str,
+    /// The session that gets the keys of standard input.
     pub keyboard: Option<&'a str>,
+    /// The script that these keys are written to. Only with `keyboard`.
     pub record: Option<&'a str>,
+    /// It is told how much of the steps is done. Not with `keyboard`.
     pub has_progress: bool,
+    /// A session ends where it waits for a key and no key of its script will come.
     pub stops_idle: bool,
+    /// The folder that the keys of each session are written to, as a script NAME.keys.
     pub scripts: Option<&'a str>,
+    /// The control bytes of a program go to a terminal as they are.
     pub is_raw: bool,
+    /// The folders that the files of the configuration may lie in: all where there is none.
     pub folders: Vec<&'a str>,
+    /// The names of outputs are plain names of files in the current folder.
     pub has_outputs_here: bool,
+    /// How many thousands of steps pass in a second at most, from 1 on, where that was given.
+    pub pace: Option<u64>,
 }
 
 /// A command of `disk` with its words. The files are those of `user`, from 0 to 15.

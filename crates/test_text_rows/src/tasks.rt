@@ -56,6 +56,19 @@ fn add_flag(out: &mut String, name: &str, holds: bool) -> Result<(), RowFault> {
     Ok(())
 }
 
+/// Adds a number after what it is, where there is one.
+fn add_count(
+    alloc: Global,
+    out: &mut String,
+    name: &str,
+    count: Option<u64>,
+) -> Result<(), RowFault> {
+    if let Some(count) = count {
+        out.push_str(format!(in alloc; " {name} {count}")?.as_str())?;
+    }
+    Ok(())
+}
+
 /// Adds a user.
 fn add_user(alloc: Global, out: &mut String, user: u8) -> Result<(), RowFault> {
     out.push_str(format!(in alloc; " user {user}")?.as_str())?;
@@ -67,9 +80,7 @@ fn add_com(alloc: Global, out: &mut String, task: &ComTask<'_>) -> Result<(), Ro
     add_text(alloc, out, "com file", Some(task.file))?;
     add_texts(alloc, out, " tail", task.tail.as_slice())?;
     add_cpu(out, task.cpu)?;
-    if let Some(steps) = task.steps {
-        out.push_str(format!(in alloc; " steps {steps}")?.as_str())?;
-    }
+    add_count(alloc, out, "steps", task.steps)?;
     add_text(alloc, out, " keys", task.keys)?;
     add_texts(alloc, out, " drives", task.drives.as_slice())?;
     add_texts(alloc, out, " outs", task.outs.as_slice())?;
@@ -78,7 +89,11 @@ fn add_com(alloc: Global, out: &mut String, task: &ComTask<'_>) -> Result<(), Ro
     add_flag(out, " has_progress", task.has_progress)?;
     add_flag(out, " stops_idle", task.stops_idle)?;
     add_flag(out, " is_raw", task.is_raw)?;
-    add_flag(out, " is_quiet", task.is_quiet)
+    add_flag(out, " is_quiet", task.is_quiet)?;
+    add_flag(out, " is_partial", task.is_partial)?;
+    add_flag(out, " has_status", task.has_status)?;
+    add_text(alloc, out, " replay", task.replay)?;
+    add_count(alloc, out, "pace", task.pace)
 }
 
 /// Adds a configuration that is run.
@@ -91,7 +106,8 @@ fn add_run(alloc: Global, out: &mut String, task: &RunTask<'_>) -> Result<(), Ro
     add_text(alloc, out, " scripts", task.scripts)?;
     add_flag(out, " is_raw", task.is_raw)?;
     add_texts(alloc, out, " folders", task.folders.as_slice())?;
-    add_flag(out, " has_outputs_here", task.has_outputs_here)
+    add_flag(out, " has_outputs_here", task.has_outputs_here)?;
+    add_count(alloc, out, "pace", task.pace)
 }
 
 /// Adds a command of `disk`.
