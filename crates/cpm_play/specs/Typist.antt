@@ -18,10 +18,16 @@ pub record Hearing : Type 0 where
 abbrev pub hearing : ℕ → Heard → Hearing
 hearing count said = record { count = count; heard = said }
 
--- what is known of a typist: the bytes that are still to be read of it, and all that was heard of it
+-- What is known of a typist: whether it is patient, the bytes that are still to be read of it, and all that was heard of it. A patient one waits for a key where
+-- one is wanted, and gives none elsewhere. One that isn't answers at once, also that there is none so far.
 pub record TypingState : Type 0 where
+  pub is_patient : Bool
   pub unread : Option (List ℕ)
   pub heard : Option (List Hearing)
+
+-- nobody
+abbrev pub nobody : TypingState
+nobody = record { is_patient = true; unread = None; heard = None }
 
 -- ---- an answer
 

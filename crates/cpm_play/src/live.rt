@@ -74,10 +74,10 @@ pub struct TypedPlay {
 fn hear<T: Typist>(typist: &mut T, need: KeyNeed, count: u64) -> Result<Heard, LiveError>
     ensures heard { IfOk result (IsHeard count (T.typing typist.old) (T.typing typist.new)) }
     ensures fits { IfOk result (CanBeHeard need) }
-    ensures patient { T.patient typist.old ≡ true → IfOk result (IsHeardPatiently need) }
-    ensures nature { T.patient typist.new ≡ T.patient typist.old }
+    ensures patient { (T.typing typist.old).is_patient ≡ true → IfOk result (IsHeardPatiently need) }
+    ensures nature { (T.typing typist.new).is_patient ≡ (T.typing typist.old).is_patient }
     ensures none { OnErr result (HasHeardNothing (T.typing typist.old) (T.typing typist.new)) }
-    ensures early { T.patient typist.old ≡ true → OnErr result (need ≡ Wanted) }
+    ensures early { (T.typing typist.old).is_patient ≡ true → OnErr result (need ≡ Wanted) }
     ensures refused { IfErr result IsUnreadable }
 {
     typist.hear(need, count).map_err(LiveError::Unreadable)
@@ -241,14 +241,14 @@ pub fn play_live<T: Typist, W: Write, S: Write>(
     requires few { key_count cues.now ≤ most_keys }
     ensures within { IfOk result (λ play. play.live.steps ≤ steps) }
     ensures keys { IfOk result (λ play. AreGiven (length play.live.keys.items) play.live.steps play.live.keys.items) }
-    ensures played { IfOk result (λ play. IsTypedPlay (sitting (T.patient typist.old) system.now machine.old steps cues.entry.now)
+    ensures played { IfOk result (λ play. IsTypedPlay (sitting (T.typing typist.old).is_patient system.now machine.old steps cues.entry.now)
         (T.typing typist.old) (T.typing typist.new) play.live.keys.items play.live.steps play.end) }
     ensures text { IfOk result (λ play. Appends (W.contents out.old) (W.contents out.new)
         (alone_by system.now play.live.keys.items play.live.steps machine.old).session.console.screen) }
     ensures ending { IfOk result (λ play. EndsAs (alone_by system.now play.live.keys.items play.live.steps machine.old) machine.new) }
     ensures record { IfOk result (λ play. Appends (S.contents record.old) (S.contents record.new) (recorded play.live.keys.items)) }
     ensures waits { IfOk result (λ play. (look_of machine.new).waiting ≡ waits_at system.now machine.old play.live.keys.items play.live.steps) }
-    ensures refused { IfErr result (IsTypingCut (sitting (T.patient typist.old) system.now machine.old steps cues.entry.now) machine.new
+    ensures refused { IfErr result (IsTypingCut (sitting (T.typing typist.old).is_patient system.now machine.old steps cues.entry.now) machine.new
         (W.contents out.old) (W.contents out.new) (S.contents record.old) (S.contents record.new) (T.typing typist.old) (T.typing typist.new)) }
 {
     let mut live = play_script(alloc, system, machine, steps, cues, out, record)?;
@@ -273,7 +273,8 @@ pub fn play_live<T: Typist, W: Write, S: Write>(
                 asks -= 1;
             }
             Heard::Nothing => {
-                let executed = turn(system, machine, steps - live.steps, is_patient, &mut watch);
+                let most = typist.most_steps().min(steps - live.steps);
+                let executed = turn(system, machine, most, is_patient, &mut watch);
                 if executed == 0 {
                     let end = PlayEnd::Ended;
                     return Ok(TypedPlay { live, end });

@@ -1,6 +1,6 @@
 //! Who types at a machine that is played live, and what is heard of it.
 
-ghost use Rattle.std.specs.Prelude.{◌≡◌, Bool, true, IfOk, None, OnErr};
+ghost use Rattle.std.specs.Prelude.{◌≡◌, ◌<◌, true, IfOk, None, OnErr};
 ghost use Rattle.cpm_play.specs.Typist.{CanBeHeard, HasHeardNothing, IsHeard, IsHeardPatiently, TypingState, is_wanted};
 ghost use Rattle.cpm_play.specs.declared.typist.KeyNeed.TheVariants.{Wanted};
 
@@ -55,24 +55,25 @@ pub enum Heard {
 
 /// Who types at a machine. It is asked after each turn of the machine whether there is a key.
 pub trait Typist {
-    // What is still to be read of what was typed, and what was heard so far, as far as that is known.
+    // Whether it is patient, what is still to be read of what was typed, and what was heard so far, as far as that is known.
     ghost typing: { Self → TypingState };
 
-    // Whether it waits for a key where one is wanted, and gives none elsewhere. One that doesn't answers at once, also that there is none so far.
-    ghost patient: { Self → Bool };
-
-    /// Whether it is patient.
+    /// Whether it waits for a key where one is wanted, and gives none elsewhere. One that doesn't answers at once, also that there is none so far.
     fn is_patient(&self) -> bool
-        ensures { result ≡ patient self.now };
+        ensures { result ≡ (typing self.now).is_patient };
+
+    /// How many steps a turn has at most, after which it is asked again.
+    fn most_steps(&self) -> u64
+        ensures { 0 < result };
 
     /// What it types where the machine can do so much with a key and has executed so many steps. A byte of 80h or more is no key and is passed over.
     fn hear(&mut self, need: KeyNeed, count: u64) -> io::Result<Heard>
         ensures heard { IfOk result (IsHeard count (typing self.old) (typing self.new)) }
         ensures fits { IfOk result (CanBeHeard need) }
-        ensures patient { patient self.old ≡ true → IfOk result (IsHeardPatiently need) }
-        ensures nature { patient self.new ≡ patient self.old }
+        ensures patient { (typing self.old).is_patient ≡ true → IfOk result (IsHeardPatiently need) }
+        ensures nature { (typing self.new).is_patient ≡ (typing self.old).is_patient }
         ensures none { OnErr result (HasHeardNothing (typing self.old) (typing self.new)) }
-        ensures early { patient self.old ≡ true → OnErr result (need ≡ Wanted) };
+        ensures early { (typing self.old).is_patient ≡ true → OnErr result (need ≡ Wanted) };
 }
 
 /// Keys that are read where a machine wants one, by a read that waits for it. So by the same bytes they come at the same counts each time.
@@ -91,12 +92,14 @@ impl<I: Read> KeyReader<I> {
 }
 
 impl<I: Read> Typist for KeyReader<I> {
-    ghost typing = { λ reader. record { unread = I.remaining reader.input; heard = None } };
-
-    ghost patient = { λ _. true };
+    ghost typing = { λ reader. record { is_patient = true; unread = I.remaining reader.input; heard = None } };
 
     fn is_patient(&self) -> bool {
         true
+    }
+
+    fn most_steps(&self) -> u64 {
+        u64::MAX
     }
 
     fn hear(&mut self, need: KeyNeed, _count: u64) -> io::Result<Heard> {

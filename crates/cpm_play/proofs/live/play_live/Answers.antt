@@ -13,7 +13,7 @@ use Rattle.cpm_play.proofs.live.play_live.Goals as goal
 
 pub loop-live-init : goal.loop-live-init
 loop-live-init g c = (
-  live-start (sitting (g.T.Typist.patient c.args.typist.now) c.args.system.now c.args.machine.now c.args.steps c.args.cues.now) _ c.play_script.new.machine (g.W.Write.contents c.args.out.now) (g.W.Write.contents c.play_script.new.out)
+  live-start (sitting (g.T.Typist.typing c.args.typist.now).is_patient c.args.system.now c.args.machine.now c.args.steps c.args.cues.now) _ c.play_script.new.machine (g.W.Write.contents c.args.out.now) (g.W.Write.contents c.play_script.new.out)
       (g.S.Write.contents c.args.record.now) (g.S.Write.contents c.play_script.new.record) (g.T.Typist.typing c.args.typist.now) c.in_ok-live.live.keys.items c.in_ok-live.live.steps c.new-watch.result
       c.in_ok-live.ensures.going c.in_ok-live.ensures.keys c.in_ok-live.ensures.none c.new-watch.ensures,
   refl,
@@ -104,7 +104,7 @@ loop-live-preserved g c =
     let some : 0 < c.turn-executed.result = let more = c.if-executed-eq0.false in omega (arith, more) in
     let busy = busy-here live.going (live-watched live) c.look.result c.look.ensures c.need-need.result c.need-need.ensures (not-wanted c.need-need.result (sym c.is_wanted.ensures ∙ c.if-is_wanted.false)) in (
       live-turn live (g.T.Typist.typing c.hear.new.typist) c.turn-executed.result c.turn-executed.new.machine c.show.new.machine (g.W.Write.contents c.show.new.out) c.turn-executed.new.watch is
-          some c.turn-executed.ensures.within c.turn-executed.ensures.few busy c.turn-executed.ensures.state c.turn-executed.ensures.watched c.in_ok-show-in-Nothing-2.ensures.state c.in_ok-show-in-Nothing-2.ensures.text,
+          some (let least = c.min-most.ensures in let few = c.turn-executed.ensures.within in omega arith) c.turn-executed.ensures.few busy c.turn-executed.ensures.state c.turn-executed.ensures.watched c.in_ok-show-in-Nothing-2.ensures.state c.in_ok-show-in-Nothing-2.ensures.text,
       c.hear.ensures.nature ∙ c.loop-live.invariant.1,
     )
 
@@ -114,7 +114,7 @@ returns-in_err-show-in-Nothing-2-clause-refused g c =
     let live = c.loop-live.invariant.0 in
     let is : IsHeard c.loop-live.live.steps (g.T.Typist.typing c.loop-live.typist) (g.T.Typist.typing c.hear.new.typist) heard.Nothing = rw c.in-Nothing-2.is at c.in_ok-end.ensures.heard in
     rw (p.1, p.2) (inr (live-unshown live (g.T.Typist.typing c.hear.new.typist) c.turn-executed.result c.turn-executed.new.machine c.show.new.machine (g.W.Write.contents c.show.new.out) c.in_err-show-in-Nothing-2.field-0.0 is
-    c.turn-executed.ensures.within c.turn-executed.ensures.state c.in_err-show-in-Nothing-2.ensures.refused))
+    (let least = c.min-most.ensures in let few = c.turn-executed.ensures.within in omega arith) c.turn-executed.ensures.state c.in_err-show-in-Nothing-2.ensures.refused))
 
 pub returns-clause-within : goal.returns-clause-within
 returns-clause-within g c = c.loop-live.invariant.0.going.within

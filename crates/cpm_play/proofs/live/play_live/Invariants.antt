@@ -5,9 +5,9 @@ use Rattle.cpm_play.proofs.live.play_live.Given as goal
 
 abbrev pub invariant-loop-live : goal.invariant-loop-live
 invariant-loop-live g l =
-    IsLive (sitting (g.T.Typist.patient l.fn.typist) l.system l.fn.machine l.fn.steps l.cues) l.machine (g.W.Write.contents l.fn.out) (g.W.Write.contents l.out)
+    IsLive (sitting (g.T.Typist.typing l.fn.typist).is_patient l.system l.fn.machine l.fn.steps l.cues) l.machine (g.W.Write.contents l.fn.out) (g.W.Write.contents l.out)
     (g.S.Write.contents l.fn.record) (g.S.Write.contents l.record) (g.T.Typist.typing l.fn.typist) (g.T.Typist.typing l.typist) l.live.keys.items l.live.steps l.watch
-    × (g.T.Typist.patient l.typist ≡ g.T.Typist.patient l.fn.typist)
+    × ((g.T.Typist.typing l.typist).is_patient ≡ (g.T.Typist.typing l.fn.typist).is_patient)
 
 -- a key is given only where none is pending, and then steps are executed before the next
 abbrev pub decreases-loop-live : goal.decreases-loop-live
