@@ -9,7 +9,11 @@ use Rattle.cpm_script.specs.declared.script.Key.{Key}
 use Rattle.cpm_machine.specs.MachineState.{MachineState}
 use Rattle.cpm_play.specs.Cued.{HasEndedCued, IsCued, runs_at}
 use Rattle.cpm_play.specs.Live.{AreBy}
-use Rattle.cpm_play.specs.Playing.{EndsAs, IsInOrder, alone_by}
+use Rattle.cpm_play.specs.Playing.{EndsAs, HaveRoom, IsFresh, IsInOrder, alone_by}
+
+-- no more keys than may be pending find room where they come, if none is pending at the start: those that are pending then are at most those given
+abbrev pub FewKeysHaveRoom : Type 0
+FewKeysHaveRoom = (system : Disk) (start : MachineState) (keys : List Key) → IsFresh start → length keys ≤ most_keys → HaveRoom system start keys
 
 -- the keys of a script are in order and not too many, so that they can be played
 abbrev pub ScriptsInOrder : Type 0

@@ -1,6 +1,11 @@
 //! Laws of key scripts, as contracts.
 
-ghost use Rattle.cpm_play.specs.Laws.{PlainCuesDoAsTheirKeys, PlainCuesGiveTheirKeys, ScriptsInOrder};
+ghost use Rattle.cpm_play.specs.Laws.{FewKeysHaveRoom, PlainCuesDoAsTheirKeys, PlainCuesGiveTheirKeys, ScriptsInOrder};
+
+/// Keys of which there are at most 4,096, as those of a script, find room where they come: no more than those given can be pending.
+pub fn few_keys_have_room()
+    ensures { FewKeysHaveRoom }
+{}
 
 /// The keys of a script are in order, and at most 4,096, so that they can be played.
 pub fn scripts_in_order()
