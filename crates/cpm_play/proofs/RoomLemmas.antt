@@ -1,17 +1,24 @@
 -- Keys that find room where they come.
-use Rattle.std.proofs.Common.{◌≡◌, ℕ, zero, suc, ◌+◌, ◌<◌, ◌≤◌, ◌==◌, Bool, true, false, Some, List, [], ◌∷◌, ◌++◌, length, take, refl, sym, ap, ap₂, ◌∙◌, arith, append-nil, if◌then◌else◌, slice_get, length-append}
+use Rattle.std.proofs.Common.{◌≡◌, ℕ, zero, suc, ◌+◌, ◌<◌, ◌≤◌, ◌==◌, ◌&&◌, max, nat_lt, not, is_some, Bool, true, false, inl, inr, Some, List, [], ◌∷◌, ◌++◌, length, take, refl, sym, ap, ap₂, ◌∙◌, subst, arith, append-nil, if◌then◌else◌, slice_get, length-append}
 use Rattle.std.proofs.lemmas.Bool.Decides.{nat_tests}
 use Rattle.std.proofs.lemmas.List.{append_assoc, length_push}
 use Rattle.std.proofs.lemmas.Option.{none-some, same_Some}
 use Rattle.cpm_geom.specs.Disk.{Disk}
+use Rattle.cpm_bdos.specs.Keys.{first_key}
+use Rattle.cpm_bdos.specs.Waiting.{needs_key}
+use Rattle.cpm_script.specs.declared.cue.Cue.{Cue}
+use Rattle.cpm_script.specs.declared.cue.Cue.TheVariants.{Key as Timed, Wait, Press as Pressing}
 use Rattle.cpm_script.specs.declared.script.Key.{Key}
 use Rattle.cpm_machine.specs.Alone.{Press, due, alone}
 use Rattle.cpm_machine.specs.MachineState.{MachineState}
-use Rattle.cpm_machine.specs.Serve.{takes_key}
-use Rattle.cpm_machine.specs.Step.{step}
+use Rattle.cpm_machine.specs.Serve.{look_of, takes_key}
+use Rattle.cpm_machine.specs.declared.reply.Look.{Look}
+use Rattle.cpm_machine.specs.Step.{after, is_running, step}
 use Rattle.cpm_machine.proofs.KeyLaws.{keys_leave-step}
+use Rattle.cpm_play.proofs.AloneLemmas.{after-pending}
+use Rattle.cpm_play.specs.Cued.{IsCuedFrom}
 use Rattle.cpm_play.specs.Laws.{FewKeysHaveRoom}
-use Rattle.cpm_play.specs.Playing.{HaveRoomAfter, IsFresh, alone_by, presses_of}
+use Rattle.cpm_play.specs.Playing.{HaveRoom, HaveRoomAfter, IsFresh, alone_by, presses_of}
 
 -- ---- how many keys are pending
 
@@ -80,6 +87,35 @@ presses-long : (keys : List Key) → length (presses_of keys) ≡ length keys
 presses-long [] = refl
 presses-long (k ∷ keys) = ap suc (presses-long keys)
 
+-- ---- as many as may be
+
+pub look-takes : (s : MachineState) (look : Look) → look ≡ look_of s → nat_lt look.keys 4096 ≡ takes_key s
+unfolding look_of
+look-takes s look is = ap (λ (l : Look). nat_lt l.keys 4096) is
+
+-- where none finds room, none did some steps before, if no key came in between
+pub full-before : (system : Disk) (n : ℕ) (s : MachineState) → takes_key (after system n s) ≡ false → takes_key s ≡ false
+full-before system n s full =
+    let left_it = after-pending system n s in
+    let many : 4096 ≤ length (after system n s).session.console.keys = grind (arith, nat_tests) in
+    let more : 4096 ≤ length s.session.console.keys = omega arith in
+    grind (arith, nat_tests)
+
+-- it waits only where none is pending
+pub full-waits : (s : MachineState) → takes_key s ≡ false → (look_of s).waiting ≡ false
+unfolding look_of
+full-waits s full = go (is_running s.ended) (needs_key s.session.mode s.session s.memory) (is_some (first_key s.session)) (some s.session.console.keys full)
+  where
+    some : (keys : List ℕ) → nat_lt (length keys) 4096 ≡ false → is_some (slice_get keys 0) ≡ true
+    some [] none = absurd (let no : ⊥ = cc in no)
+    some (k ∷ keys) none = refl
+
+    go : (a b c : Bool) → c ≡ true → (a && (b && not c)) ≡ false
+    go false b c is = refl
+    go true false c is = refl
+    go true true true is = refl
+    go true true false is = absurd (let no : ⊥ = cc in no)
+
 -- ---- few keys
 
 few-after : (system : Disk) (start : MachineState) (given keys : List Key) → IsFresh start → length given + length keys ≤ 4096 → HaveRoomAfter system start given keys
@@ -95,6 +131,34 @@ few-after system start given (k ∷ keys) fresh few =
 
 pub few-room : FewKeysHaveRoom
 few-room system start keys fresh few = let within : length keys ≤ 4096 = few in few-after system start [] keys fresh (omega arith)
+
+-- ---- the keys of a script that may wait
+
+-- one key more
+room-more : (system : Disk) (start : MachineState) (given keys : List Key) (key : Key) → HaveRoomAfter system start given keys →
+    takes_key (alone_by system (given ++ keys) key.count start) ≡ true → HaveRoomAfter system start given (keys ++ key ∷ [])
+room-more system start given [] key room takes = (ap (λ ks. takes_key (alone_by system ks key.count start)) (sym (append-nil given)) ∙ takes, tt)
+room-more system start given (k ∷ keys) key room takes = (
+  room.0,
+  room-more system start (given ++ k ∷ []) keys key room.1
+      (ap (λ ks. takes_key (alone_by system ks key.count start)) (append_assoc given (k ∷ []) keys) ∙ takes),
+)
+
+-- each came where there was room
+pub cued-room : (system : Disk) (start : MachineState) (least most waits_from : ℕ) (given : List Key) (from mark : ℕ) (cues : List Cue) (keys : List Key) →
+    HaveRoom system start given → IsCuedFrom system start least most waits_from given from mark cues keys → HaveRoom system start keys
+cued-room system start least most waits_from given from mark [] keys room is = subst (HaveRoom system start) (sym is) room
+cued-room system start least most waits_from given from mark (Timed k ∷ cues) keys room (inl come) =
+    let key : Key = record { count = max from k.count; byte = k.byte } in
+    cued-room system start least most waits_from (given ++ key ∷ []) key.count _ cues keys (room-more system start [] given key room come.0.2) come.1
+cued-room system start least most waits_from given from mark (Timed k ∷ cues) keys room (inr never) = subst (HaveRoom system start) (sym never.1) room
+cued-room system start least most waits_from given from mark (Pressing b ∷ cues) keys room (inl come) =
+    let key : Key = record { count = from; byte = b } in
+    cued-room system start least most waits_from (given ++ key ∷ []) from _ cues keys (room-more system start [] given key room come.0.2) come.1
+cued-room system start least most waits_from given from mark (Pressing b ∷ cues) keys room (inr never) = subst (HaveRoom system start) (sym never.1) room
+cued-room system start least most waits_from given from mark (Wait text ∷ cues) keys room (inl met) =
+    cued-room system start least most waits_from given met.0 mark cues keys room met.2
+cued-room system start least most waits_from given from mark (Wait text ∷ cues) keys room (inr never) = subst (HaveRoom system start) (sym never.1) room
 
 -- ---- one of the keys
 
