@@ -1,28 +1,25 @@
 -- A session that is played by a script that may wait: one more cue, and where it ends.
-use Rattle.std.proofs.Common.{◌≡◌, ℕ, ◌+◌, ◌-◌, ◌<◌, ◌≤◌, max, min, Bool, true, false, true≢false, ◌⊎◌, inl, inr, ⊎_elim, Option, List, [], ◌∷◌, ◌++◌, length, refl, sym, ap, ◌∙◌, subst, arith}
+use Rattle.std.proofs.Common.{◌≡◌, ℕ, ◌+◌, ◌-◌, ◌<◌, ◌≤◌, max, min, Bool, true, false, ◌⊎◌, inl, inr, ⊎_elim, Option, List, [], ◌∷◌, ◌++◌, refl, sym, ap, ◌∙◌, subst, arith}
 use Rattle.std.proofs.lemmas.Bool.{cases_lt}
-use Rattle.std.proofs.lemmas.Bool.Decides.{nat_tests}
-use Rattle.std.specs.Io.KnownBytes.{Appends}
 use Rattle.cpm_geom.specs.Disk.{Disk}
-use Rattle.cpm_script.specs.Recording.{key_line}
 use Rattle.cpm_script.specs.declared.cue.Cue.{Cue}
 use Rattle.cpm_script.specs.declared.cue.Cue.TheVariants.{Key as Timed, Wait, Press}
 use Rattle.cpm_script.specs.declared.script.Key.{Key}
 use Rattle.cpm_machine.specs.Calls.{state_behind}
 use Rattle.cpm_machine.specs.MachineState.{MachineState}
-use Rattle.cpm_machine.specs.Serve.{keyed, look_of, takes_key}
+use Rattle.cpm_machine.specs.Serve.{look_of, takes_key}
 use Rattle.cpm_machine.specs.declared.reply.End.{End}
 use Rattle.cpm_machine.specs.declared.reply.End.TheVariants.{Running, Halted, Illegal, Quota, CountEnd, Exited}
 use Rattle.cpm_machine.specs.declared.reply.Look.{Look}
 use Rattle.cpm_machine.specs.Step.{after, is_running}
 use Rattle.cpm_machine.proofs.AloneLaws.{after-behind}
 use Rattle.cpm_machine.proofs.PressLaws.{alone-add}
-use Rattle.cpm_play.specs.Cued.{HasEndedCued, HasIdled, HasMissed, HasNoWait, HasPressed, HasExecuted, HasStopped, IsCued, IsCuedFrom, IsCuedUpTo, IsCutOff, IsPressCut, IsUntaken, StaysCued, key_count, last_count, runs_at, screen_at, waits_at}
+use Rattle.cpm_play.specs.Cued.{HasEndedCued, HasIdled, HasNoWait, HasExecuted, IsCued, IsCuedFrom, IsCuedUpTo, IsCutOff, IsPressCut, IsUntaken, StaysCued, key_count, last_count, runs_at, screen_at, waits_at}
 use Rattle.cpm_play.specs.Live.{IsGoing}
 use Rattle.cpm_play.specs.declared.live.LiveError.{LiveError}
 use Rattle.cpm_play.specs.declared.live.LiveError.TheVariants.{Unreadable, Unwritable, Unrecorded, OutOfMemory}
 use Rattle.cpm_play.specs.Playing.{presses_of, alone_by}
-use Rattle.cpm_play.proofs.AloneLemmas.{after-ended, after-pending}
+use Rattle.cpm_play.proofs.AloneLemmas.{after-ended}
 use Rattle.cpm_play.proofs.GoingLemmas.{going-come, going-screen, going-text, going-turn, none-after}
 use Rattle.cpm_play.proofs.RunLemmas.{waits-bare, waits-behind}
 
@@ -33,7 +30,7 @@ pub last-more : (n : ℕ) (keys : List Key) (k : Key) → last_count n (keys ++ 
 last-more n [] k = refl
 last-more n (x ∷ xs) k = last-more x.count xs k
 
--- ---- a key and the steps up to it
+-- ---- where it has ended
 
 pub look-ended : (s : MachineState) (look : Look) → look ≡ look_of s → look.ended ≡ s.ended
 unfolding look_of
@@ -46,39 +43,6 @@ not-running Illegal other = refl
 not-running Quota other = refl
 not-running CountEnd other = refl
 not-running Exited other = refl
-
-module _ (system : Disk) (k : ℕ) (old now : MachineState) (before written : Option (List ℕ)) (run : HasExecuted system k old now before written) where
-  pub takes-later : takes_key old ≡ true → takes_key now ≡ true
-  takes-later takes =
-      let left_it = after-pending system k old in
-      let same : length now.session.console.keys ≡ length (after system k old).session.console.keys = ap (λ (s : MachineState). length s.session.console.keys) run.state in
-      let room : length old.session.console.keys < 4096 = grind (arith, nat_tests) in
-      let still : length now.session.console.keys < 4096 = omega arith in
-      grind (arith, nat_tests)
-
-  pub reached : (key : Key) (done : ℕ) → done ≤ key.count → HasStopped false system (key.count - done) k old now → is_running now.ended ≡ true → done + k ≡ key.count
-  reached key done low (inl all) runs = omega arith
-  reached key done low (inr ended) runs = absurd (true≢false (sym runs ∙ ended))
-
-  pub missed-ended : (key : Key) (steps done done_now : ℕ) → done ≤ key.count → key.count < steps → k ≤ key.count - done → done_now ≡ done + k → is_running now.ended ≡ false →
-      HasMissed system key steps done done_now old now before written
-  missed-ended key steps done done_now low within fits at ended =
-      let count : k ≡ done_now - done = omega arith in
-      let P : ℕ → Type 0 = λ n. HasExecuted system n old now before written in
-      record { low = omega arith; run = subst P count run; why = inr (within, omega arith, ended) }
-
-  pub pressed-there : (key : Key) (done : ℕ) (next : MachineState) (unrecorded record_now : Option (List ℕ)) → done ≤ key.count → done + k ≡ key.count → is_running now.ended ≡ true → next ≡ keyed key.byte now →
-      Appends unrecorded record_now (key_line (record { count = done + k; byte = key.byte })) → HasPressed system key (key.count - done) old next before written unrecorded record_now
-  pressed-there key done next unrecorded record_now low there runs is notes =
-      let count : k ≡ key.count - done = omega arith in
-      let P : ℕ → Type 0 = λ n. HasPressed system key n old next before written unrecorded record_now in
-      let Q : ℕ → Type 0 = λ n. Appends unrecorded record_now (key_line (record { count = n; byte = key.byte })) in
-      subst P count (record {
-        runs = sym (ap (λ (s : MachineState). is_running s.ended) run.state) ∙ runs;
-        state = is ∙ ap (keyed key.byte) run.state;
-        text = run.text;
-        noted = subst Q there notes;
-      })
 
 -- ---- the machine run alone, from where the session is
 
@@ -94,6 +58,9 @@ module _ {system : Disk} {steps most : ℕ} {start now : MachineState} {before w
 
   pub going-runs : (i : ℕ) → runs_at system start keys (done + i) ≡ is_running (after system i now).ended
   going-runs i = ap (λ (s : MachineState). is_running s.ended) (going-state i)
+
+  pub going-takes : (i : ℕ) → takes_key (alone_by system keys (done + i) start) ≡ takes_key (after system i now)
+  going-takes i = ap takes_key (going-state i)
 
   pub going-shows : (i : ℕ) → screen_at system start keys (done + i) ≡ screen_at system start keys done ++ (after system i now).session.console.screen
   going-shows i =
@@ -206,7 +173,7 @@ module _ {system : Disk} {steps : ℕ} (waits_from : ℕ) (cues : List Cue) {sta
   pub going-press-cut : (key : Key) (next : MachineState) (written_then record_then : Option (List ℕ)) (e : LiveError) → done ≤ key.count → key.count < steps →
       IsPressCut system (key.count - done) now next written written_then record_now record_then e →
       ((until : ℕ) → done ≤ until → until ≤ key.count → IsCuedUpTo system start steps until waits_from cues keys) →
-      (runs_at system start keys key.count ≡ true → IsCuedUpTo system start steps key.count waits_from cues (keys ++ key ∷ [])) →
+      (runs_at system start keys key.count ≡ true → takes_key (alone_by system keys key.count start) ≡ true → IsCuedUpTo system start steps key.count waits_from cues (keys ++ key ∷ [])) →
       IsCutOff system steps waits_from cues start next before written_then unrecorded record_then e
   unfolding going-come
   going-press-cut key next written_then record_then (Unreadable e) low early cut cued comes = cut
@@ -215,6 +182,8 @@ module _ {system : Disk} {steps : ℕ} (waits_from : ℕ) (cues : List Cue) {sta
       let there : done + k ≡ key.count = omega arith in
       let runs : runs_at system start keys key.count ≡ true =
       subst (λ n. runs_at system start keys n ≡ true) there (going-runs going k ∙ sym (ap (λ (s : MachineState). is_running s.ended) cut.0.state) ∙ cut.1) in
+      let takes : takes_key (alone_by system keys key.count start) ≡ true =
+      subst (λ n. takes_key (alone_by system keys n start) ≡ true) there (going-takes going k ∙ sym (ap takes_key cut.0.state) ∙ cut.2) in
       let P : ℕ → Type 0 = λ n. IsGoing system steps (key_count cues) start next before written_then unrecorded record_now keys n in
       let went : IsGoing system steps (key_count cues) start next before written_then unrecorded record_now keys key.count =
       subst P there (going-run going k next written_then (omega arith) cut.0) in (
@@ -225,7 +194,7 @@ module _ {system : Disk} {steps : ℕ} (waits_from : ℕ) (cues : List Cue) {sta
             cued = cued key.count low (omega arith);
           };
           key = key;
-          comes = comes runs;
+          comes = comes runs takes;
         },
       )
   going-press-cut key next written_then record_then (Unwritable e) low early cut cued comes =

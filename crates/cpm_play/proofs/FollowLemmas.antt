@@ -16,12 +16,13 @@ use Rattle.cpm_machine.proofs.GrantLaws.{after-add}
 use Rattle.cpm_machine.proofs.PressLaws.{alone-pressed}
 use Rattle.cpm_play.specs.Cued.{AreAscii, Comes, HasIdled, HasMissed, HasNoWait, HasPressed, HasShown, IsBusyFrom, IsCuedFrom, IsCuedUpTo, IsCueMet, StaysCued, key_count, last_count, looks_back, runs_at, screen_at, waits_at}
 use Rattle.cpm_play.specs.Live.{IsGoing}
-use Rattle.cpm_play.specs.Playing.{presses_of, IsFresh}
+use Rattle.cpm_play.specs.Playing.{presses_of, alone_by, IsFresh}
 use Rattle.cpm_play.specs.Shown.{HasGrown, IsAwaited, IsKeptOrFound, StandsFor}
 use Rattle.cpm_play.specs.declared.shown.Shown.{Shown}
-use Rattle.cpm_play.proofs.AloneLemmas.{after-ended, after-pending, presses-more}
-use Rattle.cpm_play.proofs.CuedLemmas.{cued-stops, going-run, going-runs, going-waits, idle-busy, idle-going, idle-none, idle-shows, idle-waits, last-more}
+use Rattle.cpm_play.proofs.AloneLemmas.{after-ended, presses-more}
+use Rattle.cpm_play.proofs.CuedLemmas.{cued-stops, going-run, going-runs, going-takes, going-waits, idle-busy, idle-going, idle-none, idle-shows, idle-waits, last-more}
 use Rattle.cpm_play.proofs.GoingLemmas.{going-key, going-start}
+use Rattle.cpm_play.proofs.RoomLemmas.{full-before, full-waits}
 use Rattle.cpm_play.proofs.RunLemmas.{bare, ended-waits}
 use Rattle.cpm_play.proofs.ShownLemmas.{held-shown, shown-held}
 
@@ -72,7 +73,6 @@ pub record IsFollowing (system : Disk) (start : MachineState) (steps waits_from 
   pub busy : HasNoWait system start keys (max waits_from (last_count 0 keys)) done
   pub ascii : AreAscii rest
   pub room : length keys + key_count rest ≤ most
-  pub pending : length now.session.console.keys ≤ length keys
 
 pub follow-start : (system : Disk) (start : MachineState) (steps waits_from : ℕ) (cues : List Cue) (written record_now : Option (List ℕ)) (keys : List Key) (shown : Shown) → IsFresh start → AreAscii cues → keys ≡ [] → StandsFor shown [] → shown.cues.now ≡ cues →
     IsFollowing system start steps waits_from (key_count cues) cues start written written record_now record_now keys 0 cues shown
@@ -87,7 +87,6 @@ follow-start system start steps waits_from cues written record_now keys shown fr
       busy = λ i low high. absurd (omega arith);
       ascii = ascii;
       room = omega arith;
-      pending = let bare : length start.session.console.keys ≡ 0 = ap length fresh.keys in omega arith;
     })
 
 -- this cue is a key at this count, where the one before it counts from another on
@@ -138,24 +137,18 @@ module _ {system : Disk} {start : MachineState} {steps waits_from most : ℕ} {c
 
   module _ {rest : List Cue} (following : IsFollowing system start steps waits_from most cues now before written unrecorded record_now keys done rest shown)
       {key : Key} {others : List Cue} (cue : IsKeyCue system start steps waits_from most cues keys done key others) where
-    pub takes-cue : most ≤ 4096 → takes_key now ≡ true
-    takes-cue few =
-        let pending = following.pending in
-        let count = cue.room in
-        let room : length now.session.console.keys < 4096 = omega arith in
-        grind (arith, nat_tests)
-
     -- one that has not come so far
     pub key-cued : key.count < steps → (until : ℕ) → done ≤ until → until ≤ key.count → IsCuedUpTo system start steps until waits_from cues keys
     key-cued within until past high = cue.cued until past (omega arith) keys (inr (λ comes. let less = comes.0 in omega arith, refl))
 
     -- and one that comes there, if no other does
-    pub key-comes : key.count < steps → runs_at system start keys key.count ≡ true → IsCuedUpTo system start steps key.count waits_from cues (keys ++ key ∷ [])
-    key-comes within runs =
+    pub key-comes : key.count < steps → runs_at system start keys key.count ≡ true → takes_key (alone_by system keys key.count start) ≡ true →
+        IsCuedUpTo system start steps key.count waits_from cues (keys ++ key ∷ [])
+    key-comes within runs takes =
         let more = keys ++ key ∷ [] in
         let mark = length (screen_at system start keys key.count) in
         cue.cued key.count cue.later (omega arith) more
-        (inl ((omega arith, runs), cued-stops system start key.count (min steps (key.count + 1)) waits_from more key.count mark others (omega arith)))
+        (inl ((omega arith, runs, takes), cued-stops system start key.count (min steps (key.count + 1)) waits_from more key.count mark others (omega arith)))
 
     -- a key that comes
     pub follow-pressed : (next : MachineState) (written_then record_then : Option (List ℕ)) (more : List Key) (count : ℕ) (left : Shown) → key.count < steps → steps < 2 ^ 64 → count ≡ key.count →
@@ -175,6 +168,8 @@ module _ {system : Disk} {start : MachineState} {steps waits_from most : ℕ} {c
         let mark : ℕ = length (screen_at system start keys key.count) in
         let marks : length (screen_at system start more key.count) ≡ mark = ap length same in
         let runs : runs_at system start keys key.count ≡ true = subst (λ n. runs_at system start keys n ≡ true) there (going-runs going k ∙ pressed.runs) in
+        let takes : takes_key (alone_by system keys key.count start) ≡ true =
+        subst (λ n. takes_key (alone_by system keys n start) ≡ true) there (going-takes going k ∙ pressed.room) in
         let longer : length more ≡ length keys + 1 = ap length is ∙ length_push keys key in
         let Q : ℕ → Type 0 = λ n. IsFollowing system start steps waits_from most cues next before written_then unrecorded record_then more n others left in
         subst Q (sym at) (record {
@@ -182,41 +177,48 @@ module _ {system : Disk} {start : MachineState} {steps waits_from most : ℕ} {c
           mark = mark;
           marked = omega arith;
           cued = λ until past high ks h.
-              cue.cued until (omega arith) high ks (inl ((omega arith, runs), subst (λ gs. IsCuedFrom system start until (min steps (until + 1)) waits_from gs key.count mark others ks) is h));
+              cue.cued until (omega arith) high ks (inl ((omega arith, runs, takes), subst (λ gs. IsCuedFrom system start until (min steps (until + 1)) waits_from gs key.count mark others ks) is h));
           kept = λ looks. (subst (StandsFor left) (sym (drop_all mark (screen_at system start more key.count) (omega arith))) nothing, λ text awaited. subst (IsAwaited text) (sym awaits) awaited);
           busy = λ i from until. let last = ap (last_count 0) is ∙ last-more 0 keys key in absurd (omega arith);
           ascii = cue.others_ascii;
           room = omega arith;
-          pending =
-              let before_it = following.pending in
-              let left_it = after-pending system k now in
-              let one : length next.session.console.keys ≡ length (after system k now).session.console.keys + 1 =
-              ap (λ (s : MachineState). length s.session.console.keys) pressed.state ∙ length_push (after system k now).session.console.keys key.byte in
-              omega arith;
         })
 
     -- a key that does not
     module _ {next : MachineState} {written_then record_then : Option (List ℕ)} {more : List Key} {done_now : ℕ} (missed : HasMissed system key steps done done_now now next written written_then)
         (still : (more ≡ keys) × (record_then ≡ record_now)) where
-      never : Comes system start steps keys key.count → ⊥
-      never comes = ⊎_elim (λ past. let far = past.0 in let near = comes.0 in omega arith)
-          (λ ended.
+      ended-never : done_now ≤ key.count → is_running next.ended ≡ false → Comes system start steps keys key.count → ⊥
+      ended-never high ended comes =
           let low = missed.low in
-          let high = ended.1 in
           let k = done_now - done in
           let j = key.count - done_now in
           let there : done + (k + j) ≡ key.count = omega arith in
-          let stopped : is_running (after system k now).ended ≡ false = sym (ap (λ (s : MachineState). is_running s.ended) missed.run.state) ∙ ended.2 in
+          let stopped : is_running (after system k now).ended ≡ false = sym (ap (λ (s : MachineState). is_running s.ended) missed.run.state) ∙ ended in
           let last : is_running (after system (k + j) now).ended ≡ false =
           ap (λ (s : MachineState). is_running s.ended) (after-add system k j now) ∙ after-ended system j (after system k now) stopped in
           let P : ℕ → Type 0 = λ n. runs_at system start keys n ≡ false in
           let off : runs_at system start keys key.count ≡ false =
           subst P there (going-runs following.going (k + j) ∙ last) in
-          true≢false (sym comes.1 ∙ off)) missed.why
+          true≢false (sym comes.1 ∙ off)
+
+      full-never : done_now ≡ key.count → takes_key next ≡ false → Comes system start steps keys key.count → ⊥
+      full-never at full comes =
+          let low = missed.low in
+          let k = done_now - done in
+          let there : done + k ≡ key.count = omega arith in
+          let P : ℕ → Type 0 = λ n. takes_key (alone_by system keys n start) ≡ false in
+          let refused : takes_key (alone_by system keys key.count start) ≡ false =
+          subst P there (going-takes following.going k ∙ sym (ap takes_key missed.run.state) ∙ full) in
+          true≢false (sym comes.2 ∙ refused)
+
+      never : Comes system start steps keys key.count → ⊥
+      never comes = ⊎_elim (λ past. let far = past.0 in let near = comes.0 in omega arith)
+          (λ there. ⊎_elim (λ ended. ended-never ended.1 ended.2 comes) (λ full. full-never full.1 full.2 comes) there) missed.why
 
       within-missed : done_now - done ≤ steps - done
       within-missed = let within = following.going.within in let low = missed.low in
-          ⊎_elim (λ past. let same = past.1 in omega arith) (λ ended. let near = ended.0 in let high = ended.1 in omega arith) missed.why
+          ⊎_elim (λ past. let same = past.1 in omega arith)
+          (λ there. ⊎_elim (λ ended. let near = ended.0 in let high = ended.1 in omega arith) (λ full. let near = full.0 in let at = full.1 in omega arith) there) missed.why
 
       pub missed-going : IsGoing system steps most start next before written_then unrecorded record_then more done_now
       missed-going =
@@ -229,10 +231,27 @@ module _ {system : Disk} {start : MachineState} {steps waits_from most : ℕ} {c
           (subst (λ ks. IsGoing system steps most start next before written_then unrecorded record_now ks done_now) (sym still.0) went)
 
       pub missed-cued : StaysCued system start steps done_now waits_from cues more
-      missed-cued until past high = let low = missed.low in cue.cued until (omega arith) high more (inr (λ comes. never (let less = comes.0 in omega arith, comes.1), still.0))
+      missed-cued until past high = let low = missed.low in cue.cued until (omega arith) high more (inr (λ comes. never (let less = comes.0 in omega arith, comes.1, comes.2), still.0))
+
+      -- while as many keys are pending as may be, it does not wait
+      full-busy : takes_key next ≡ false → HasNoWait system start keys (max waits_from (last_count 0 keys)) done_now
+      full-busy full i low high = ⊎_elim (λ less. following.busy i low less)
+          (λ past.
+          let k = done_now - done in
+          let j = done_now - i in
+          let some : takes_key (after system k now) ≡ false = sym (ap takes_key missed.run.state) ∙ full in
+          let split : (i - done) + j ≡ k = omega arith in
+          let Q : ℕ → Type 0 = λ n. takes_key (after system n now) ≡ false in
+          let last : takes_key (after system j (after system (i - done) now)) ≡ false = sym (ap takes_key (after-add system (i - done) j now)) ∙ subst Q (sym split) some in
+          let there : done + (i - done) ≡ i = omega arith in
+          let P : ℕ → Type 0 = λ n. waits_at system start keys n ≡ false in
+          subst P there (going-waits following.going (i - done) ∙ full-waits (after system (i - done) now) (full-before system j (after system (i - done) now) last)))
+          (cases_lt i done)
 
       pub missed-busy : (is_running next.ended ≡ false) ⊎ HasNoWait system start more (max waits_from (last_count 0 more)) done_now
-      missed-busy = subst (λ ks. (is_running next.ended ≡ false) ⊎ HasNoWait system start ks (max waits_from (last_count 0 ks)) done_now) (sym still.0) ((⊎_elim (λ past. inr (let P : ℕ → Type 0 = λ n. HasNoWait system start keys (max waits_from (last_count 0 keys)) n in subst P (sym past.1) following.busy)) (λ ended. inl ended.2) missed.why))
+      missed-busy = subst (λ ks. (is_running next.ended ≡ false) ⊎ HasNoWait system start ks (max waits_from (last_count 0 ks)) done_now) (sym still.0)
+          (⊎_elim (λ past. inr (let P : ℕ → Type 0 = λ n. HasNoWait system start keys (max waits_from (last_count 0 keys)) n in subst P (sym past.1) following.busy))
+          (λ there. ⊎_elim (λ ended. inl ended.2) (λ full. inr (full-busy full.2)) there) missed.why)
 
   -- ---- waits
 
@@ -318,11 +337,6 @@ module _ {system : Disk} {start : MachineState} {steps waits_from most : ℕ} {c
       busy = wait-busy;
       ascii = following.ascii;
       room = following.room;
-      pending =
-          let before_it = following.pending in
-          let left_it = after-pending system (done_now - done) now in
-          let same : length next.session.console.keys ≡ length (after system (done_now - done) now).session.console.keys = ap (λ (s : MachineState). length s.session.console.keys) idled.run.state in
-          omega arith;
     }
 
     -- and where not, it never does so within the steps

@@ -63,7 +63,6 @@ on-fork system keys own steps at all start pace console list now before early re
       came = λ i past. ap (λ (ks : List Key). due i (presses_of ks)) same ∙ on.came i past;
       later = subst (λ (ks : List Key). IsInOrder pace.done ks) (sym (left-before at pace.pressed keys own before on.within)) (order-forked pace.done at (drop pace.pressed keys) own early on.later order);
       within = within-before at pace.pressed keys own before on.within;
-      pending = on.pending;
       all = record { within = omega (arith, early, reach); most = omega arith; all = inl refl };
     }
 

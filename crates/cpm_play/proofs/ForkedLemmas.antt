@@ -17,6 +17,7 @@ use Rattle.cpm_play.specs.declared.player.Player.{Player}
 use Rattle.cpm_play.specs.declared.player.Player.TheVariants.{Playing, Waiting}
 use Rattle.cpm_play.specs.declared.scripted_slot.ScriptedSlot.{ScriptedSlot}
 use Rattle.cpm_play.specs.Pacing.{forked_pace, IsOn}
+use Rattle.cpm_play.specs.Playing.{HaveRoom}
 use Rattle.cpm_play.specs.ScriptedSlots.{IsNone, IsPlaying, IsResting, script_keys}
 use Rattle.cpm_play.specs.Players.{AllReady, ChangesPlayerAt, HaveBecome, IsForkedFrom, IsPlayerGoing, IsPlayRefusal, IsForkWaiting, StandsAs, fork_pages, forks_of, ids_of, is_fork, pages_of, play_error, quota_of, player_slot, start_at}
 use Rattle.cpm_play.proofs.ForkLemmas.{on-fork, on-quota}
@@ -25,7 +26,7 @@ use Rattle.cpm_play.proofs.PlayerLemmas.{HasParent, differ-forked, given-at, goi
 
 -- What is known where a session is forked.
 pub record IsForking (old h new : Host) (given players : List Player) (place : ℕ) (parent child : ScriptedSlot) (fork : Fork) : Type 0 where
-  pub ready : AllReady old.slots given
+  pub ready : AllReady old.system old.slots given
   pub come : HaveBecome old h given players
   pub waits : slice_get players place ≡ Some (Waiting fork)
   pub plays : slice_get players fork.parent ≡ Some (Playing parent)
@@ -84,7 +85,8 @@ module _ (old h new : Host) (given players : List Player) (place : ℕ) (parent 
       let playing : IsPlaying fork.steps source.going.start child new = record {
         now = state;
         stands = fresh;
-        few = subst (λ (ks : List Key). length ks ≤ 4096) (sym k.forked.keys) ready.few;
+        room = subst (λ (ks : List Key). HaveRoom new.system source.going.start ks) (sym k.forked.keys)
+            (subst (λ (d : Disk). HaveRoom d source.going.start fork.keys.items) (sym (system ∙ k.come.rest.system)) source.room);
         on = subst (λ (d : Disk). IsOn d (script_keys child) fork.steps source.going.start child.pace child.console.items child.list.items state) (sym system) listed;
       } in
       record { playing = playing; quiet = source.going.resting.quiet }
@@ -180,7 +182,7 @@ module _ (old h new : Host) (given players : List Player) (place : ℕ) (parent 
 -- ---- a fork that is refused
 
 -- a fork lacks a slot or frames, and so do all forks together
-pub lack : (old h : Host) (given players : List Player) (place : ℕ) (parent : ScriptedSlot) (fork : Fork) (fault : ForkError) → AllReady old.slots given → HaveBecome old h given players →
+pub lack : (old h : Host) (given players : List Player) (place : ℕ) (parent : ScriptedSlot) (fork : Fork) (fault : ForkError) → AllReady old.system old.slots given → HaveBecome old h given players →
     slice_get players place ≡ Some (Waiting fork) → slice_get players fork.parent ≡ Some (Playing parent) → fork_fault h (slot_at parent.id.0 h.slots) ≡ Some fault → IsPlayRefusal old given (play_error place fault)
 lack old h given players place parent fork fault ready come waits plays refused =
     by_tests (nat_le 64 (length h.slots)) (h.openings == 18446744073709551615) (nat_lt h.frames (quotas_of h.slots + state.quota)) refl refl refl (sym (ap (fork_fault h) going.resting.playing.stands) ∙ refused)
@@ -240,7 +242,7 @@ lack old h given players place parent fork fault ready come waits plays refused 
         subst (λ (v : ForkError). IsPlayRefusal old given (play_error place v)) is (there, omega (arith, less, x, y, z, w))
     by_tests false false false e f g r = absurd (none-some fault r)
 
-pub refused-fork : (old h : Host) (given players : List Player) (place : ℕ) (parent : ScriptedSlot) (fork : Fork) (fault : ForkError) → AllReady old.slots given → HaveBecome old h given players →
+pub refused-fork : (old h : Host) (given players : List Player) (place : ℕ) (parent : ScriptedSlot) (fork : Fork) (fault : ForkError) → AllReady old.system old.slots given → HaveBecome old h given players →
     slice_get players place ≡ Some (Waiting fork) → slice_get players fork.parent ≡ Some (Playing parent) → (fault ≡ refusal.OutOfMemory) ⊎ (fork_fault h (slot_at parent.id.0 h.slots) ≡ Some fault) → IsPlayRefusal old given (play_error place fault)
 refused-fork old h given players place parent fork fault ready come waits plays (inl memory) = subst (λ (z : ForkError). IsPlayRefusal old given (play_error place z)) (sym memory) tt
 refused-fork old h given players place parent fork fault ready come waits plays (inr refused) = lack old h given players place parent fork fault ready come waits plays refused

@@ -1,4 +1,5 @@
 pub mod AloneLemmas
+pub mod RoomLemmas
 pub mod ShownLemmas
 pub mod TextLemmas
 pub mod OrderLemmas

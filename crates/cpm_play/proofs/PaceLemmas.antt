@@ -2,7 +2,7 @@
 use Rattle.std.proofs.Common.{◌≡◌, ℕ, ◌+◌, ◌-◌, ◌<◌, ◌≤◌, nat_le, ◌==◌, ◌&&◌, min, Bool, true, false, Option, Some, None, ◌⊎◌, inl, inr, ⊎_elim, List, [], ◌∷◌, ◌++◌, length, take, drop, refl, sym, ap, ap₂, ◌∙◌, subst, arith, append-nil, take-append-drop, if◌then◌else◌, slice_get}
 use Rattle.std.proofs.lemmas.Bool.Decides.{nat_tests}
 use Rattle.std.proofs.lemmas.Bool.{cases_lt}
-use Rattle.std.proofs.lemmas.List.{take_more, length_push}
+use Rattle.std.proofs.lemmas.List.{take_more}
 use Rattle.std.proofs.lemmas.Option.{get_or_from_slice_get, slice_get_within}
 use Rattle.std.proofs.lemmas.Option.{none-some, same_Some}
 use Rattle.cpm_geom.specs.Disk.{Disk}
@@ -22,10 +22,11 @@ use Rattle.cpm_machine.proofs.PressLaws.{alone-add, alone-pressed, with_keys-nil
 use Rattle.cpm_slots.proofs.ServeLaws.{taken_from}
 use Rattle.cpm_play.specs.declared.pace.Pace.{Pace}
 use Rattle.cpm_play.specs.Pacing.{due_at, first_pace, left_in, turn_of, up_to, IsOfAll, IsOn}
-use Rattle.cpm_play.specs.Playing.{presses_of, IsFresh, IsInOrder, IsPlayed, IsQuiet}
+use Rattle.cpm_play.specs.Playing.{alone_by, presses_of, HaveRoom, IsFresh, IsInOrder, IsPlayed, IsQuiet}
 use Rattle.cpm_play.specs.ScriptedSlots.{console_with, list_with}
-use Rattle.cpm_play.proofs.AloneLemmas.{after-ended, after-pending, alone-ended, alone-taken, keyless, keyless-ended, none-due, presses-append, presses-more}
+use Rattle.cpm_play.proofs.AloneLemmas.{after-ended, alone-ended, alone-taken, keyless, keyless-ended, none-due, presses-append, presses-more}
 use Rattle.cpm_play.proofs.OrderLemmas.{order-first, order-later}
+use Rattle.cpm_play.proofs.RoomLemmas.{room-at}
 
 -- ---- the keys that are still to come
 
@@ -38,7 +39,6 @@ on-start system keys steps start fresh order = record {
   came = λ i past. refl;
   later = order;
   within = omega arith;
-  pending = let none : length start.session.console.keys ≡ 0 = ap length fresh.keys in omega arith;
   all = record { within = omega arith; most = omega arith; all = inl refl };
 }
 
@@ -70,7 +70,6 @@ on-key system keys steps byte start pace console list now is on =
     let early = is.early in
     let same : key.count ≡ pace.done = omega arith in
     let within : pace.pressed < length keys = slice_get_within keys pace.pressed key is.at in
-    let pending = on.pending in
     let presses : presses_of (take (pace.pressed + 1) keys) ≡ presses_of (take pace.pressed keys) ++ record { after = pace.done; key = byte } ∷ [] =
     ap presses_of (key-more keys pace byte is) ∙ presses-more (take pace.pressed keys) key
     ∙ ap₂ (λ (n b : ℕ). presses_of (take pace.pressed keys) ++ record { after = n; key = b } ∷ []) same is.is in
@@ -79,18 +78,20 @@ on-key system keys steps byte start pace console list now is on =
       came = λ i past. ap (due i) presses ∙ AllCame-pressed (presses_of (take pace.pressed keys)) pace.done byte on.came i past;
       later = subst (λ n. IsInOrder n (drop (pace.pressed + 1) keys)) same order.1;
       within = omega arith;
-      pending = let longer : length (now.session.console.keys ++ byte ∷ []) ≡ length now.session.console.keys + 1 = length_push now.session.console.keys byte in omega arith;
       all = record { within = on.all.within; most = on.all.most; all = on.all.all };
     }
 
 -- which is never refused
 pub takes-due : (system : Disk) (keys : List Key) (steps byte : ℕ) (start : MachineState) (pace : Pace) (console list : List ℕ) (now : MachineState) →
-    length keys ≤ 4096 → IsDue keys pace byte → IsOn system keys steps start pace console list now → takes_key now ≡ true
-takes-due system keys steps byte start pace console list now few is on =
-    let within : pace.pressed < length keys = slice_get_within keys pace.pressed is.key is.at in
-    let pending = on.pending in
-    let room : length now.session.console.keys < 4096 = omega arith in
-    grind (arith, nat_tests)
+    HaveRoom system start keys → IsDue keys pace byte → IsOn system keys steps start pace console list now → takes_key now ≡ true
+takes-due system keys steps byte start pace console list now room is on =
+    let key = is.key in
+    let order = order-first pace.done pace.pressed keys key is.at on.later in
+    let low : pace.done ≤ key.count = order.0 in
+    let early = is.early in
+    let same : key.count ≡ pace.done = omega arith in
+    let P : ℕ → Type 0 = λ n. takes_key (alone_by system (take pace.pressed keys) n start) ≡ true in
+    ap takes_key on.state ∙ subst P same (room-at system start [] keys pace.pressed key is.at room)
 
 all-later : (steps k : ℕ) (pace : Pace) (now next : MachineState) → k ≤ left_in pace → (is_running now.ended ≡ false → is_running next.ended ≡ false) → IsOfAll steps pace now → IsOfAll steps (record pace { done = pace.done + k }) next
 all-later steps k pace now next fits ends all =
@@ -104,14 +105,11 @@ pub on-turn : (system : Disk) (keys : List Key) (steps k m : ℕ) (start : Machi
 on-turn system keys steps k m start pace console list now turn on =
     let presses = presses_of (take pace.pressed keys) in
     let fits : k ≤ left_in pace = turn-left (slice_get keys pace.pressed) turn in
-    let pending = on.pending in
-    let later = after-pending system k now in
     record {
       state = sym (after-behind system console list k now) ∙ ap (after system k) on.state ∙ sym (alone-add system presses pace.done k start on.came);
       came = AllCame-later presses pace.done k on.came;
       later = order-later (slice_get keys pace.pressed) keys pace.done k (min (left_in pace) m) pace.pressed refl on.later turn;
       within = on.within;
-      pending = omega arith;
       all = all-later steps k pace now (after system k now) fits (after-ended system k now) on.all;
     }
   where
@@ -127,7 +125,6 @@ on-behind system keys steps start pace console list console' list' now next same
   came = on.came;
   later = on.later;
   within = on.within;
-  pending = subst (λ (ks : List ℕ). length ks ≤ pace.pressed) (sym (ap (λ (s : MachineState). s.session.console.keys) same)) on.pending;
   all = record {
     within = on.all.within;
     most = on.all.most;
@@ -153,7 +150,6 @@ on-ended system keys steps start pace console list now ended on = record {
   came = on.came;
   later = on.later;
   within = on.within;
-  pending = on.pending;
   all = let within = on.all.within in let most = on.all.most in record { within = omega arith; most = omega arith; all = inr ended };
 }
 

@@ -14,7 +14,7 @@ use Rattle.cpm_machine.specs.Step.{is_running}
 use Rattle.cpm_play.specs.Cued.{Comes, IsCued, IsCuedFrom, runs_at, screen_at}
 use Rattle.cpm_play.specs.Laws.{PlainCuesDoAsTheirKeys, PlainCuesGiveTheirKeys}
 use Rattle.cpm_play.specs.Live.{AreBy}
-use Rattle.cpm_play.specs.Playing.{presses_of, IsInOrder, alone_by}
+use Rattle.cpm_play.specs.Playing.{presses_of, HaveRoomAfter, IsInOrder, alone_by}
 use Rattle.cpm_play.proofs.AloneLemmas.{alone-ended, alone-taken, keyless, keyless-ended, none-due, presses-append}
 
 -- it runs before keys that come later, if it does so behind them
@@ -36,26 +36,26 @@ runs-before system start steps n before later order fits runs = by_test (runs_at
         let last : is_running (alone system all steps start).ended ≡ false = subst P at behind in
         absurd (true≢false (sym runs ∙ ap (λ ps. is_running (alone system ps steps start).ended) (presses-append before later) ∙ last))
 
-plain-from : (system : Disk) (start : MachineState) (steps waits_from last n mark : ℕ) (before keys given : List Key) → IsInOrder n keys → AreBy last keys → last < steps → runs_at system start (before ++ keys) steps ≡ true →
+plain-from : (system : Disk) (start : MachineState) (steps waits_from last n mark : ℕ) (before keys given : List Key) → IsInOrder n keys → HaveRoomAfter system start before keys → AreBy last keys → last < steps → runs_at system start (before ++ keys) steps ≡ true →
     IsCuedFrom system start steps steps waits_from before n mark (map Timed keys) given → given ≡ before ++ keys
-plain-from system start steps waits_from last n mark before [] given order by fits runs is = is ∙ sym (append-nil before)
-plain-from system start steps waits_from last n mark before (k ∷ keys) given order by fits runs (inl come) =
+plain-from system start steps waits_from last n mark before [] given order room by fits runs is = is ∙ sym (append-nil before)
+plain-from system start steps waits_from last n mark before (k ∷ keys) given order room by fits runs (inl come) =
     let low : n ≤ k.count = order.0 in
     let at : max n k.count ≡ k.count = omega arith in
     let P : ℕ → Type 0 = λ m. IsCuedFrom system start steps steps waits_from (before ++ (let key : Key = record { count = m; byte = k.byte } in key) ∷ []) m (length (screen_at system start before m)) (map Timed keys) given in
     let joined : (before ++ k ∷ []) ++ keys ≡ before ++ k ∷ keys = append_assoc before (k ∷ []) keys in
-    plain-from system start steps waits_from last k.count (length (screen_at system start before k.count)) (before ++ k ∷ []) keys given order.1 by.1 fits
+    plain-from system start steps waits_from last k.count (length (screen_at system start before k.count)) (before ++ k ∷ []) keys given order.1 room.1 by.1 fits
     (ap (λ ks. runs_at system start ks steps) joined ∙ runs) (subst P at come.1)
     ∙ joined
-plain-from system start steps waits_from last n mark before (k ∷ keys) given order by fits runs (inr never) =
+plain-from system start steps waits_from last n mark before (k ∷ keys) given order room by fits runs (inr never) =
     let low : n ≤ k.count = order.0 in
     let high : k.count ≤ last = by.0 in
     let at : max n k.count ≡ k.count = omega arith in
-    let comes : Comes system start steps before k.count = (omega arith, runs-before system start steps k.count before (k ∷ keys) (omega arith, order.1) (omega arith) runs) in
+    let comes : Comes system start steps before k.count = (omega arith, runs-before system start steps k.count before (k ∷ keys) (omega arith, order.1) (omega arith) runs, room.0) in
     absurd (never.0 (subst (λ m. Comes system start steps before m) (sym at) comes))
 
 pub plain-cues : PlainCuesGiveTheirKeys
-plain-cues system start steps waits_from last keys given order by fits runs is = plain-from system start steps waits_from last 0 0 [] keys given order by fits runs is
+plain-cues system start steps waits_from last keys given order room by fits runs is = plain-from system start steps waits_from last 0 0 [] keys given order room by fits runs is
 
 -- ---- keys that do not come
 
@@ -67,17 +67,17 @@ record AreFirst (system : Disk) (start : MachineState) (steps : ℕ) (keys came 
   later : IsInOrder at rest
   why : (steps ≤ at) ⊎ ((at ≤ steps) × (runs_at system start came at ≡ false))
 
-came-from : (system : Disk) (start : MachineState) (steps waits_from n mark : ℕ) (before keys came : List Key) → IsInOrder n keys →
+came-from : (system : Disk) (start : MachineState) (steps waits_from n mark : ℕ) (before keys came : List Key) → IsInOrder n keys → HaveRoomAfter system start before keys →
     IsCuedFrom system start steps steps waits_from before n mark (map Timed keys) came → AreFirst system start steps (before ++ keys) came
-came-from system start steps waits_from n mark before [] came order is =
+came-from system start steps waits_from n mark before [] came order room is =
     record { rest = []; at = steps; joined = ap (λ ks. ks ++ []) (sym is); later = tt; why = inl (omega arith) }
-came-from system start steps waits_from n mark before (k ∷ keys) came order (inl come) =
+came-from system start steps waits_from n mark before (k ∷ keys) came order room (inl come) =
     let low : n ≤ k.count = order.0 in
     let at : max n k.count ≡ k.count = omega arith in
     let P : ℕ → Type 0 = λ m. IsCuedFrom system start steps steps waits_from (before ++ (let key : Key = record { count = m; byte = k.byte } in key) ∷ []) m (length (screen_at system start before m)) (map Timed keys) came in
-    let first = came-from system start steps waits_from k.count (length (screen_at system start before k.count)) (before ++ k ∷ []) keys came order.1 (subst P at come.1) in
+    let first = came-from system start steps waits_from k.count (length (screen_at system start before k.count)) (before ++ k ∷ []) keys came order.1 room.1 (subst P at come.1) in
     record { rest = first.rest; at = first.at; joined = sym (append_assoc before (k ∷ []) keys) ∙ first.joined; later = first.later; why = first.why }
-came-from system start steps waits_from n mark before (k ∷ keys) came order (inr never) =
+came-from system start steps waits_from n mark before (k ∷ keys) came order room (inr never) =
     record {
       rest = k ∷ keys;
       at = k.count;
@@ -92,7 +92,7 @@ came-from system start steps waits_from n mark before (k ∷ keys) came order (i
     by_test within true e =
         let low : n ≤ k.count = order.0 in
         let at : max n k.count ≡ k.count = omega arith in
-        absurd (never.0 (subst (λ m. Comes system start steps before m) (sym at) (within, e)))
+        absurd (never.0 (subst (λ m. Comes system start steps before m) (sym at) (within, e, room.0)))
 
 -- the others make no difference but that they are pending
 same-all : (system : Disk) (start : MachineState) (steps : ℕ) (keys came : List Key) → AreFirst system start steps keys came →
@@ -146,10 +146,10 @@ timed-is (Wait text ∷ cues) (k ∷ keys) is = cc
 timed-is (Press byte ∷ cues) (k ∷ keys) is = cc
 
 pub plain-runs : PlainCuesDoAsTheirKeys
-plain-runs system start steps waits_from done keys came cues said order is within ends =
+plain-runs system start steps waits_from done keys came cues said order room is within ends =
     let cued = subst (λ cs. IsCued system start steps waits_from cs came) (timed-is cues keys said) is in
     let same : keyless (alone system (presses_of keys) steps start) ≡ keyless (alone system (presses_of came) done start) =
-    same-all system start steps keys came (came-from system start steps waits_from 0 0 [] keys came order cued) ∙ same-done system start steps done came within ends in
+    same-all system start steps keys came (came-from system start steps waits_from 0 0 [] keys came order room cued) ∙ same-done system start steps done came within ends in
     record {
       screen = ap (λ (s : MachineState). s.session.console.screen) (sym same);
       printer = ap (λ (s : MachineState). s.session.console.printer) (sym same);

@@ -21,7 +21,7 @@ use Rattle.cpm_play.proofs.PlaceLemmas.{same-at, sum-none}
 
 -- ---- before the first round
 
-resting-ready : (h : Host) (p : ScriptedSlot) (ready : IsReady h.slots p) → IsResting (steps_of p) ready.start p h
+resting-ready : (h : Host) (p : ScriptedSlot) (ready : IsReady h.system h.slots p) → IsResting (steps_of p) ready.start p h
 resting-ready h p ready =
     let unplayed = ready.unplayed in
     let steps = steps_of p in
@@ -35,16 +35,16 @@ resting-ready h p ready =
     let second = subst (λ (xs : List ℕ). IsOn h.system (script_keys p) steps ready.start p.pace xs [] ready.start) (sym unplayed.console) first in
     let third : IsOn h.system (script_keys p) steps ready.start p.pace p.console.items p.list.items ready.start =
     subst (λ (xs : List ℕ). IsOn h.system (script_keys p) steps ready.start p.pace p.console.items xs ready.start) (sym unplayed.list) second in
-    let playing : IsPlaying steps ready.start p h = record { now = ready.start; stands = ready.opened; few = ready.few; on = third } in
+    let playing : IsPlaying steps ready.start p h = record { now = ready.start; stands = ready.opened; room = ready.room; on = third } in
     record { playing = playing; quiet = record { screen = ready.fresh.screen; printer = ready.fresh.printer } }
 
-module _ (h : Host) (players : List Player) (ready : AllReady h.slots players) where
-  ready-at : (place : ℕ) (p : Player) → slice_get players place ≡ Some p → IsPlayerReady h.slots players p
-  ready-at place p at = subst (λ (o : Option Player). IfSome o (IsPlayerReady h.slots players)) at (ready place)
+module _ (h : Host) (players : List Player) (ready : AllReady h.system h.slots players) where
+  ready-at : (place : ℕ) (p : Player) → slice_get players place ≡ Some p → IsPlayerReady h.system h.slots players p
+  ready-at place p at = subst (λ (o : Option Player). IfSome o (IsPlayerReady h.system h.slots players)) at (ready place)
 
-  waiting-at : (fork : Fork) → IsForkReady players fork → IsForkWaiting players fork
+  waiting-at : (fork : Fork) → IsForkReady h.system h.slots players fork → IsForkWaiting players fork
   waiting-at fork k =
-      let parent : IsReady h.slots k.parent = ready-at fork.parent (Playing k.parent) k.plays in
+      let parent : IsReady h.system h.slots k.parent = ready-at fork.parent (Playing k.parent) k.plays in
       let done = parent.unplayed.done in
       record {
         parent = k.parent;
@@ -53,7 +53,7 @@ module _ (h : Host) (players : List Player) (ready : AllReady h.slots players) w
         early = subst (λ n. AllBefore fork.at (take n (script_keys k.parent))) (sym parent.unplayed.pressed) tt;
       }
 
-  stands-ready : (p : Player) → IsPlayerReady h.slots players p → StandsAs h.slots players players h p p
+  stands-ready : (p : Player) → IsPlayerReady h.system h.slots players p → StandsAs h.slots players players h p p
   stands-ready (Playing slot) k = record { start = k.start; started = k.opened; keys = refl; resting = resting-ready h slot k }
   stands-ready (Waiting fork) k = (refl, waiting-at fork k)
 

@@ -14,7 +14,7 @@ use Rattle.cpm_play.specs.declared.player.Player.{Player}
 use Rattle.cpm_play.specs.declared.player.Player.TheVariants.{Playing, Waiting}
 use Rattle.cpm_play.specs.declared.scripted_slot.ScriptedSlot.{ScriptedSlot}
 use Rattle.cpm_play.specs.Pacing.{IsOn}
-use Rattle.cpm_play.specs.Playing.{IsInOrder}
+use Rattle.cpm_play.specs.Playing.{HaveRoom, IsInOrder}
 use Rattle.cpm_play.specs.ScriptedSlots.{IsNone, IsPlaying, IsResting, script_keys}
 use Rattle.cpm_play.specs.Players.{AllDiffer, AllReady, HaveBecome, IsForkReady, IsPlayerGoing, IsPlayerReady, IsForkWaiting, StandsAs, ids_of, player_steps}
 use Rattle.cpm_play.proofs.PlaceLemmas.{within-at, some-at, same-at}
@@ -90,7 +90,7 @@ resting-in steps start slot old new system same resting =
     let there : IsPlaying steps start slot new = record {
       now = playing.now;
       stands = same ∙ playing.stands;
-      few = playing.few;
+      room = subst (λ (d : Disk). HaveRoom d start (script_keys slot)) (sym system) playing.room;
       on = subst (λ (d : Disk). IsOn d (script_keys slot) steps start slot.pace slot.console.items slot.list.items playing.now) (sym system) playing.on;
     } in
     record { playing = there; quiet = resting.quiet }
@@ -123,13 +123,13 @@ given-at old h given players place q come at =
     (there.0, there.1, come.each place there.0 q there.1 at)
 
 -- a player that waits is as it was given, and ready
-pub waiting-given : (old h : Host) (given players : List Player) (place : ℕ) (fork : Fork) → AllReady old.slots given → HaveBecome old h given players → slice_get players place ≡ Some (Waiting fork) →
-    (slice_get given place ≡ Some (Waiting fork)) × IsForkReady given fork × IsForkWaiting players fork
+pub waiting-given : (old h : Host) (given players : List Player) (place : ℕ) (fork : Fork) → AllReady old.system old.slots given → HaveBecome old h given players → slice_get players place ≡ Some (Waiting fork) →
+    (slice_get given place ≡ Some (Waiting fork)) × IsForkReady old.system old.slots given fork × IsForkWaiting players fork
 waiting-given old h given players place fork ready come at =
     let there = given-at old h given players place (Waiting fork) come at in
     let same : there.0 ≡ Waiting fork = there.2.0 in
     let given_so : slice_get given place ≡ Some (Waiting fork) = there.1 ∙ ap Some same in
-    (given_so, subst (λ (o : Option Player). IfSome o (IsPlayerReady old.slots given)) given_so (ready place), there.2.1)
+    (given_so, subst (λ (o : Option Player). IfSome o (IsPlayerReady old.system old.slots given)) given_so (ready place), there.2.1)
 
 -- the parent of one that waits
 pub record HasParent (old h : Host) (given : List Player) (fork : Fork) (parent : ScriptedSlot) : Type 0 where
@@ -139,8 +139,9 @@ pub record HasParent (old h : Host) (given : List Player) (fork : Fork) (parent 
   pub own : List Key
   pub keys : fork.keys.items ≡ keys_before fork.at (script_keys parent) ++ own
   pub order : IsInOrder fork.at own
+  pub room : HaveRoom old.system going.start fork.keys.items
 
-pub parent-of : (old h : Host) (given players : List Player) (place : ℕ) (fork : Fork) (parent : ScriptedSlot) → AllReady old.slots given → HaveBecome old h given players →
+pub parent-of : (old h : Host) (given players : List Player) (place : ℕ) (fork : Fork) (parent : ScriptedSlot) → AllReady old.system old.slots given → HaveBecome old h given players →
     slice_get players place ≡ Some (Waiting fork) → slice_get players fork.parent ≡ Some (Playing parent) → HasParent old h given fork parent
 parent-of old h given players place fork parent ready come at plays =
     let fork_ready = (waiting-given old h given players place fork ready come at).1 in
@@ -154,4 +155,6 @@ parent-of old h given players place fork parent ready come at plays =
       own = fork_ready.own;
       keys = fork_ready.keys ∙ ap (λ (ks : List Key). keys_before fork.at ks ++ fork_ready.own) (sym going.keys);
       order = fork_ready.order;
+      room = subst (λ (s : MachineState). HaveRoom old.system s fork.keys.items)
+          (same-at (slot_at fork_ready.parent.id.0 old.slots) fork_ready.start going.start fork_ready.opened going.started) fork_ready.room;
     }

@@ -73,7 +73,7 @@ none-set (x ∷ xs) (suc place) slot none =
 
 -- What is known where a player has a turn.
 pub record IsTurn (old h new : Host) (given players : List Player) (place steps : ℕ) (slot next : ScriptedSlot) : Type 0 where
-  pub ready : AllReady old.slots given
+  pub ready : AllReady old.system old.slots given
   pub come : HaveBecome old h given players
   pub plays : slice_get players place ≡ Some (Playing slot)
   pub moves : Moves slot next h new

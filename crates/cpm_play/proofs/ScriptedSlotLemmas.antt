@@ -26,18 +26,20 @@ use Rattle.cpm_play.specs.declared.pace.Pace.{Pace}
 use Rattle.cpm_play.specs.declared.scripted_slot.ScriptedSlot.{ScriptedSlot}
 use Rattle.cpm_play.specs.Pacing.{due_at, turn_of, IsOn}
 use Rattle.cpm_play.specs.Players.{AllBefore}
+use Rattle.cpm_play.specs.Playing.{HaveRoom}
 use Rattle.cpm_play.specs.ScriptedSlots.{console_with, script_keys, list_with, waits_in, AreTaken, HasAdded, IsPlaying, IsResting, Moves}
 use Rattle.cpm_play.proofs.HostLemmas.{moves-ask, reply-served, slot-served}
 use Rattle.cpm_play.proofs.PaceLemmas.{due-key, key-more, on-advance, on-key, on-take, takes-due, IsAdvanced, IsDue}
 
 -- a scripted slot whose slot is in a new state
 abbrev pub playing-at : (steps : ℕ) (start s next : MachineState) (p q : ScriptedSlot) (old new : Host) (call : Call) → new ≡ after_ask old p.id.0 (Calls call) → (serve old.system call s).state ≡ next →
-    slot_at p.id.0 old.slots ≡ Some s → q.id ≡ p.id → script_keys q ≡ script_keys p → length (script_keys p) ≤ 4096 → IsOn old.system (script_keys p) steps start q.pace q.console.items q.list.items next →
+    slot_at p.id.0 old.slots ≡ Some s → q.id ≡ p.id → script_keys q ≡ script_keys p → HaveRoom old.system start (script_keys p) → IsOn old.system (script_keys p) steps start q.pace q.console.items q.list.items next →
     IsPlaying steps start q new
-playing-at steps start s next p q old new call is state at id keys few on = record {
+playing-at steps start s next p q old new call is state at id keys room on = record {
   now = next;
   stands = ap (λ (x : SlotId). slot_at x.0 new.slots) id ∙ ap (λ (h : Host). slot_at p.id.0 h.slots) is ∙ slot-served old p.id.0 call s at ∙ ap Some state;
-  few = subst (λ (ks : List Key). length ks ≤ 4096) (sym keys) few;
+  room = subst (λ (ks : List Key). HaveRoom new.system start ks) (sym keys)
+      (subst (λ (d : Disk). HaveRoom d start (script_keys p)) (sym (ap (λ (h : Host). h.system) is)) room);
   on = subst (λ (ks : List Key). IsOn new.system ks steps start q.pace q.console.items q.list.items next) (sym keys)
       (subst (λ (d : Disk). IsOn d (script_keys p) steps start q.pace q.console.items q.list.items next) (sym (ap (λ (h : Host). h.system) is)) on);
 }
@@ -51,11 +53,11 @@ resting-key steps byte start p q old new due is moved resting =
     let playing = resting.playing in
     let s = playing.now in
     let key : IsDue (script_keys p) p.pace byte = due-key (slice_get (script_keys p) p.pace.pressed) (script_keys p) p.pace byte refl due in
-    let room : takes_key s ≡ true = takes-due old.system (script_keys p) steps byte start p.pace p.console.items p.list.items s playing.few key playing.on in
+    let room : takes_key s ≡ true = takes-due old.system (script_keys p) steps byte start p.pace p.console.items p.list.items s playing.room key playing.on in
     let state : (serve old.system (Pressed byte) s).state ≡ keyed byte s = ap (λ b. (served_key b byte s).state) room in
     let r : ScriptedSlot = record p { pace = record p.pace { pressed = p.pace.pressed + 1 } } in
     subst (λ (x : ScriptedSlot). IsResting steps start x new) (sym moved) (record {
-      playing = playing-at steps start s (keyed byte s) p r old new (Pressed byte) is state playing.stands refl refl playing.few
+      playing = playing-at steps start s (keyed byte s) p r old new (Pressed byte) is state playing.stands refl refl playing.room
           (on-key old.system (script_keys p) steps byte start p.pace p.console.items p.list.items s key playing.on);
       quiet = record { screen = resting.quiet.screen; printer = resting.quiet.printer };
     })
@@ -114,7 +116,7 @@ playing-turn steps k quantum start p q old new none some turn is asked moves sam
     let state : (serve old.system (Grant most) s).state ≡ after old.system k s = ap (λ n. after old.system n s) (sym count) in
     let r : ScriptedSlot = record p { pace = q.pace } in
     subst (λ (x : ScriptedSlot). IsPlaying steps start x new) (sym same)
-    (playing-at steps start s (after old.system k s) p r old new (Grant most) asked state playing.stands refl refl playing.few
+    (playing-at steps start s (after old.system k s) p r old new (Grant most) asked state playing.stands refl refl playing.room
     (on-advance old.system (script_keys p) steps k quantum start p.pace q.pace p.console.items p.list.items s resting.quiet none some count turn moves playing.on))
 
 -- ---- bytes
@@ -229,7 +231,7 @@ playing-take steps n room start on out p q old new took is added playing =
     let list : q.list.items ≡ list_with on bytes p.list.items = added.list ∙ ap (λ xs. list_with on xs p.list.items) t.bytes in
     let r : ScriptedSlot = record p { console = q.console; list = q.list } in
     subst (λ (x : ScriptedSlot). IsPlaying steps start x new) (sym added.same)
-    (playing-at steps start s next p r old new (take_call on room) is (ap (λ (x : ServedCall). x.state) (serve-take old.system on room s)) playing.stands refl refl playing.few
+    (playing-at steps start s next p r old new (take_call on room) is (ap (λ (x : ServedCall). x.state) (serve-take old.system on room s)) playing.stands refl refl playing.room
     (subst (λ (xs : List ℕ). IsOn old.system (script_keys p) steps start p.pace xs q.list.items next) (sym console)
     (subst (λ (xs : List ℕ). IsOn old.system (script_keys p) steps start p.pace shown xs next) (sym list)
     (on-take old.system (script_keys p) steps room start p.pace p.console.items p.list.items s on playing.on))))

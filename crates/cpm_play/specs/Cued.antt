@@ -11,13 +11,13 @@ use Rattle.cpm_script.specs.declared.cue.Cue.{Cue}
 use Rattle.cpm_script.specs.declared.cue.Cue.TheVariants.{Key as Timed, Wait, Press}
 use Rattle.cpm_script.specs.declared.script.Key.{Key}
 use Rattle.cpm_machine.specs.MachineState.{MachineState}
-use Rattle.cpm_machine.specs.Serve.{keyed, look_of}
+use Rattle.cpm_machine.specs.Serve.{keyed, look_of, takes_key}
 use Rattle.cpm_machine.specs.Step.{after, is_running}
 use Rattle.cpm_play.specs.Live.{HadText, HasCome}
 use Rattle.cpm_play.specs.declared.live.LiveError.{LiveError}
 use Rattle.cpm_play.specs.declared.live.LiveError.TheVariants.{Unreadable, Unwritable, Unrecorded, OutOfMemory}
 use Rattle.cpm_play.specs.Pacing.{without_list, without_text}
-use Rattle.cpm_play.specs.Playing.{HasText}
+use Rattle.cpm_play.specs.Playing.{HasText, alone_by}
 pub use Rattle.cpm_play.specs.Playing.{last_count, runs_at, screen_at, waits_at}
 
 -- ---- the machine run alone
@@ -38,9 +38,9 @@ pub record IsNextWait (system : Disk) (start : MachineState) (keys : List Key) (
 abbrev pub HasShown : List ℕ → List ℕ → Type 0
 HasShown text shown = (place : ℕ) × OccursAt shown text place
 
--- a key comes at a count within the steps, while the machine runs
+-- a key comes at a count within the steps, while the machine runs, and finds room
 abbrev pub Comes : Disk → MachineState → ℕ → List Key → ℕ → Type 0
-Comes system start steps keys at = (at < steps) × (runs_at system start keys at ≡ true)
+Comes system start steps keys at = (at < steps) × (runs_at system start keys at ≡ true) × (takes_key (alone_by system keys at start) ≡ true)
 
 -- from one count on, and from where waits count, it next waits at another within the steps, and then has shown this text after so many bytes
 pub record IsCueMet (system : Disk) (start : MachineState) (steps waits_from : ℕ) (keys : List Key) (from mark : ℕ) (text : List ℕ) (at : ℕ) : Type 0 where
@@ -185,24 +185,26 @@ abbrev pub IsIdleCut : Disk → (steps waits_from done : ℕ) → (old now : Mac
 IsIdleCut system steps waits_from done old now before written e =
     (k : ℕ) × (k ≤ steps - done) × IsUntaken (after system k old) now before written e × IsBusyFrom system (max waits_from done) (done + k) done old
 
--- so many steps were executed, after which the machine still runs, and a key was recorded and pressed
+-- so many steps were executed, after which the machine still runs and has room, and a key was recorded and pressed
 pub record HasPressed (system : Disk) (key : Key) (k : ℕ) (old now : MachineState) (before written unrecorded record_now : Option (List ℕ)) : Type 0 where
   pub runs : is_running (after system k old).ended ≡ true
+  pub room : takes_key (after system k old) ≡ true
   pub state : now ≡ keyed key.byte (without_list (without_text (after system k old)))
   pub text : Appends before written (after system k old).session.console.screen
   pub noted : Appends unrecorded record_now (key_line key)
 
--- a key does not come: its count is past the steps, and nothing was done; or the machine ends before it, and has shown all
+-- a key does not come: its count is past the steps, and nothing was done; or the machine ends before it, or has no room for it there, and has shown all
 pub record HasMissed (system : Disk) (key : Key) (steps done done_now : ℕ) (old now : MachineState) (before written : Option (List ℕ)) : Type 0 where
   pub low : done ≤ done_now
   pub run : HasExecuted system (done_now - done) old now before written
   pub why : ((steps ≤ key.count) × (done_now ≡ done)) ⊎ ((key.count < steps) × (done_now ≤ key.count) × (is_running now.ended ≡ false))
+      ⊎ ((key.count < steps) × (done_now ≡ key.count) × (takes_key now ≡ false))
 
 -- why a key was not pressed after so many steps: not all of them were executed, or memory was refused, and nothing was recorded;
--- or it can't be recorded where the machine runs, and all is shown
+-- or it can't be recorded where the machine runs and has room, and all is shown
 abbrev pub IsPressCut : Disk → ℕ → (old now : MachineState) → (before written unrecorded record_now : Option (List ℕ)) → LiveError → Type 0
 IsPressCut system steps old now before written unrecorded record_now (Unrecorded e) =
-    HasExecuted system steps old now before written × (is_running now.ended ≡ true)
+    HasExecuted system steps old now before written × (is_running now.ended ≡ true) × (takes_key now ≡ true)
 IsPressCut system steps old now before written unrecorded record_now (Unwritable e) =
     IsRunCut false system steps old now before written (Unwritable e) × (record_now ≡ unrecorded)
 IsPressCut system steps old now before written unrecorded record_now OutOfMemory =

@@ -48,7 +48,6 @@ pub record IsOn (system : Disk) (keys : List Key) (steps : ℕ) (start : Machine
   pub came : (i : ℕ) → pace.done < i → due i (presses_of (take pace.pressed keys)) ≡ []
   pub later : IsInOrder pace.done (drop pace.pressed keys)
   pub within : pace.pressed ≤ length keys
-  pub pending : length now.session.console.keys ≤ pace.pressed
   pub all : IsOfAll steps pace now
 
 -- the state with its console bytes taken, and with its list bytes taken

@@ -16,9 +16,8 @@ use Rattle.cpm_play.specs.declared.player.Player.{Player}
 use Rattle.cpm_play.specs.declared.player.Player.TheVariants.{Playing, Waiting}
 use Rattle.cpm_play.specs.declared.scripted_slot.ScriptedSlot.{ScriptedSlot}
 use Rattle.cpm_play.specs.Pacing.{forked_pace}
-use Rattle.cpm_play.specs.Playing.{IsInOrder, IsPlayed}
+use Rattle.cpm_play.specs.Playing.{HaveRoom, IsInOrder, IsPlayed}
 use Rattle.cpm_play.specs.ScriptedSlots.{AreDifferent, IsNone, IsReady, IsResting, script_keys, steps_of}
-use Rattle.cpm_script.specs.Script.{most_keys}
 
 -- ---- what is to be played
 
@@ -42,23 +41,25 @@ start_at slots players (Playing slot) = slot_at slot.id.0 slots
 start_at slots players (Waiting fork) = player_slot slots (slice_get players fork.parent)
 
 -- A session can be forked: the one that it is forked from is played, its keys are those of that one that come before the fork,
--- and then others that don't, in order and not too many.
-pub record IsForkReady (players : List Player) (fork : Fork) : Type 0 where
+-- and then others that don't, in order, and all of them find room where they come after that one's start.
+pub record IsForkReady (system : Disk) (slots : List SlotState) (players : List Player) (fork : Fork) : Type 0 where
   pub parent : ScriptedSlot
   pub plays : slice_get players fork.parent ≡ Some (Playing parent)
   pub own : List Key
   pub keys : fork.keys.items ≡ keys_before fork.at (script_keys parent) ++ own
   pub order : IsInOrder fork.at own
-  pub few : length fork.keys.items ≤ most_keys
+  pub start : MachineState
+  pub opened : slot_at parent.id.0 slots ≡ Some start
+  pub room : HaveRoom system start fork.keys.items
   pub within : fork.at ≤ fork.steps
 
-abbrev pub IsPlayerReady : List SlotState → List Player → Player → Type 0
-IsPlayerReady slots players (Playing slot) = IsReady slots slot
-IsPlayerReady slots players (Waiting fork) = IsForkReady players fork
+abbrev pub IsPlayerReady : Disk → List SlotState → List Player → Player → Type 0
+IsPlayerReady system slots players (Playing slot) = IsReady system slots slot
+IsPlayerReady system slots players (Waiting fork) = IsForkReady system slots players fork
 
--- each of the players can be played, or forked
-abbrev pub AllReady : List SlotState → List Player → Type 0
-AllReady slots players = (place : ℕ) → IfSome (slice_get players place) (IsPlayerReady slots players)
+-- each of the players can be played, or forked, in the slots of a host with this system drive
+abbrev pub AllReady : Disk → List SlotState → List Player → Type 0
+AllReady system slots players = (place : ℕ) → IfSome (slice_get players place) (IsPlayerReady system slots players)
 
 -- the numbers of the slots that are played
 abbrev pub ids_of : List Player → List ℕ

@@ -1,10 +1,10 @@
 -- Sessions played by their keys: what each shows and leaves, whatever its turns are. All of it is own.
-use Rattle.std.specs.Prelude.{⊤, ◌≡◌, ◌≢◌, ℕ, ◌≤◌, Bool, List, [], ◌∷◌, map}
+use Rattle.std.specs.Prelude.{⊤, ◌≡◌, ◌≢◌, ℕ, ◌≤◌, Bool, true, List, [], ◌∷◌, ◌++◌, map}
 use Rattle.cpm_geom.specs.Disk.{Disk}
 use Rattle.cpm_script.specs.declared.script.Key.{Key}
 use Rattle.cpm_machine.specs.Alone.{Press, alone}
 use Rattle.cpm_machine.specs.MachineState.{MachineState}
-use Rattle.cpm_machine.specs.Serve.{look_of}
+use Rattle.cpm_machine.specs.Serve.{look_of, takes_key}
 use Rattle.cpm_machine.specs.Step.{is_running}
 
 -- the keys of a script, each with the number of steps executed before it
@@ -29,6 +29,15 @@ runs_at system start keys n = is_running (alone_by system keys n start).ended
 
 abbrev pub screen_at : Disk → MachineState → List Key → ℕ → List ℕ
 screen_at system start keys n = (alone_by system keys n start).session.console.screen
+
+-- each of these keys finds room where it comes, after those before it: the machine run alone by these takes it there
+abbrev pub HaveRoomAfter : Disk → MachineState → (given keys : List Key) → Type 0
+HaveRoomAfter system start given [] = ⊤
+HaveRoomAfter system start given (k ∷ keys) =
+    (takes_key (alone_by system given k.count start) ≡ true) × HaveRoomAfter system start (given ++ k ∷ []) keys
+
+abbrev pub HaveRoom : Disk → MachineState → List Key → Type 0
+HaveRoom system start keys = HaveRoomAfter system start [] keys
 
 -- the count of the last key, or this one where there is none
 abbrev pub last_count : ℕ → List Key → ℕ

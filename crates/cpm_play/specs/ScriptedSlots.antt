@@ -1,5 +1,6 @@
 -- Scripted slots of a host: sessions in its slots that are played by their keys. All of it is own.
-use Rattle.std.specs.Prelude.{⊤, ◌≡◌, ◌≢◌, ℕ, ◌≤◌, List, [], ◌∷◌, ◌++◌, length, take, min, Option, Some, None}
+use Rattle.std.specs.Prelude.{⊤, ◌≡◌, ◌≢◌, ℕ, List, [], ◌∷◌, ◌++◌, length, take, min, Option, Some, None}
+use Rattle.cpm_geom.specs.Disk.{Disk}
 use Rattle.cpm_console.specs.declared.device.Device.{Device}
 use Rattle.cpm_console.specs.declared.device.Device.TheVariants as device
 use Rattle.cpm_console.specs.Terminal.{waiting_on}
@@ -8,8 +9,7 @@ use Rattle.cpm_slots.specs.Host.{Host, SlotState, slot_at, quotas_of, IsHost}
 use Rattle.cpm_machine.specs.MachineState.{MachineState}
 use Rattle.cpm_play.specs.declared.scripted_slot.ScriptedSlot.{ScriptedSlot}
 use Rattle.cpm_play.specs.Pacing.{left_in, IsOn}
-use Rattle.cpm_play.specs.Playing.{IsFresh, IsInOrder, IsQuiet}
-use Rattle.cpm_script.specs.Script.{most_keys}
+use Rattle.cpm_play.specs.Playing.{HaveRoom, IsFresh, IsInOrder, IsQuiet}
 
 -- the keys that a scripted slot was given
 abbrev pub script_keys : ScriptedSlot → List Key
@@ -26,14 +26,14 @@ pub record IsNew (p : ScriptedSlot) : Type 0 where
   pub pressed : p.pace.pressed ≡ 0
   pub done : p.pace.done ≡ 0
 
--- it has had no turn, its keys are in order and not too many, and its slot is open and fresh
-pub record IsReady (slots : List SlotState) (p : ScriptedSlot) : Type 0 where
+-- it has had no turn, its slot is open and fresh, and its keys are in order, and find room where they come
+pub record IsReady (system : Disk) (slots : List SlotState) (p : ScriptedSlot) : Type 0 where
   pub unplayed : IsNew p
   pub order : IsInOrder 0 (script_keys p)
-  pub few : length (script_keys p) ≤ most_keys
   pub start : MachineState
   pub opened : slot_at p.id.0 slots ≡ Some start
   pub fresh : IsFresh start
+  pub room : HaveRoom system start (script_keys p)
 
 -- the number is none of these
 abbrev pub IsNone : ℕ → List ℕ → Type 0
@@ -82,7 +82,7 @@ pub record HasAdded (on : Device) (bytes : List ℕ) (p q : ScriptedSlot) : Type
 pub record IsPlaying (steps : ℕ) (start : MachineState) (p : ScriptedSlot) (h : Host) : Type 0 where
   pub now : MachineState
   pub stands : slot_at p.id.0 h.slots ≡ Some now
-  pub few : length (script_keys p) ≤ most_keys
+  pub room : HaveRoom h.system start (script_keys p)
   pub on : IsOn h.system (script_keys p) steps start p.pace p.console.items p.list.items now
 
 -- and all its bytes are taken

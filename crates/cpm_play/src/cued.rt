@@ -10,14 +10,14 @@ ghost use Rattle.cpm_play.specs.Cued.{IsCued, IsCutOff, IsIdleCut, IsPressCut, I
 ghost use Rattle.cpm_play.specs.Cued.{looks_back, waits_at};
 ghost use Rattle.cpm_play.specs.Live.{AreGiven, IsGoing};
 ghost use Rattle.cpm_play.specs.Pacing.{without_text};
-ghost use Rattle.cpm_play.specs.Playing.{EndsAs, HasText, IsFresh, IsQuiet, alone_by};
+ghost use Rattle.cpm_play.specs.Playing.{EndsAs, HasText, HaveRoom, IsFresh, IsQuiet, alone_by};
 ghost use Rattle.cpm_play.specs.Shown.{HasGrown, IsKeptOrFound};
-ghost use Rattle.cpm_script.specs.Script.{most_keys};
 
 use crate::live::{LiveError, LivePlay, show};
 use crate::machine::{CHUNK, QUANTUM, drop_list, quantum_of};
 use crate::progress::{Watcher, progress_of_one};
 use crate::shown::Shown;
+use cpm_console::KEYS;
 use cpm_geom::Image;
 use cpm_machine::{End, Machine};
 use cpm_script::{Cue, Key};
@@ -162,6 +162,13 @@ fn runs(machine: &Machine) -> bool
     }
 }
 
+/// Whether one more key may be pending.
+fn takes_key(machine: &Machine) -> bool
+    ensures { result ≡ takes_key machine.now }
+{
+    machine.look().keys < KEYS
+}
+
 /// Whether the machine waits for a key and this text was shown.
 fn has_met(machine: &Machine, text: &[u8], shown: &Shown<'_>) -> bool
     ensures met { result ≡ true → ((look_of machine.now).waiting ≡ true) × IsKeptOrFound shown.now text.now }
@@ -171,7 +178,7 @@ fn has_met(machine: &Machine, text: &[u8], shown: &Shown<'_>) -> bool
 }
 
 impl LivePlay {
-    /// Presses a key at its count, if the machine then runs and that is within the steps; says whether it is.
+    /// Presses a key at its count, if the machine then runs and has room for it, and that is within the steps; says whether it is so.
     fn press<W: Write, S: Write, T: Watcher>(
         &mut self,
         system: &Image,
@@ -186,7 +193,6 @@ impl LivePlay {
         requires ascii { key.byte < 128 }
         requires later { self.old.steps ≤ key.count }
         requires quiet { IsQuiet machine.old }
-        requires room { takes_key machine.old ≡ true }
         ensures pressed { IfOk result (λ comes. comes ≡ true → HasPressed system.now key (key.count - self.old.steps) machine.old machine.new
             (W.contents out.old) (W.contents out.new) (S.contents record.old) (S.contents record.new)) }
         ensures count { IfOk result (λ comes. comes ≡ true → (key.count < steps) × (self.new.steps ≡ key.count)) }
@@ -205,7 +211,7 @@ impl LivePlay {
         self.steps += run(
             system, machine, left, false, false, shown, out, steps, watcher,
         )?;
-        if !runs(machine) {
+        if !runs(machine) || !takes_key(machine) {
             return Ok(false);
         }
         self.give(machine, key.byte, record)?;
@@ -260,7 +266,6 @@ pub(crate) fn follow<W: Write, S: Write, T: Watcher>(
 ) -> Result<LivePlay, LiveError>
     requires fresh { IsFresh machine.old }
     requires ascii { AreAscii cued.cues.now }
-    requires few { key_count cued.cues.now ≤ most_keys }
     ensures going { IfOk result (λ live. IsGoing system.now steps (key_count cued.entry.cues.now) machine.old machine.new
         (W.contents out.old) (W.contents out.new) (S.contents record.old) (S.contents record.new) live.keys.items live.steps) }
     ensures keys { IfOk result (λ live. StaysCued system.now machine.old steps live.steps cued.entry.waits_from cued.entry.cues.now live.keys.items) }
@@ -310,7 +315,7 @@ pub(crate) fn follow<W: Write, S: Write, T: Watcher>(
 }
 
 /// Plays one machine by a script that may wait, for at most so many steps, and writes its console bytes as they come. List bytes
-/// are dropped.
+/// are dropped. A key for which there is no room, where 4,096 are pending, is the end of the script, as one that comes past the machine's end.
 ///
 /// Each key is written to `record` as a line of a key script: by that script the machine shows and does the same again. The watcher is told after each turn how
 /// far it has come.
@@ -326,9 +331,9 @@ pub fn play_cues<W: Write, S: Write, T: Watcher>(
 ) -> Result<LivePlay, LiveError>
     requires fresh { IsFresh machine.old }
     requires ascii { AreAscii cued.cues.now }
-    requires few { key_count cued.cues.now ≤ most_keys }
     ensures within { IfOk result (λ live. live.steps ≤ steps) }
     ensures keys { IfOk result (λ live. IsCued system.now machine.old steps cued.entry.waits_from cued.entry.cues.now live.keys.items) }
+    ensures room { IfOk result (λ live. HaveRoom system.now machine.old live.keys.items) }
     ensures given { IfOk result (λ live. AreGiven (key_count cued.entry.cues.now) live.steps live.keys.items) }
     ensures text { IfOk result (λ live. Appends (W.contents out.old) (W.contents out.new)
         (alone_by system.now live.keys.items live.steps machine.old).session.console.screen) }

@@ -58,14 +58,14 @@ fn fork_at(
 ) -> Result<u64, PlayError>
     requires parent { parent < length players.old }
     requires place { place < length players.old }
-    ensures come { OnOk result ((old : HostValue) (given : List PlayerValue) → AllReady old.slots given
+    ensures come { OnOk result ((old : HostValue) (given : List PlayerValue) → AllReady old.system old.slots given
         → HaveBecome old host.old.host given players.old → HaveBecome old host.new.host given players.new) }
     ensures changes { OnOk result (ChangesPlayerAt place players.old players.new) }
     ensures parent { OnOk result (slice_get players.new parent ≡ slice_get players.old parent) }
     ensures far { IfOk result (λ steps. IsFar parent steps players.new place) }
     ensures some { IfOk result (λ steps. 1 ≤ steps) }
     ensures left { OnOk result (LeavesFewer players.old players.new) }
-    ensures refused { IfErr result (λ e. (old : HostValue) (given : List PlayerValue) → AllReady old.slots given
+    ensures refused { IfErr result (λ e. (old : HostValue) (given : List PlayerValue) → AllReady old.system old.slots given
         → HaveBecome old host.old.host given players.old → IsPlayRefusal old given e) }
 {
     let (Player::Playing(slot), Player::Waiting(fork)) = (&players[parent], &players[place]) else {
@@ -97,13 +97,13 @@ fn fork_due(
 ) -> Result<u64, PlayError>
     requires quantum { 1 ≤ quantum }
     requires within { parent < length players.old }
-    ensures come { OnOk result ((old : HostValue) (given : List PlayerValue) → AllReady old.slots given
+    ensures come { OnOk result ((old : HostValue) (given : List PlayerValue) → AllReady old.system old.slots given
         → HaveBecome old host.old.host given players.old → HaveBecome old host.new.host given players.new) }
     ensures keeps { OnOk result (KeepsPlaying players.old players.new) }
     ensures far { IfOk result (λ steps. NoneIsDue parent steps players.new) }
     ensures steps { IfOk result (λ steps. (1 ≤ steps) × (steps ≤ quantum)) }
     ensures left { OnOk result (LeavesFewer players.old players.new) }
-    ensures refused { IfErr result (λ e. (old : HostValue) (given : List PlayerValue) → AllReady old.slots given
+    ensures refused { IfErr result (λ e. (old : HostValue) (given : List PlayerValue) → AllReady old.system old.slots given
         → HaveBecome old host.old.host given players.old → IsPlayRefusal old given e) }
 {
     let mut steps = quantum;
@@ -135,14 +135,14 @@ pub(crate) fn fork_if_due(
     requires quantum { 1 ≤ quantum }
     requires within { parent < length players.old }
     requires none { may_fork ≡ false → has_fork players.old ≡ false }
-    ensures come { OnOk result ((old : HostValue) (given : List PlayerValue) → AllReady old.slots given
+    ensures come { OnOk result ((old : HostValue) (given : List PlayerValue) → AllReady old.system old.slots given
         → HaveBecome old host.old.host given players.old → HaveBecome old host.new.host given players.new) }
     ensures keeps { OnOk result (KeepsPlaying players.old players.new) }
     ensures far { IfOk result (λ steps. NoneIsDue parent steps players.new) }
     ensures steps { IfOk result (λ steps. (1 ≤ steps) × (steps ≤ quantum)) }
     ensures left { OnOk result (LeavesFewer players.old players.new) }
     ensures none { OnOk result (may_fork ≡ false → has_fork players.new ≡ false) }
-    ensures refused { IfErr result (λ e. (old : HostValue) (given : List PlayerValue) → AllReady old.slots given
+    ensures refused { IfErr result (λ e. (old : HostValue) (given : List PlayerValue) → AllReady old.system old.slots given
         → HaveBecome old host.old.host given players.old → IsPlayRefusal old given e) }
 {
     if !may_fork {

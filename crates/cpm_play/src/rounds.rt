@@ -71,12 +71,12 @@ fn round(
 ) -> Result<(), PlayError>
     requires quantum { 1 ≤ quantum }
     requires none { may_fork ≡ false → has_fork players.old ≡ false }
-    ensures come { OnOk result ((old : HostValue) (given : List PlayerValue) → AllReady old.slots given
+    ensures come { OnOk result ((old : HostValue) (given : List PlayerValue) → AllReady old.system old.slots given
         → HaveBecome old host.old.host given players.old → HaveBecome old host.new.host given players.new) }
-    ensures left { OnOk result ((old : HostValue) (given : List PlayerValue) → AllReady old.slots given
+    ensures left { OnOk result ((old : HostValue) (given : List PlayerValue) → AllReady old.system old.slots given
         → HaveBecome old host.old.host given players.old → 0 < players_left players.old → players_left players.new < players_left players.old) }
     ensures none { OnOk result (may_fork ≡ false → has_fork players.new ≡ false) }
-    ensures refused { IfErr result (λ e. (old : HostValue) (given : List PlayerValue) → AllReady old.slots given
+    ensures refused { IfErr result (λ e. (old : HostValue) (given : List PlayerValue) → AllReady old.system old.slots given
         → HaveBecome old host.old.host given players.old → IsPlayRefusal old given e) }
 {
     for place in 0..players.len() {
@@ -108,7 +108,7 @@ pub fn play<T: Watcher>(
     watcher: &mut T,
 ) -> Result<(), PlayError>
     requires quantum { 1 ≤ quantum }
-    requires ready { AllReady host.old.host.slots players.old }
+    requires ready { AllReady host.old.host.system host.old.host.slots players.old }
     requires differ { AllDiffer players.old }
     ensures played { OnOk result (AllPlayed host.old.host host.new.host players.old players.new) }
     ensures others { OnOk result (LeavesRest (ids_of players.old) host.old.host host.new.host) }

@@ -29,7 +29,7 @@ fn press_due(host: &mut Host, slot: &mut ScriptedSlot)
     ensures done { slot.new.pace.done ≡ slot.old.pace.done }
 {
     while let Some(key) = slot.pace.due(&slot.keys) {
-        // 4,096 keys at most were given, so that it is not refused.
+        // It finds room where it comes, so that it is not refused.
         let _ = host.key(slot.id, key);
         slot.pace.pressed += 1;
     }

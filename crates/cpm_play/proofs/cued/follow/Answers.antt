@@ -4,7 +4,7 @@ use Rattle.std.proofs.lemmas.Result.{err_from_is_err_and}
 use Rattle.cpm_script.specs.declared.cue.Cue.TheVariants.{Wait, Press}
 use Rattle.cpm_play.specs.Cued.{looks_back}
 use Rattle.cpm_play.proofs.CuedLemmas.{going-cut, going-press-cut}
-use Rattle.cpm_play.proofs.FollowLemmas.{at-key, at-wait, follow-end, follow-found, follow-pressed, follow-start, key-comes, key-cued, missed-busy, missed-cued, missed-going, past-cued, takes-cue, unfound-cued, wait-busy, wait-cued, wait-going}
+use Rattle.cpm_play.proofs.FollowLemmas.{at-key, at-wait, follow-end, follow-found, follow-pressed, follow-start, key-comes, key-cued, missed-busy, missed-cued, missed-going, past-cued, unfound-cued, wait-busy, wait-cued, wait-going}
 use Rattle.cpm_play.proofs.cued.follow.Goals.{in-Key, in-Press, else-live-steps-via-then-live-steps+else-has_met, else-live-steps-via-else-live-steps}
 use Rattle.cpm_play.proofs.cued.follow.Goals as goal
 
@@ -34,15 +34,6 @@ press-requires-clause-later g c =
 pub press-requires-clause-quiet : goal.press-requires-clause-quiet
 press-requires-clause-quiet g c =
     c.loop-cue.invariant.going.quiet
-
-pub press-requires-clause-room : goal.press-requires-clause-room
-press-requires-clause-room g c =
-    let cue = at-key c.in-Some.cue.now c.loop-cue.rest.now c.in-Some.after.now c.match-cue.count.0 c.match-cue.count.1 c.in-Some.ensures.cases.0
-    (elim c.match-cue.branch [
-      | in-Key w ↦ inl (w.in-Key.key, w.in-Key.is, ap (λ p. p.0) w.count-is ∙ w.max.ensures, ap (λ p. p.1) w.count-is)
-      | in-Press w ↦ inr (w.in-Press.is ∙ sym (ap (λ p. Press p.1) w.count-is), ap (λ p. p.0) w.count-is)
-    ]) c.loop-cue.invariant in
-    takes-cue c.loop-cue.invariant cue c.requires.few
 
 pub loop-cue-preserved : goal.loop-cue-preserved
 loop-cue-preserved g c =

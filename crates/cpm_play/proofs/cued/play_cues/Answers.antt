@@ -2,6 +2,7 @@ use Rattle.std.proofs.Common.{inl, inr, arith}
 use Rattle.std.proofs.lemmas.Result.{err_from_is_err_and}
 use Rattle.cpm_play.proofs.CuedLemmas.{cued-whole, going-cut, idle-ends, idle-going}
 use Rattle.cpm_play.proofs.GoingLemmas.{going-ending, going-given, going-shown, going-waiting}
+use Rattle.cpm_play.proofs.RoomLemmas.{cued-room}
 use Rattle.cpm_play.proofs.cued.play_cues.Goals.{then-cued, else-cued}
 use Rattle.cpm_play.proofs.cued.play_cues.Goals as goal
 
@@ -23,6 +24,10 @@ returns-in_err-idle-clause-refused g c =
 pub returns-clause-keys : goal.returns-clause-keys
 returns-clause-keys g c =
     rw c.idle.ensures.still (cued-whole _ _ _ _ _ _ _ c.in_ok-live.ensures.going.within c.in_ok-live.ensures.keys)
+
+pub returns-clause-room : goal.returns-clause-room
+returns-clause-room g c =
+    rw c.idle.ensures.still (cued-room _ _ _ _ _ _ _ _ _ _ tt (cued-whole _ _ _ _ _ _ _ c.in_ok-live.ensures.going.within c.in_ok-live.ensures.keys))
 
 pub returns-clause-given : goal.returns-clause-given
 returns-clause-given g c =
