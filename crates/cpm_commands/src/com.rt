@@ -4,7 +4,7 @@ ghost use Rattle.std.specs.Vec.{vec_capacity};
 ghost use Rattle.cpm_batch.specs.Outputs.{named_image};
 ghost use Rattle.cpm_commands.specs.Com.{AreCuesRead, AreCuesRefused, AreDrivesRead, AreDrivesRefused};
 ghost use Rattle.cpm_commands.specs.Com.{HasRunProgram, IsComStopped, IsStartRead, IsStartRefused, IsTailOf};
-ghost use Rattle.cpm_commands.specs.Com.{drive_outputs, most_typed, plan_of_com, source_of, steps_asked};
+ghost use Rattle.cpm_commands.specs.Com.{drive_outputs, plan_of_com, source_of, steps_asked};
 ghost use Rattle.cpm_commands.specs.Messages.{HasToldEnd};
 ghost use Rattle.cpm_commands.specs.Plan.{plan_view};
 ghost use Rattle.cpm_commands.specs.Record.{HasEndedRecord};
@@ -20,26 +20,15 @@ use crate::plan::{FilePlan, FileRole, OutputNaming, add_all, add_file, add_if_an
 use crate::record::{KeyRecord, end_record};
 use cpm_geom::Image;
 use cpm_host::{
-    ComTask, Cue, CuedKeys, HostError, MOST_KEYS, ProgramPlay, ProgramStart, RunStage, RunWatcher,
-    Source, Tail, cues_of, run_program, tail_of,
+    ComTask, Cue, CuedKeys, HostError, ProgramPlay, ProgramStart, RunStage, RunWatcher, Source,
+    Tail, Typist, cues_of, run_program, tail_of,
 };
 use cpm_store::Output;
 use std::alloc::{AllocError, Global};
-use std::io::{Read, Write};
+use std::io::Write;
 
 /// How many steps a program has at most where nobody says.
 const STEPS: u64 = 1_000_000;
-
-/// The most keys that are typed at a program: a record is a script, which has not more.
-pub fn most_keys(task: &ComTask<'_>) -> usize
-    ensures { result ≡ most_typed (option_map (λ n. n.now) task.now.record) }
-{
-    if task.record.is_some() {
-        MOST_KEYS
-    } else {
-        usize::MAX
-    }
-}
 
 /// The files that `com` names.
 fn plan_of<'a>(alloc: Global, task: &ComTask<'a>) -> Result<FilePlan<'a>, AllocError>
@@ -131,9 +120,7 @@ fn source_of<'a>(task: &ComTask<'_>, cues: &'a [Cue]) -> Source<'a>
     ensures { source_of task.now cues.entry.now result }
 {
     if task.is_live {
-        Source::Typed {
-            most_keys: most_keys(task),
-        }
+        Source::Typed { cues }
     } else {
         Source::Cues(CuedKeys {
             cues,
@@ -204,22 +191,28 @@ fn is_idle(waits: bool, stops_idle: bool) -> bool
 }
 
 /// Runs the program in a file, shows its text as it comes, writes its drives where files are named for them, once it has run, and tells how it ended.
-pub fn run_program_file<F: CommandFiles, I: Read, W: Write, R: KeyRecord, T: RunWatcher + Messages>(
+pub fn run_program_file<
+    F: CommandFiles,
+    P: Typist,
+    W: Write,
+    R: KeyRecord,
+    T: RunWatcher + Messages,
+>(
     alloc: Global,
     task: &ComTask<'_>,
     files: &mut F,
-    input: &mut I,
+    typist: &mut P,
     out: &mut W,
     record: &mut R,
     watcher: &mut T,
 ) -> Result<(), HostError>
     ensures ran { OnOk result (HasRunProgram F.does F.sees_to F.gives_names (HasEndedRecord R.ends R.contents (R.contents «record».new) «record».new)
         (λ ending waits. HasToldEnd T.tells task.now.is_quiet ending waits watcher.new) task.now
-        (streams (I.remaining input.old) (I.remaining input.new) (W.contents out.old) (W.contents out.new) (R.contents «record».old) (R.contents «record».new))
+        (streams (P.typing typist.old) (P.typing typist.new) (W.contents out.old) (W.contents out.new) (R.contents «record».old) (R.contents «record».new))
         files.old files.new) }
     ensures refusal { IfErr result (IsComStopped F.does F.sees_to F.gives_names (HasEndedRecord R.ends R.contents (R.contents «record».new) «record».new)
         task.now
-        (streams (I.remaining input.old) (I.remaining input.new) (W.contents out.old) (W.contents out.new) (R.contents «record».old) (R.contents «record».new))
+        (streams (P.typing typist.old) (P.typing typist.new) (W.contents out.old) (W.contents out.new) (R.contents «record».old) (R.contents «record».new))
         files.old files.new) }
 {
     let tail = tail_if_any(alloc, task)?;
@@ -235,7 +228,7 @@ pub fn run_program_file<F: CommandFiles, I: Read, W: Write, R: KeyRecord, T: Run
         start,
         steps_asked(task),
         source,
-        input,
+        typist,
         out,
         record,
         watcher,

@@ -20,7 +20,7 @@ mod typed;
 
 pub use asm::assemble_file;
 pub use check::check_image;
-pub use com::{most_keys, run_program_file};
+pub use com::run_program_file;
 pub use debug::debug_program;
 pub use disk::{PutOptions, list_disk, new_disk, put_files, remove_from_disk, rename_on_disk};
 pub use files::CommandFiles;

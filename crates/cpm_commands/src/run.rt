@@ -17,13 +17,13 @@ use crate::plan::{
 };
 use crate::record::{KeyRecord, end_record};
 use crate::report::{LineWriter, print_report};
-use crate::typed::{drop_script, is_typed_at};
+use crate::typed::is_typed_at;
 use cpm_host::{
     Config, HostError, Origin, RecordFile, Report, RunOptions, RunTask, RunWatcher, SessionConfig,
-    run_host,
+    Typist, run_host,
 };
 use std::alloc::{AllocError, Global};
-use std::io::{Read, Write};
+use std::io::Write;
 
 /// Who is told how a run goes on, and of its sessions before.
 pub trait SessionsWatcher: RunWatcher {
@@ -247,22 +247,22 @@ fn see_to_run<F: CommandFiles>(
 }
 
 /// Runs the sessions of a configuration with what was asked, and writes what they leave and their records.
-fn run_all<F: CommandFiles, I: Read, W: Write, R: KeyRecord, T: SessionsWatcher>(
+fn run_all<F: CommandFiles, P: Typist, W: Write, R: KeyRecord, T: SessionsWatcher>(
     alloc: Global,
     task: &RunTask<'_>,
-    config: &mut Config,
+    config: &Config,
     scripts: &[String],
     files: &mut F,
-    input: &mut I,
+    typist: &mut P,
     out: &mut W,
     record: &mut R,
     watcher: &mut T,
 ) -> Result<Report, HostError>
-    ensures ran { IfOk result (λ report. HasRunAll F.does F.tells_name task.now config.old scripts.now report
-        (streams (I.remaining input.old) (I.remaining input.new) (W.contents out.old) (W.contents out.new) (R.contents «record».old) (R.contents «record».new))
+    ensures ran { IfOk result (λ report. HasRunAll F.does F.tells_name task.now config.now scripts.now report
+        (streams (P.typing typist.old) (P.typing typist.new) (W.contents out.old) (W.contents out.new) (R.contents «record».old) (R.contents «record».new))
         files.old files.new) }
-    ensures refusal { IfErr result (IsRunAllStopped F.does F.tells_name task.now config.old scripts.now
-        (streams (I.remaining input.old) (I.remaining input.new) (W.contents out.old) (W.contents out.new) (R.contents «record».old) (R.contents «record».new))
+    ensures refusal { IfErr result (IsRunAllStopped F.does F.tells_name task.now config.now scripts.now
+        (streams (P.typing typist.old) (P.typing typist.new) (W.contents out.old) (W.contents out.new) (R.contents «record».old) (R.contents «record».new))
         files.old files.new) }
 {
     let kept = kept_script(config, scripts, task.keyboard, files);
@@ -272,18 +272,17 @@ fn run_all<F: CommandFiles, I: Read, W: Write, R: KeyRecord, T: SessionsWatcher>
         stops_idle: task.stops_idle,
         records: records.as_slice(),
     };
-    drop_script(config, task.keyboard);
     watcher.meet(config);
-    let report = run_host(alloc, config, options, files, input, out, record, watcher)?;
+    let report = run_host(alloc, config, options, files, typist, out, record, watcher)?;
     watcher.end(kept);
     Ok(report)
 }
 
-/// Runs the sessions of the configuration in a file, one of them by the keys of an input if that is asked; gives what they leave its names, and prints how each
+/// Runs the sessions of the configuration in a file, one of them by the keys that are typed if that is asked; gives what they leave its names, and prints how each
 /// ended.
 pub fn run_sessions<
     F: CommandFiles,
-    I: Read,
+    P: Typist,
     W: LineWriter,
     R: KeyRecord,
     T: SessionsWatcher + Messages,
@@ -291,33 +290,25 @@ pub fn run_sessions<
     alloc: Global,
     task: &RunTask<'_>,
     files: &mut F,
-    input: &mut I,
+    typist: &mut P,
     out: &mut W,
     record: &mut R,
     watcher: &mut T,
 ) -> Result<(), HostError>
     ensures ran { OnOk result (HasRunSessions F.does F.sees_to F.gives_names F.tells_name
         (HasEndedRecord R.ends R.contents (R.contents «record».new) «record».new) (λ sessions. HasToldIllegal T.tells sessions watcher.new)
-        task.now files.old files.new (I.remaining input.old) (I.remaining input.new) (W.contents out.old) (W.contents out.new)
+        task.now files.old files.new (P.typing typist.old) (P.typing typist.new) (W.contents out.old) (W.contents out.new)
         (R.contents «record».old) (R.contents «record».new)) }
     ensures refusal { IfErr result (IsRunStopped F.does F.sees_to F.gives_names F.tells_name
         (HasEndedRecord R.ends R.contents (R.contents «record».new) «record».new) (λ sessions. HasToldIllegal T.tells sessions watcher.new)
-        task.now files.old files.new (I.remaining input.old) (I.remaining input.new) (W.contents out.old) (W.contents out.new)
+        task.now files.old files.new (P.typing typist.old) (P.typing typist.new) (W.contents out.old) (W.contents out.new)
         (R.contents «record».old) (R.contents «record».new)) }
 {
-    let mut config = read_config(alloc, task.config, files)?;
+    let config = read_config(alloc, task.config, files)?;
     let scripts = script_names(alloc, &config, task.scripts)?;
     see_to_run(alloc, task, &config, &scripts, files)?;
     let report = run_all(
-        alloc,
-        task,
-        &mut config,
-        &scripts,
-        files,
-        input,
-        out,
-        record,
-        watcher,
+        alloc, task, &config, &scripts, files, typist, out, record, watcher,
     )?;
     let ended = end_run(alloc, &report, files, out, watcher);
     // (what was typed is recorded also where what was played can't be written)

@@ -23,7 +23,7 @@ use crate::record::KeyRecord;
 use crate::report::{LineWriter, print_text};
 use crate::run::{SessionsWatcher, run_sessions};
 use cpm_command_line::{Page, page_text};
-use cpm_host::{DiskTask, HostError, Task};
+use cpm_host::{DiskTask, HostError, Task, Typist};
 use std::alloc::Global;
 use std::io::{BufRead, Write};
 
@@ -51,7 +51,8 @@ fn do_disk<F: CommandFiles, W: Write>(
           new = files.new;
           out = out.old;
           out_now = out.new;
-          io = streams None None (W.contents out.old) (W.contents out.new) None None;
+          io = streams nobody nobody (W.contents out.old) (W.contents out.new) None None;
+          unread = None;
         }) task.now) }
     ensures refusal { IfErr result (IsDiskTaskRefused
         (record { does = F.does; sees_to = F.sees_to; gives_names = F.gives_names; tells_name = F.tells_name; tells_folder = F.tells_folder })
@@ -60,7 +61,8 @@ fn do_disk<F: CommandFiles, W: Write>(
           new = files.new;
           out = out.old;
           out_now = out.new;
-          io = streams None None (W.contents out.old) (W.contents out.new) None None;
+          io = streams nobody nobody (W.contents out.old) (W.contents out.new) None None;
+          unread = None;
         }) task.now) }
 {
     match task {
@@ -113,6 +115,7 @@ fn do_disk<F: CommandFiles, W: Write>(
 pub fn do_task<
     F: CommandFiles,
     I: BufRead,
+    P: Typist,
     W: LineWriter,
     R: KeyRecord,
     T: SessionsWatcher + Messages,
@@ -121,6 +124,7 @@ pub fn do_task<
     task: &Task<'_>,
     files: &mut F,
     input: &mut I,
+    typist: &mut P,
     out: &mut W,
     record: &mut R,
     watcher: &mut T,
@@ -138,8 +142,9 @@ pub fn do_task<
           new = files.new;
           out = out.old;
           out_now = out.new;
-          io = streams (I.remaining input.old) (I.remaining input.new) (W.contents out.old) (W.contents out.new)
+          io = streams (P.typing typist.old) (P.typing typist.new) (W.contents out.old) (W.contents out.new)
               (R.contents «record».old) (R.contents «record».new);
+          unread = I.remaining input.old;
         }) task.now) }
     ensures refusal { IfErr result (IsTaskRefused
         (record { does = F.does; sees_to = F.sees_to; gives_names = F.gives_names; tells_name = F.tells_name; tells_folder = F.tells_folder })
@@ -153,12 +158,13 @@ pub fn do_task<
           new = files.new;
           out = out.old;
           out_now = out.new;
-          io = streams (I.remaining input.old) (I.remaining input.new) (W.contents out.old) (W.contents out.new)
+          io = streams (P.typing typist.old) (P.typing typist.new) (W.contents out.old) (W.contents out.new)
               (R.contents «record».old) (R.contents «record».new);
+          unread = I.remaining input.old;
         }) task.now) }
 {
     match task {
-        Task::Com(task) => run_program_file(alloc, task, files, input, out, record, watcher),
+        Task::Com(task) => run_program_file(alloc, task, files, typist, out, record, watcher),
         Task::Asm {
             source,
             out: image,
@@ -166,7 +172,7 @@ pub fn do_task<
         } => assemble_file(alloc, source, image, *list, files),
         Task::List { file, cpu } => list_program(alloc, file, *cpu, files, out),
         Task::Check { image } => check_image(alloc, image, files, out),
-        Task::Run(task) => run_sessions(alloc, task, files, input, out, record, watcher),
+        Task::Run(task) => run_sessions(alloc, task, files, typist, out, record, watcher),
         Task::Debug { file, cpu, list } => {
             debug_program(alloc, file, *cpu, *list, files, input, out)
         }

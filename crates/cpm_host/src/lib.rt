@@ -21,13 +21,17 @@ pub use cpm_command_line::{
 pub use cpm_config::{Config, ConfigError, Origin, SessionConfig};
 pub use cpm_debug::{DebugError, run_debug};
 pub use cpm_machine::{End, Tail};
-pub use cpm_play::{CuedKeys, NoWatcher, Progress, Watcher};
+pub use cpm_play::{
+    CuedKeys, Heard, KeyNeed, KeyReader, NoWatcher, PlayEnd, Progress, TypingEnd, Typist, Watcher,
+};
 pub use cpm_refusals::RefusalCode;
 pub use cpm_run::{
     Ending, IllegalBytes, RecordFile, Report, RunError, RunOptions, RunStage, RunWatcher,
     SessionReport, end_word, run_host,
 };
-pub use cpm_script::{Cue, Key, LineFault, MOST_KEYS, ScriptError, key_line, read_keys};
+pub use cpm_script::{
+    Cue, Key, LineFault, MOST_KEYS, ScriptError, key_line, read_keys, read_recording,
+};
 pub use cpm_store::{MemoryStore, Store, StoreError};
 pub use error::HostError;
 pub use input::{MOST_FILE, read_whole};

@@ -6,6 +6,7 @@ ghost use Rattle.cpm_script.specs.Cues.{all_said, cues};
 ghost use Rattle.cpm_machine.specs.MachineState.{opened_with};
 ghost use Rattle.cpm_machine.specs.Opening.{program_fault, IsRefusal, most_program};
 ghost use Rattle.cpm_play.specs.Playing.{IsFresh};
+ghost use Rattle.cpm_play.specs.Typist.{TypingState};
 ghost use Rattle.cpm_run.specs.Settled.{streams};
 ghost use Rattle.cpm_host.specs.Program.{AreFit, IsCueRefusal, IsCutCued, IsFitSource, IsLiveCut, IsPlayedBy, IsPlayedCued, IsPlayedLive};
 ghost use Rattle.cpm_host.specs.Program.{IsProgramPlayRefusal, IsProgramRefusal, IsScriptTold};
@@ -19,12 +20,12 @@ use cpm_geom::{Format, Image};
 use cpm_machine::{
     Closed, MOST_DRIVES, MOST_PROGRAM, MOST_QUOTA, Machine, OpenError, Opening, Tail,
 };
-use cpm_play::{CuedKeys, LivePlay, Watcher, play_cues, play_live};
+use cpm_play::{CuedKeys, LivePlay, PlayEnd, Typist, Watcher, play_cues, play_live};
 use cpm_run::{Ending, RunError};
-use cpm_script::laws::{cues_in_order, recorded_keys};
+use cpm_script::laws::{cues_in_order, recordings_give_their_keys_again};
 use cpm_script::{Cue, Key, ScriptError, read_cues};
 use std::alloc::Global;
-use std::io::{Read, Write};
+use std::io::Write;
 
 /// The refusal of the script in a file of this name.
 fn script_refused(name: &str, error: ScriptError) -> HostError
@@ -62,8 +63,8 @@ pub fn cues_of(alloc: Global, name: &str, text: &[u8]) -> Result<Vec<Cue>, HostE
 pub enum Source<'a> {
     /// What its script says, whose lines may wait.
     Cues(CuedKeys<'a>),
-    /// What is typed, at most so many keys.
-    Typed { most_keys: usize },
+    /// What a script says, if anything, and then what is typed.
+    Typed { cues: &'a [Cue] },
 }
 
 /// What a program runs with.
@@ -105,6 +106,8 @@ pub struct ProgramPlay {
     pub steps: u64,
     /// Whether the machine then waits for a key.
     pub waits: bool,
+    /// Why it ended, where keys were typed.
+    pub end: Option<PlayEnd>,
 }
 
 /// The drives, or one blank drive where there are none.
@@ -163,8 +166,8 @@ fn begun(
 }
 
 /// What a machine came to that was played so.
-fn play_of(machine: Machine, live: LivePlay) -> ProgramPlay
-    ensures { result ≡ play_of machine live }
+fn play_of(machine: Machine, live: LivePlay, end: Option<PlayEnd>) -> ProgramPlay
+    ensures { result ≡ play_of machine live end }
 {
     let ending = Ending::of(&machine);
     let waits = machine.look().waiting;
@@ -175,6 +178,7 @@ fn play_of(machine: Machine, live: LivePlay) -> ProgramPlay
         keys: live.keys,
         steps: live.steps,
         waits,
+        end,
     }
 }
 
@@ -191,12 +195,12 @@ fn play_cued<W: Write, S: Write, T: Watcher>(
 ) -> Result<ProgramPlay, HostError>
     requires fresh { IsFresh machine }
     requires fit { AreFit cued.cues.now }
-    ensures played { IfOk result (λ t. (unread : Option (List ℕ)) → IsPlayedCued system.now machine steps cued.entry t
-        (streams unread unread (W.contents out.old) (W.contents out.new) (S.contents «record».old) (S.contents «record».new))) }
-    ensures refusal { IfErr result (λ e. (unread : Option (List ℕ)) → IsCutCued system.now machine steps cued.entry
-        (streams unread unread (W.contents out.old) (W.contents out.new) (S.contents «record».old) (S.contents «record».new)) e) }
+    ensures played { IfOk result (λ t. (typing : TypingState) → IsPlayedCued system.now machine steps cued.entry t
+        (streams typing typing (W.contents out.old) (W.contents out.new) (S.contents «record».old) (S.contents «record».new))) }
+    ensures refusal { IfErr result (λ e. (typing : TypingState) → IsCutCued system.now machine steps cued.entry
+        (streams typing typing (W.contents out.old) (W.contents out.new) (S.contents «record».old) (S.contents «record».new)) e) }
 {
-    recorded_keys();
+    recordings_give_their_keys_again();
     let mut machine = machine;
     let live = play_cues(
         alloc,
@@ -208,66 +212,67 @@ fn play_cued<W: Write, S: Write, T: Watcher>(
         record,
         watcher,
     )?;
-    Ok(play_of(machine, live))
+    Ok(play_of(machine, live, None))
 }
 
-/// Plays a machine by the keys that are typed, at most so many, and for at most `steps` steps.
-fn play_typed<I: Read, W: Write, S: Write>(
+/// Plays a machine by a script and then by the keys that are typed, for at most `steps` steps.
+fn play_typed<P: Typist, W: Write, S: Write>(
     alloc: Global,
     system: &Image,
     machine: Machine,
     steps: u64,
-    most_keys: usize,
-    input: &mut I,
+    cues: &[Cue],
+    typist: &mut P,
     out: &mut W,
     record: &mut S,
 ) -> Result<ProgramPlay, HostError>
-    requires { IsFresh machine }
-    ensures played { IfOk result (λ t. IsPlayedLive system.now machine steps most_keys t (streams (I.remaining input.old) (I.remaining input.new)
+    requires fresh { IsFresh machine }
+    requires fit { AreFit cues.now }
+    ensures played { IfOk result (λ t. IsPlayedLive system.now machine steps cues.entry.now t (streams (P.typing typist.old) (P.typing typist.new)
         (W.contents out.old) (W.contents out.new) (S.contents «record».old) (S.contents «record».new))) }
-    ensures refusal { IfErr result (IsLiveCut system.now machine steps most_keys (streams (I.remaining input.old) (I.remaining input.new)
+    ensures refusal { IfErr result (IsLiveCut system.now machine steps cues.entry.now (streams (P.typing typist.old) (P.typing typist.new)
         (W.contents out.old) (W.contents out.new) (S.contents «record».old) (S.contents «record».new))) }
 {
-    recorded_keys();
+    recordings_give_their_keys_again();
     let mut machine = machine;
-    let live = play_live(
+    let play = play_live(
         alloc,
         system,
         &mut machine,
         steps,
-        most_keys,
-        input,
+        cues,
+        typist,
         out,
         record,
     )?;
-    Ok(play_of(machine, live))
+    Ok(play_of(machine, play.live, Some(play.end)))
 }
 
-/// Runs a program on a machine of its own, with a blank system drive, for at most `steps` steps. Its keys are what its script says, or are typed on `input`,
-/// which is read for no script. It writes what the program shows as it comes, and each key to `record` as a line of a key script. What it sends to its list
+/// Runs a program on a machine of its own, with a blank system drive, for at most `steps` steps. Its keys are what its script says, or that and then
+/// what is typed; without typing nobody is asked for a key. It writes what the program shows as it comes, and each key to `record` as a line of a key script. What it sends to its list
 /// device is dropped. Where it goes by a script the watcher is told on the way how far it has come.
 ///
 /// `ProgramTooLong`, `OpeningRefused` for more than four drives, and `OutOfMemory` for the machine come before anything is read or written.
 /// `InputUnreadable`, `OutputUnwritable` and `RecordUnwritable` have the errors of the three.
-pub fn run_program<I: Read, W: Write, S: Write, T: Watcher>(
+pub fn run_program<P: Typist, W: Write, S: Write, T: Watcher>(
     alloc: Global,
     start: ProgramStart,
     steps: u64,
     source: Source<'_>,
-    input: &mut I,
+    typist: &mut P,
     out: &mut W,
     record: &mut S,
     watcher: &mut T,
 ) -> Result<ProgramPlay, HostError>
     requires fit { IsFitSource source }
     ensures played { IfOk result (λ t. IsPlayedBy source.entry (blank_disk Ibm3740) (machine_of (program_given start)) steps t
-        (streams (I.remaining input.old) (I.remaining input.new) (W.contents out.old) (W.contents out.new)
+        (streams (P.typing typist.old) (P.typing typist.new) (W.contents out.old) (W.contents out.new)
         (S.contents «record».old) (S.contents «record».new))) }
     ensures fits { OnOk result ((length (program_given start).program ≤ most_program) × (length (program_given start).drives ≤ 4)) }
     ensures too_long { IsErrOf result (HostError.ProgramTooLong (length (program_given start).program))
         ↔ (most_program < length (program_given start).program) }
     ensures refusal { IfErr result (IsProgramPlayRefusal source.entry (program_given start) steps
-        (streams (I.remaining input.old) (I.remaining input.new) (W.contents out.old) (W.contents out.new)
+        (streams (P.typing typist.old) (P.typing typist.new) (W.contents out.old) (W.contents out.new)
         (S.contents «record».old) (S.contents «record».new))) }
 {
     let machine = machine_of(alloc, start)?;
@@ -276,8 +281,8 @@ pub fn run_program<I: Read, W: Write, S: Write, T: Watcher>(
         Source::Cues(cued) => {
             play_cued(alloc, &system, machine, steps, cued, out, record, watcher)
         }
-        Source::Typed { most_keys } => play_typed(
-            alloc, &system, machine, steps, most_keys, input, out, record,
-        ),
+        Source::Typed { cues } => {
+            play_typed(alloc, &system, machine, steps, cues, typist, out, record)
+        }
     }
 }

@@ -3,7 +3,6 @@
 ghost use Rattle.std.specs.Prelude.{◌≡◌, ◌≤◌, ◌<◌, ◌++◌, ◌∷◌, [], false, true, length, IfErr, IfOk, OnErr, OnOk};
 ghost use Rattle.std.specs.Io.KnownBytes.{Appends};
 ghost use Rattle.cpm_script.specs.Recording.{key_line, recorded};
-ghost use Rattle.cpm_script.specs.Script.{most_keys};
 ghost use Rattle.cpm_machine.specs.Serve.{keyed, look_of, takes_key};
 ghost use Rattle.cpm_machine.specs.Step.{after, is_running};
 ghost use Rattle.cpm_play.specs.Cued.{AreAscii, IsCued, IsCutOff, key_count};
@@ -129,7 +128,7 @@ impl LivePlay {
         if let Err(error) = write_line(record, key) {
             return Err(LiveError::Unrecorded(error));
         }
-        // No key is pending, so that it is not refused.
+        // There is room for it, so that it is not refused.
         let _ = machine.key(byte);
         Ok(())
     }
@@ -188,7 +187,6 @@ fn play_script<W: Write, S: Write>(
 ) -> Result<LivePlay, LiveError>
     requires fresh { IsFresh machine.old }
     requires ascii { AreAscii cues.now }
-    requires few { key_count cues.now ≤ most_keys }
     ensures going { IfOk result (λ live. IsGoing system.now steps (key_count cues.entry.now) machine.old machine.new
         (W.contents out.old) (W.contents out.new) (S.contents record.old) (S.contents record.new) live.keys.items live.steps) }
     ensures keys { IfOk result (λ live. IsCued system.now machine.old steps 0 cues.entry.now live.keys.items) }
@@ -238,7 +236,6 @@ pub fn play_live<T: Typist, W: Write, S: Write>(
 ) -> Result<TypedPlay, LiveError>
     requires fresh { IsFresh machine.old }
     requires ascii { AreAscii cues.now }
-    requires few { key_count cues.now ≤ most_keys }
     ensures within { IfOk result (λ play. play.live.steps ≤ steps) }
     ensures keys { IfOk result (λ play. AreGiven (length play.live.keys.items) play.live.steps play.live.keys.items) }
     ensures played { IfOk result (λ play. IsTypedPlay (sitting (T.typing typist.old).is_patient system.now machine.old steps cues.entry.now)

@@ -11,7 +11,7 @@ pub struct RecordFile<'a> {
 /// What is asked of a run besides its configuration.
 #[derive(Clone, Copy, Debug)]
 pub struct RunOptions<'a> {
-    /// The name of the session that is typed at. A script that it has is read and judged, and isn't played. (`cpmhost run` takes it out before.)
+    /// The name of the session that is typed at, after its script, if it has one.
     pub typed: Option<&'a str>,
     /// Whether each session ends where it waits for a key and no key of its script will come.
     pub stops_idle: bool,

@@ -23,10 +23,11 @@ use cpm_batch::{outputs_of, read_inputs};
 use cpm_command_line::shown;
 use cpm_config::{Config, ConfigError, ConfigKey, Field};
 use cpm_geom::Image;
+use cpm_play::Typist;
 use cpm_slots::{LEAST_FRAMES, MOST_FRAMES};
 use cpm_store::{Output, Store, StoreError, write_all};
 use std::alloc::Global;
-use std::io::{Read, Write};
+use std::io::Write;
 
 /// A number of the configuration with which nothing can be run.
 fn top_fault(config: &Config) -> Option<Field>
@@ -110,36 +111,36 @@ fn play_inputs<'a, T: RunWatcher>(
 
 /// Runs the sessions of a configuration over the files of a store. It reads the system drive's image, then each session's drives and
 /// script, each once and checked before the next is read. Where a session is to be typed at, where a script waits, or where sessions stop idle, all
-/// openings and forks are judged then; the session that is named is played by itself by the keys of `input`, and what it shows goes to `out` and its
+/// openings and forks are judged then; the session that is named is played by itself by its script and then by the keys that are typed, and what it shows goes to `out` and its
 /// keys to `record`; and each other one is that waits or stops idle, so that its keys are those that come. It opens all that aren't forked; plays them by
 /// turns in their order, and forks the others from them on the way; then writes of each in order its console's text, its list device's and its drives, and
 /// at last the records of their keys. Each session is reported. The watcher is told on the way how far they have come.
 ///
 /// The first refusal met is answered. But for `WriteFault` and `OutOfMemory` nothing was written then, and but for these, `TooManyKeys` and the faults of the
 /// three streams no key was read. With `WriteFault` and `OutOfMemory` the files before one hold what they should, and no name after it was written.
-pub fn run_host<'a, S: Store, I: Read, W: Write, R: Write, T: RunWatcher>(
+pub fn run_host<'a, S: Store, P: Typist, W: Write, R: Write, T: RunWatcher>(
     alloc: Global,
     config: &'a Config,
     options: RunOptions<'a>,
     store: &mut S,
-    input: &mut I,
+    typist: &mut P,
     out: &mut W,
     record: &mut R,
     watcher: &mut T,
 ) -> Result<Report, RunError>
     // Each session stands in its files and its report as its machine alone by its keys, whatever the turns.
     ensures run { IfOk result (λ report. HasRun config.entry.now options.entry report
-        (streams (I.remaining input.old) (I.remaining input.new) (W.contents out.old) (W.contents out.new) (R.contents «record».old) (R.contents «record».new))
+        (streams (P.typing typist.old) (P.typing typist.new) (W.contents out.old) (W.contents out.new) (R.contents «record».old) (R.contents «record».new))
         (S.files store.old) (S.files store.new)) }
     ensures refusal { IfErr result (IsRunRefusal config.entry.now options.entry
-        (streams (I.remaining input.old) (I.remaining input.new) (W.contents out.old) (W.contents out.new) (R.contents «record».old) (R.contents «record».new))
+        (streams (P.typing typist.old) (P.typing typist.new) (W.contents out.old) (W.contents out.new) (R.contents «record».old) (R.contents «record».new))
         (S.files store.old) (S.files store.new)) }
     // So it is of a store that doesn't tell its files: by what they gave, and by the calls alone.
     ensures log { IfOk result (λ report. HasAccessed S.does config.entry.now options.entry report
-        (streams (I.remaining input.old) (I.remaining input.new) (W.contents out.old) (W.contents out.new) (R.contents «record».old) (R.contents «record».new))
+        (streams (P.typing typist.old) (P.typing typist.new) (W.contents out.old) (W.contents out.new) (R.contents «record».old) (R.contents «record».new))
         store.old store.new) }
     ensures stopped_log { IfErr result (IsStoppedRun S.does config.entry.now options.entry
-        (streams (I.remaining input.old) (I.remaining input.new) (W.contents out.old) (W.contents out.new) (R.contents «record».old) (R.contents «record».new))
+        (streams (P.typing typist.old) (P.typing typist.new) (W.contents out.old) (W.contents out.new) (R.contents «record».old) (R.contents «record».new))
         store.old store.new) }
     ensures device { IfErr result (λ e. IsDeviceFault e → CountsFailure (S.failed store.old) (S.failed store.new)) }
     ensures memory { IfErr result (λ e. e ≡ RunError.OutOfMemory → S.failed store.new ≡ S.failed store.old) }
@@ -152,7 +153,7 @@ pub fn run_host<'a, S: Store, I: Read, W: Write, R: Write, T: RunWatcher>(
     let typed = typed_place(config, options)?;
     let (system, inputs) = read_inputs(alloc, config, store)?;
     let settled = settle_inputs(
-        alloc, config, options, typed, &system, inputs, input, out, record, watcher,
+        alloc, config, options, typed, &system, inputs, typist, out, record, watcher,
     )?;
     let (report, outputs) = play_inputs(alloc, config, options, system, settled, watcher)?;
     write_files(outputs.as_slice(), store)?;

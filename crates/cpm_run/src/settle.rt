@@ -6,7 +6,8 @@ ghost use Rattle.cpm_script.specs.Cues.{all_said};
 ghost use Rattle.cpm_run.specs.Settled.{AreSettled, HasPlayedKeys, HasSettledBy, IsSettled, opened_by, part_of, said_at, settled_view, starts_of, typed_view};
 ghost use Rattle.cpm_run.specs.Settling.{AreFitInputs, AreReady, AreSound, AreSoundKeys, IsFitInput, IsFitPart, IsOpenable, IsPartReady, IsPartRefusal};
 ghost use Rattle.cpm_run.specs.Settling.{IsSettlingRefusal, IsSoundAfter, part_view};
-ghost use Rattle.std.specs.Prelude.{Some, length};
+ghost use Rattle.std.specs.Prelude.{Some, ◌+◌, length, nat_le};
+ghost use Rattle.cpm_script.specs.Script.{most_keys};
 
 use crate::alone::{after_keys, machine_of};
 use crate::error::RunError;
@@ -104,6 +105,13 @@ fn play_part<T: RunWatcher>(
     Ok((LivePlay { keys, steps }, is_idle))
 }
 
+/// Whether a script can have so many keys. A machine then takes all of them, wherever they come.
+fn is_few(before: &[Key], own: &[Key]) -> bool
+    ensures { result ≡ nat_le (length before.now + length own.now) most_keys }
+{
+    before.len() <= MOST_KEYS && own.len() <= MOST_KEYS - before.len()
+}
+
 /// What a session is played by: the keys of its script as they are written, or those that come.
 fn settle_part<T: RunWatcher>(
     alloc: Global,
@@ -122,7 +130,7 @@ fn settle_part<T: RunWatcher>(
     ensures refusal { IfErr result (λ e. e ≡ RunError.OutOfMemory) }
 {
     match timed_keys(alloc, part.cues.as_slice())? {
-        Some(own) if !stops_idle => {
+        Some(own) if !stops_idle && is_few(part.before.as_slice(), own.as_slice()) => {
             let live = LivePlay {
                 keys: joined(alloc, part.before.as_slice(), own.as_slice())?,
                 steps: part.steps,
@@ -164,7 +172,7 @@ fn settle_session<'a, T: RunWatcher>(
     } = input;
     let part = part_of(alloc, config, typed, settled, session, &start, cues)?;
     let before = part.before.len();
-    if key_count(part.cues.as_slice()) > MOST_KEYS - before {
+    if typed.is_none() && key_count(part.cues.as_slice()) > MOST_KEYS.saturating_sub(before) {
         return Err(RunError::TooManyKeys(shown(session.name.as_str())));
     }
     let (live, is_idle) = settle_part(alloc, system, settled.len(), part, stops_idle, watcher)?;

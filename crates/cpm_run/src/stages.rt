@@ -21,11 +21,11 @@ use crate::watcher::{RunStage, RunWatcher};
 use cpm_batch::{Input, Start};
 use cpm_config::Config;
 use cpm_geom::Image;
-use cpm_play::LivePlay;
+use cpm_play::{LivePlay, Typist};
 use cpm_script::Cue;
 use cpm_slots::{LEAST_FRAMES, MOST_FRAMES};
 use std::alloc::Global;
-use std::io::{Read, Write};
+use std::io::Write;
 
 /// Whether a line of a script waits.
 fn waits(cues: &[Cue]) -> bool
@@ -72,14 +72,14 @@ fn plays_alone(options: RunOptions<'_>, inputs: &[Input<'_>]) -> bool
 }
 
 /// What is typed at the session that is named, if one is.
-fn type_if_any<I: Read, W: Write, R: Write, T: RunWatcher>(
+fn type_if_any<P: Typist, W: Write, R: Write, T: RunWatcher>(
     alloc: Global,
     config: &Config,
     options: RunOptions<'_>,
     typed: Option<usize>,
     system: &Image,
     inputs: &[Input<'_>],
-    input: &mut I,
+    typist: &mut P,
     out: &mut W,
     record: &mut R,
     watcher: &mut T,
@@ -91,10 +91,10 @@ fn type_if_any<I: Read, W: Write, R: Write, T: RunWatcher>(
         (starts_read (map given inputs.now)) }
     ensures typed { IfOk result (λ t. IsTypedIfAny system.now config.now.sessions.items (option_map (λ n. n.now) options.entry.typed)
         (map given inputs.now)
-        (streams (I.remaining input.old) (I.remaining input.new) (W.contents out.old) (W.contents out.new) (R.contents «record».old) (R.contents «record».new))
+        (streams (P.typing typist.old) (P.typing typist.new) (W.contents out.old) (W.contents out.new) (R.contents «record».old) (R.contents «record».new))
         (typed_view t)) }
     ensures refusal { IfErr result (IsSettleRefusal config.now options.entry
-        (streams (I.remaining input.old) (I.remaining input.new) (W.contents out.old) (W.contents out.new) (R.contents «record».old) (R.contents «record».new))
+        (streams (P.typing typist.old) (P.typing typist.new) (W.contents out.old) (W.contents out.new) (R.contents «record».old) (R.contents «record».new))
         system.now (map given inputs.now)) }
 {
     let (Some(name), Some(place)) = (options.typed, typed) else {
@@ -102,19 +102,19 @@ fn type_if_any<I: Read, W: Write, R: Write, T: RunWatcher>(
     };
     watcher.begin(RunStage::Typing);
     let session = &inputs[place];
-    let heard = type_at(alloc, config, name, system, session, input, out, record)?;
+    let heard = type_at(alloc, config, name, system, session, typist, out, record)?;
     Ok(Some((place, heard)))
 }
 
 /// Judges all openings and forks before a session is played by itself; then settles all sessions, that at which one types first.
-pub(crate) fn settle_inputs<'a, I: Read, W: Write, R: Write, T: RunWatcher>(
+pub(crate) fn settle_inputs<'a, P: Typist, W: Write, R: Write, T: RunWatcher>(
     alloc: Global,
     config: &Config,
     options: RunOptions<'_>,
     typed: Option<usize>,
     system: &Image,
     inputs: Vec<Input<'a>>,
-    input: &mut I,
+    typist: &mut P,
     out: &mut W,
     record: &mut R,
     watcher: &mut T,
@@ -127,11 +127,11 @@ pub(crate) fn settle_inputs<'a, I: Read, W: Write, R: Write, T: RunWatcher>(
     requires starts { All BeginsAsConfigured (map given inputs.items) }
     requires fit { AreFitInputs None [] (map given inputs.items) }
     ensures settled { IfOk result (λ s. AreSettledBy config.now options.entry
-        (streams (I.remaining input.old) (I.remaining input.new) (W.contents out.old) (W.contents out.new) (R.contents «record».old) (R.contents «record».new))
+        (streams (P.typing typist.old) (P.typing typist.new) (W.contents out.old) (W.contents out.new) (R.contents «record».old) (R.contents «record».new))
         system.now (map given inputs.entry.items) (map settled_view s.items)) }
     ensures sound { IfOk result (λ s. AreSound (map settled_view s.items)) }
     ensures refusal { IfErr result (IsSettleRefusal config.now options.entry
-        (streams (I.remaining input.old) (I.remaining input.new) (W.contents out.old) (W.contents out.new) (R.contents «record».old) (R.contents «record».new))
+        (streams (P.typing typist.old) (P.typing typist.new) (W.contents out.old) (W.contents out.new) (R.contents «record».old) (R.contents «record».new))
         system.now (map given inputs.entry.items)) }
 {
     let mut heard = None;
@@ -139,7 +139,7 @@ pub(crate) fn settle_inputs<'a, I: Read, W: Write, R: Write, T: RunWatcher>(
     if plays_alone(options, sessions) {
         judge_openings(alloc, config, system, sessions)?;
         heard = type_if_any(
-            alloc, config, options, typed, system, sessions, input, out, record, watcher,
+            alloc, config, options, typed, system, sessions, typist, out, record, watcher,
         )?;
     }
     let stops_idle = options.stops_idle;

@@ -14,10 +14,9 @@ use cpm_batch::Input;
 use cpm_command_line::shown;
 use cpm_config::{Config, Origin, place_of};
 use cpm_geom::Image;
-use cpm_play::{LivePlay, play_live};
-use cpm_script::MOST_KEYS;
+use cpm_play::{LivePlay, Typist, play_live};
 use std::alloc::Global;
-use std::io::{Read, Write};
+use std::io::Write;
 
 /// The place of the session that is to be typed at, if one is.
 pub(crate) fn typed_place(
@@ -40,38 +39,39 @@ pub(crate) fn typed_place(
     }
 }
 
-/// Plays a session by itself, by the keys that are typed, without a limit of steps. It gives these, each with the count at which it was accepted, and how many
+/// Plays a session by itself, by its script and then by the keys that are typed, without a limit of steps. It gives these, each with the count at which it was accepted, and how many
 /// steps the session then has.
-pub(crate) fn type_at<I: Read, W: Write, R: Write>(
+pub(crate) fn type_at<P: Typist, W: Write, R: Write>(
     alloc: Global,
     config: &Config,
     name: &str,
     system: &Image,
     session: &Input<'_>,
-    input: &mut I,
+    typist: &mut P,
     out: &mut W,
     record: &mut R,
 ) -> Result<LivePlay, RunError>
     requires opened { IsOpened (start_view session.now.start) }
     requires openable { IsOpenable (start_view session.now.start) }
     ensures typed { IfOk result (λ t. IsTypedBy system.now config.now.sessions.items name.now (start_view session.now.start)
-        (streams (I.remaining input.old) (I.remaining input.new) (W.contents out.old) (W.contents out.new) (R.contents «record».old) (R.contents «record».new))
+        (streams (P.typing typist.old) (P.typing typist.new) (W.contents out.old) (W.contents out.new) (R.contents «record».old) (R.contents «record».new))
         t.keys.items t.steps) }
     ensures refusal { IfErr result (IsTypingRefusal system.now (start_view session.now.start)
-        (streams (I.remaining input.old) (I.remaining input.new) (W.contents out.old) (W.contents out.new)
+        (streams (P.typing typist.old) (P.typing typist.new) (W.contents out.old) (W.contents out.new)
         (R.contents «record».old) (R.contents «record».new))) }
 {
     let mut machine = machine_of(alloc, &session.start)?;
-    let LivePlay { keys, steps } = play_live(
+    let play = play_live(
         alloc,
         system,
         &mut machine,
         u64::MAX,
-        MOST_KEYS,
-        input,
+        session.cues.as_slice(),
+        typist,
         out,
         record,
     )?;
+    let LivePlay { keys, steps } = play.live;
     Ok(LivePlay {
         keys,
         steps: last_fork(config, name).max(steps),
