@@ -108,8 +108,8 @@ pub record IsScriptCut (s : Sitting) (now : MachineState) (written_before writte
   pub off : IsCutOff s.system s.steps 0 s.cues s.start now written_before written unrecorded record_now e
   pub unheard : after ≡ before
 
-abbrev pub IsTypingCut : Sitting → (now : MachineState) → (written_before written unrecorded record_now : Option (List ℕ)) → (before after : TypingState)
+abbrev pub IsPlayCut : Sitting → (now : MachineState) → (written_before written unrecorded record_now : Option (List ℕ)) → (before after : TypingState)
     → LiveError → Type 0
-IsTypingCut s now written_before written unrecorded record_now before after e =
+IsPlayCut s now written_before written unrecorded record_now before after e =
     IsScriptCut s now written_before written unrecorded record_now before after e
     ⊎ IsCutShort s now written_before written unrecorded record_now before after e

@@ -9,7 +9,7 @@ ghost use Rattle.cpm_play.specs.Cued.{AreAscii, IsCued, IsCutOff, key_count};
 ghost use Rattle.cpm_play.specs.Live.{AreGiven, IsGoing, IsNotGiven, IsUnreadable, IsUnwritable};
 ghost use Rattle.cpm_play.specs.Pacing.{without_list, without_text};
 ghost use Rattle.cpm_play.specs.Playing.{EndsAs, HasText, IsFresh, IsQuiet, alone_by, waits_at};
-ghost use Rattle.cpm_play.specs.Sitting.{IsTypedPlay, IsTypingCut, sitting};
+ghost use Rattle.cpm_play.specs.Sitting.{IsTypedPlay, IsPlayCut, sitting};
 ghost use Rattle.cpm_play.specs.Typist.{CanBeHeard, HasHeardNothing, IsHeard, IsHeardPatiently};
 ghost use Rattle.cpm_play.specs.Wanting.{HasWatched, longest_turn};
 ghost use Rattle.cpm_play.specs.declared.typist.KeyNeed.TheVariants.{Wanted};
@@ -245,7 +245,7 @@ pub fn play_live<T: Typist, W: Write, S: Write>(
     ensures ending { IfOk result (λ play. EndsAs (alone_by system.now play.live.keys.items play.live.steps machine.old) machine.new) }
     ensures record { IfOk result (λ play. Appends (S.contents record.old) (S.contents record.new) (recorded play.live.keys.items)) }
     ensures waits { IfOk result (λ play. (look_of machine.new).waiting ≡ waits_at system.now machine.old play.live.keys.items play.live.steps) }
-    ensures refused { IfErr result (IsTypingCut (sitting (T.typing typist.old).is_patient system.now machine.old steps cues.entry.now) machine.new
+    ensures refused { IfErr result (IsPlayCut (sitting (T.typing typist.old).is_patient system.now machine.old steps cues.entry.now) machine.new
         (W.contents out.old) (W.contents out.new) (S.contents record.old) (S.contents record.new) (T.typing typist.old) (T.typing typist.new)) }
 {
     let mut live = play_script(alloc, system, machine, steps, cues, out, record)?;

@@ -1,5 +1,5 @@
 -- Sessions of a configuration in the slots of a host. All of it is own.
-use Rattle.std.specs.Prelude.{⊤, ◌≡◌, ◌≢◌, ℕ, List, [], ◌∷◌, ◌++◌, ◌≤◌, length, map, slice_get, Option, Some, None, IfSome, string_bytes}
+use Rattle.std.specs.Prelude.{⊤, ◌≡◌, ◌≢◌, ℕ, List, [], ◌∷◌, ◌++◌, ◌≤◌, map, slice_get, Option, Some, None, IfSome, string_bytes}
 use Rattle.cpm_batch.specs.Inputs.{Forks, IsOpened, Opens, StartInput}
 use Rattle.cpm_batch.specs.Outputs.{SessionOutput, left_by}
 use Rattle.cpm_batch.specs.declared.output.SessionFiles.{SessionFiles}
@@ -15,7 +15,7 @@ use Rattle.cpm_machine.specs.declared.opening.Opening.{Opening}
 use Rattle.cpm_machine.specs.declared.opening.OpenError.{OpenError}
 use Rattle.cpm_machine.specs.declared.opening.OpenError.TheVariants.{NoFrames}
 use Rattle.cpm_play.specs.Players.{fork_pages, forks_of}
-use Rattle.cpm_play.specs.Playing.{IsInOrder, IsPlayed}
+use Rattle.cpm_play.specs.Playing.{HaveRoom, IsInOrder, IsPlayed}
 use Rattle.cpm_play.specs.ScriptedSlots.{IsNew, script_keys, steps_of}
 use Rattle.cpm_play.specs.declared.player.Fork.{Fork}
 use Rattle.cpm_play.specs.declared.player.Player.{Player}
@@ -29,8 +29,7 @@ use Rattle.cpm_run.specs.declared.ending.Ending.{Ending}
 use Rattle.cpm_run.specs.declared.report.SessionReport.{SessionReport}
 use Rattle.cpm_run.specs.declared.error.RunError.{RunError}
 use Rattle.cpm_run.specs.declared.error.RunError.TheVariants as refusal
-use Rattle.cpm_script.specs.Script.{most_keys}
-use Rattle.cpm_run.specs.Settled.{SettledSession}
+use Rattle.cpm_run.specs.Settled.{SettledSession, opening_of}
 
 -- ---- before they are played
 
@@ -83,25 +82,25 @@ HavePlayers slots [] (p ∷ ps) = ⊥
 HavePlayers slots (i ∷ is) [] = ⊥
 
 -- the keys of a forked session can be pressed: they are those of an opened session before the fork and then others in order,
--- not too many, and it has the steps up to the fork
-pub record IsForkPressable (inputs : List SettledSession) (i : SettledSession) (parent at : ℕ) : Type 0 where
+-- the machine takes each where it comes, and it has the steps up to the fork
+pub record IsForkPressable (system : Disk) (inputs : List SettledSession) (i : SettledSession) (parent at : ℕ) : Type 0 where
   pub other : SettledSession
   pub there : slice_get inputs parent ≡ Some other
   pub opened : IsOpened other.start
   pub own : List Key
   pub keys : i.keys ≡ keys_before at other.keys ++ own
   pub order : IsInOrder at own
-  pub few : length i.keys ≤ most_keys
+  pub room : HaveRoom system (opening_of other.start) i.keys
   pub within : at ≤ i.steps
 
--- those of an opened one: their counts don't fall, and they are not too many
-abbrev pub IsPressableBy : List SettledSession → StartInput → SettledSession → Type 0
-IsPressableBy inputs (Opens cpu quota drives) i = IsInOrder 0 i.keys × (length i.keys ≤ most_keys)
-IsPressableBy inputs (Forks parent at) i = IsForkPressable inputs i parent at
+-- those of an opened one: their counts don't fall, and the machine takes each where it comes
+abbrev pub IsPressableBy : Disk → List SettledSession → StartInput → SettledSession → Type 0
+IsPressableBy system inputs (Opens cpu quota drives) i = IsInOrder 0 i.keys × HaveRoom system (opened_machine cpu quota drives) i.keys
+IsPressableBy system inputs (Forks parent at) i = IsForkPressable system inputs i parent at
 
 -- those of each session
-abbrev pub ArePressable : List SettledSession → Type 0
-ArePressable inputs = (place : ℕ) → IfSome (slice_get inputs place) (λ i. IsPressableBy inputs i.start i)
+abbrev pub ArePressable : Disk → List SettledSession → Type 0
+ArePressable system inputs = (place : ℕ) → IfSome (slice_get inputs place) (λ i. IsPressableBy system inputs i.start i)
 
 -- ---- refusals
 

@@ -13,10 +13,11 @@ use Rattle.cpm_config.specs.declared.fault.ConfigError.TheVariants.{Range}
 use Rattle.cpm_geom.specs.Disk.{Disk}
 use Rattle.cpm_machine.specs.MachineState.{MachineState}
 use Rattle.cpm_machine.specs.declared.opening.OpenError.TheVariants.{NoFrames}
-use Rattle.cpm_play.specs.Live.{IsCutShort}
+use Rattle.cpm_play.specs.Sitting.{IsPlayCut, sitting}
 use Rattle.cpm_play.specs.declared.live.LiveError.{LiveError}
 use Rattle.cpm_play.specs.declared.live.LiveError.TheVariants.{Unreadable, Unwritable, Unrecorded, OutOfMemory}
-use Rattle.cpm_script.specs.Cues.{cued_key_count}
+use Rattle.cpm_script.specs.Cues.{CueText, cue_text, cued_key_count}
+use Rattle.cpm_script.specs.declared.cue.Cue.{Cue}
 use Rattle.cpm_script.specs.Script.{most_keys}
 use Rattle.cpm_slots.specs.Host.{new_host}
 use Rattle.cpm_store.specs.Files.{StoreFiles, StoreName, WhereTold}
@@ -61,17 +62,20 @@ IsPlaceRefusal config options _ = ⊥
 -- ---- while they are settled
 
 -- how a session that begins so is cut short while one types, and what its streams then are
-abbrev pub IsSessionCut : Disk → StartInput → Streams → LiveError → Type 0
-IsSessionCut system start io e = (now : MachineState)
-    × IsCutShort system most_steps most_keys (opening_of start) now io.before io.written io.unrecorded io.record_now io.unread io.left e
+pub record IsSessionCut (system : Disk) (start : StartInput) (said : List CueText) (io : Streams) (e : LiveError) : Type 0 where
+  pub cues : List Cue
+  pub says : map cue_text cues ≡ said
+  pub now : MachineState
+  pub cut : IsPlayCut (sitting io.unread.is_patient system (opening_of start) most_steps cues) now io.before io.written io.unrecorded io.record_now
+      io.unread io.left e
 
--- how it is refused then; where memory is refused, either before a key is read, or for a key that was read
-abbrev pub IsTypingRefusal : Disk → StartInput → Streams → RunError → Type 0
-IsTypingRefusal system start io (refusal.InputUnreadable reason) = IsSessionCut system start io (Unreadable reason)
-IsTypingRefusal system start io (refusal.OutputUnwritable reason) = IsSessionCut system start io (Unwritable reason)
-IsTypingRefusal system start io (refusal.RecordUnwritable reason) = IsSessionCut system start io (Unrecorded reason)
-IsTypingRefusal system start io refusal.OutOfMemory = AreUntouched io ⊎ IsSessionCut system start io OutOfMemory
-IsTypingRefusal system start io _ = ⊥
+-- how it is refused then; where memory is refused, either before anybody is heard, or while it was played
+abbrev pub IsTypingRefusal : Disk → StartInput → List CueText → Streams → RunError → Type 0
+IsTypingRefusal system start said io (refusal.InputUnreadable reason) = IsSessionCut system start said io (Unreadable reason)
+IsTypingRefusal system start said io (refusal.OutputUnwritable reason) = IsSessionCut system start said io (Unwritable reason)
+IsTypingRefusal system start said io (refusal.RecordUnwritable reason) = IsSessionCut system start said io (Unrecorded reason)
+IsTypingRefusal system start said io refusal.OutOfMemory = AreUntouched io ⊎ IsSessionCut system start said io OutOfMemory
+IsTypingRefusal system start said io _ = ⊥
 
 -- all openings were accepted, and then the session at which one typed was cut short
 pub record IsTypingCut (config : Config) (options : RunOptions) (io : Streams) (system : Disk) (inputs : List SessionInput) (e : RunError) : Type 0 where
@@ -83,7 +87,7 @@ pub record IsTypingCut (config : Config) (options : RunOptions) (io : Streams) (
   pub first : place_of name (map session_view config.sessions.items) ≡ Some place
   pub there : slice_get inputs place ≡ Some input
   pub opened : IsOpened input.start
-  pub cut : IsTypingRefusal system input.start io e
+  pub cut : IsTypingRefusal system input.start input.said io e
 
 -- a session has too many keys, with those that the one had before that it is forked from
 pub record IsOverfull (p : SessionPart) (i : SessionInput) (shown : List ℕ) : Type 0 where

@@ -36,8 +36,8 @@ use Rattle.cpm_run.specs.declared.options.RecordFile.{RecordFile}
 use Rattle.cpm_run.specs.declared.options.RunOptions.{RunOptions}
 use Rattle.cpm_run.specs.declared.report.Report.{Report}
 use Rattle.cpm_run.specs.declared.report.SessionReport.{SessionReport}
-use Rattle.cpm_script.specs.Recording.{recorded}
-use Rattle.cpm_script.specs.Script.{script}
+use Rattle.cpm_script.specs.Recording.{recorded, recording}
+use Rattle.cpm_script.specs.Script.{script, most_keys}
 use Rattle.cpm_script.specs.declared.script.Key.{Key}
 use Rattle.cpm_run.specs.Settled.{AreSettled, IsTypedIfAny, SettledSession, Streams, TypedSession, opening_at, start_by, starts_of}
 
@@ -85,9 +85,10 @@ files_left system inputs = map (λ i. session_output i.session (run_of system in
 abbrev pub own_keys : SettledSession → List Key
 own_keys s = drop s.before s.keys
 
--- their lines are a script with just these keys
-abbrev pub GivesItsKeysAgain : SettledSession → Type 0
-GivesItsKeysAgain s = script (recorded (own_keys s)) ≡ Ok (own_keys s)
+-- their lines are a recording of just these keys, and a script of them where it can have so many
+pub record GivesItsKeysAgain (s : SettledSession) : Type 0 where
+  pub recording : recording (recorded (own_keys s)) ≡ Ok (own_keys s)
+  pub script : length (own_keys s) ≤ most_keys → script (recorded (own_keys s)) ≡ Ok (own_keys s)
 
 -- the lines of a session's own keys, where a file is named for them, unless that wants a key and there is none
 abbrev pub record_of : RecordFile → (own : List Key) → List NamedBytes

@@ -1,6 +1,6 @@
 -- What the sessions of a run are played by: all their keys, each with its count, and their steps; and how these come of what was read and typed.
 -- All of it is own.
-use Rattle.std.specs.Prelude.{⊤, ◌≡◌, ◌≤◌, ◌^◌, ◌-◌, ℕ, max, Bool, true, false, ◌&&◌, ◌==◌, if◌then◌else◌, List, [], ◌∷◌, ◌++◌, length, map, drop}
+use Rattle.std.specs.Prelude.{⊤, ◌≡◌, ◌≤◌, ◌^◌, ◌+◌, ◌-◌, ℕ, max, nat_le, Bool, true, false, ◌&&◌, ◌==◌, if◌then◌else◌, List, [], ◌∷◌, ◌++◌, length, map, drop}
 use Rattle.std.specs.Prelude.{Option, Some, None, slice_get, string_bytes}
 use Rattle.std.specs.Io.KnownBytes.{Appends}
 use Rattle.std.specs.Str.{bytes_eq}
@@ -13,10 +13,12 @@ use Rattle.cpm_flags.specs.declared.regs.Cpu.TheVariants.{I8080}
 use Rattle.cpm_geom.specs.Disk.{Disk}
 use Rattle.cpm_machine.specs.MachineState.{MachineState, opened_machine}
 use Rattle.cpm_play.specs.Cued.{HasEndedCued, IsCued, waits_at}
-use Rattle.cpm_play.specs.Live.{AreGiven, AreTypedKeysRead, HasReason}
+use Rattle.cpm_play.specs.Live.{AreGiven}
 use Rattle.cpm_play.specs.Playing.{alone_by}
-use Rattle.cpm_play.specs.Wanting.{AreWanted, HasNoLongWait}
+use Rattle.cpm_play.specs.Sitting.{IsTypedPlay, sitting}
+use Rattle.cpm_play.specs.Typist.{TypingState}
 use Rattle.cpm_play.specs.declared.live.LivePlay.{LivePlay}
+use Rattle.cpm_play.specs.declared.live.PlayEnd.{PlayEnd}
 use Rattle.cpm_script.specs.Cues.{Counted, CueText, cue_text}
 use Rattle.cpm_script.specs.Fork.{keys_before}
 use Rattle.cpm_script.specs.Recording.{recorded}
@@ -153,11 +155,14 @@ pub record HasPlayedKeys (system : Disk) (p : SessionPart) (stops_idle : Bool) (
   pub long : steps ≡ settled_steps stops_idle p done
   pub idle : is_idle ≡ stops_idle && waits_at system p.opening came done
 
--- A session has these keys and steps: all keys as they are written where each has a count and no session stops idle, and else those that come.
+-- A session has these keys and steps: all keys as they are written where each has a count, a script can have so many, and no session stops idle; and else those
+-- that come.
 abbrev pub HasSettledBy : Disk → SessionPart → (stops_idle : Bool) → Option (List Key) → (keys : List Key) → (steps : ℕ) → (is_idle : Bool) → Type 0
 HasSettledBy system p true timed keys steps is_idle = HasPlayedKeys system p true keys steps is_idle
 HasSettledBy system p false None keys steps is_idle = HasPlayedKeys system p false keys steps is_idle
-HasSettledBy system p false (Some own) keys steps is_idle = (keys ≡ p.before ++ own) × (steps ≡ p.limit) × (is_idle ≡ false)
+HasSettledBy system p false (Some own) keys steps is_idle =
+    if nat_le (length p.before + length own) most_keys then (keys ≡ p.before ++ own) × (steps ≡ p.limit) × (is_idle ≡ false)
+    else HasPlayedKeys system p false keys steps is_idle
 
 pub record IsSettled (system : Disk) (stops_idle : Bool) (p : SessionPart) (i : SessionInput) (s : SettledSession) : Type 0 where
   pub session : s.session ≡ i.session
@@ -176,16 +181,16 @@ AreSettled system stops_idle typed sessions settled (i ∷ is) [] = ⊥
 
 -- ---- typing
 
--- what a reader had and has still to give, what a writer had got and has got, and what a record had and has
+-- what was known of a typist and is known, what a writer had got and has got, and what a record had and has
 pub record Streams : Type 0 where
-  pub unread : Option (List ℕ)
-  pub left : Option (List ℕ)
+  pub unread : TypingState
+  pub left : TypingState
   pub before : Option (List ℕ)
   pub written : Option (List ℕ)
   pub unrecorded : Option (List ℕ)
   pub record_now : Option (List ℕ)
 
-abbrev pub streams : (unread left before written unrecorded record_now : Option (List ℕ)) → Streams
+abbrev pub streams : (unread left : TypingState) → (before written unrecorded record_now : Option (List ℕ)) → Streams
 streams unread left before written unrecorded record_now = record {
   unread = unread;
   left = left;
@@ -195,7 +200,7 @@ streams unread left before written unrecorded record_now = record {
   record_now = record_now;
 }
 
--- nothing was read or written
+-- nobody was heard, and nothing was written
 pub record AreUntouched (io : Streams) : Type 0 where
   pub unread : io.left ≡ io.unread
   pub unwritten : io.written ≡ io.before
@@ -205,18 +210,18 @@ pub record AreUntouched (io : Streams) : Type 0 where
 abbrev pub most_steps : ℕ
 most_steps = 2 ^ 64 - 1
 
--- A session that begins so was played by itself by the keys that were typed: it has shown what the machine run alone by these shows, each at the count at
--- which it was accepted; and the record has got just these. It has the steps that were executed meanwhile, up to the last fork.
-pub record IsTypedBy (system : Disk) (sessions : List SessionConfig) (name : List ℕ) (start : StartInput) (io : Streams)
+-- A session that begins so was played by itself by what it says and then by the keys that were typed: it has shown what the machine run alone by these shows,
+-- each at the count at which it was accepted; and the record has got just these. It has the steps that were executed meanwhile, up to the last fork.
+pub record IsTypedBy (system : Disk) (sessions : List SessionConfig) (name : List ℕ) (start : StartInput) (said : List CueText) (io : Streams)
     (keys : List Key) (steps : ℕ) : Type 0 where
   pub done : ℕ
-  pub given : AreGiven most_keys done keys
-  pub read : AreTypedKeysRead io.unread io.left keys
+  pub end : PlayEnd
+  pub cues : List Cue
+  pub says : map cue_text cues ≡ said
+  pub given : AreGiven (length keys) done keys
+  pub played : IsTypedPlay (sitting io.unread.is_patient system (opening_of start) most_steps cues) io.unread io.left keys done end
   pub text : Appends io.before io.written (alone_by system keys done (opening_of start)).session.console.screen
   pub lines : Appends io.unrecorded io.record_now (recorded keys)
-  pub ends : HasReason system (opening_of start) most_steps most_keys io.unread io.left keys done (alone_by system keys done (opening_of start))
-  pub wanted : AreWanted system (opening_of start) keys
-  pub brief : HasNoLongWait system (opening_of start) keys done
   pub long : steps ≡ max done (last_fork name sessions)
 
 -- so it was with the session of this name, which is opened
@@ -226,7 +231,7 @@ pub record IsTypedAt (system : Disk) (sessions : List SessionConfig) (name : Lis
   pub place : place_of name (map session_view sessions) ≡ Some t.place
   pub there : slice_get inputs t.place ≡ Some input
   pub opened : IsOpened input.start
-  pub typed : IsTypedBy system sessions name input.start io t.keys t.steps
+  pub typed : IsTypedBy system sessions name input.start input.said io t.keys t.steps
 
 -- a session was typed at, where one is named; and else nothing was read
 abbrev pub IsTypedIfAny : Disk → List SessionConfig → Option (List ℕ) → List SessionInput → Streams → Option TypedSession → Type 0

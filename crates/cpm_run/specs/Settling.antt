@@ -9,10 +9,9 @@ use Rattle.cpm_config.specs.declared.config.SessionConfig.{SessionConfig}
 use Rattle.cpm_geom.specs.Disk.{Disk}
 use Rattle.cpm_machine.specs.Opening.{opening_fault}
 use Rattle.cpm_machine.specs.declared.opening.Opening.{Opening}
-use Rattle.cpm_play.specs.Playing.{IsInOrder}
-use Rattle.cpm_script.specs.Cues.{CueText, all_said, cued_key_count}
+use Rattle.cpm_play.specs.Playing.{HaveRoom, IsInOrder}
+use Rattle.cpm_script.specs.Cues.{CueText, all_said}
 use Rattle.cpm_script.specs.Laws.{AreInOrder, CountsRise, KeysAreAscii, PressesFollow}
-use Rattle.cpm_script.specs.Script.{most_keys}
 use Rattle.cpm_script.specs.declared.script.Key.{Key}
 use Rattle.cpm_run.specs.Playing.{IsPressableBy}
 use Rattle.cpm_run.specs.Refusing.{IsOverfull}
@@ -56,23 +55,25 @@ part_view p = record {
   last = p.last;
 }
 
--- what a session says can be pressed after its keys from before: it is in order, from the fork on, and not too much; and the fork is within its steps
-pub record IsFitPart (p : SessionPart) : Type 0 where
+-- what a session says can be pressed after its keys from before, for each of which there is room: it is in order, from the fork on; and the fork is within its
+-- steps
+pub record IsFitPart (system : Disk) (p : SessionPart) : Type 0 where
   pub before : AreBelow80h p.before
   pub ascii : KeysAreAscii p.said
   pub counts : CountsRise p.at p.said
   pub presses : PressesFollow false p.said
-  pub few : length p.before + cued_key_count p.said ≤ most_keys
+  pub room : HaveRoom system p.opening p.before
   pub within : p.at ≤ p.limit
 
--- its keys are then those from before and own ones, which come at the fork or later, in order, not too many in all; and they can be written as a script
-pub record AreSoundKeys (p : SessionPart) (keys : List Key) (steps : ℕ) : Type 0 where
+-- its keys are then those from before and own ones, which come at the fork or later, in order; the machine takes each where it comes; and they can be
+-- written as a recording
+pub record AreSoundKeys (system : Disk) (p : SessionPart) (keys : List Key) (steps : ℕ) : Type 0 where
   pub own : List Key
   pub joined : keys ≡ p.before ++ own
   pub order : IsInOrder p.at own
   pub ascii : AreBelow80h own
   pub counts : AreCounts own
-  pub few : length keys ≤ most_keys
+  pub room : HaveRoom system p.opening keys
   pub within : p.at ≤ steps
 
 -- a session has the keys of its script as they are written, or it can be opened by itself
@@ -82,12 +83,12 @@ IsPartReady stops_idle said opened = ((stops_idle ≡ false) × IsSome (timed_ke
 -- ---- all sessions
 
 -- each that was settled can be pressed in the run, has keys below 80h, and has own keys that their lines give again
-abbrev pub AreSound : List SettledSession → Type 0
-AreSound ss = (place : ℕ) → IfSome (slice_get ss place) (λ s. IsPressableBy ss s.start s × AreBelow80h s.keys × GivesItsKeysAgain s)
+abbrev pub AreSound : Disk → List SettledSession → Type 0
+AreSound system ss = (place : ℕ) → IfSome (slice_get ss place) (λ s. IsPressableBy system ss s.start s × AreBelow80h s.keys × GivesItsKeysAgain s)
 
 -- one that comes after them, too
-pub record IsSoundAfter (ss : List SettledSession) (s : SettledSession) : Type 0 where
-  pub pressable : IsPressableBy ss s.start s
+pub record IsSoundAfter (system : Disk) (ss : List SettledSession) (s : SettledSession) : Type 0 where
+  pub pressable : IsPressableBy system ss s.start s
   pub ascii : AreBelow80h s.keys
   pub replays : GivesItsKeysAgain s
 

@@ -281,7 +281,7 @@ pub(crate) fn play_all<'a, T: Watcher>(
     requires least { LEAST_FRAMES ≤ config.now.frames }
     requires most { config.now.frames ≤ MOST_FRAMES }
     requires quantum { 1 ≤ config.now.quantum }
-    requires keys { ArePressable (map settled_view inputs.items) }
+    requires keys { ArePressable system (map settled_view inputs.items) }
     requires sessions { map (λ i. i.session) (map settled_view inputs.items) ≡ config.now.sessions.items }
     ensures reports { IfOk result (λ p. map report_view p.0.items ≡ reports_of system (map settled_view inputs.entry.items)) }
     ensures files { IfOk result (λ p. map left_by p.1.items ≡ files_left system (map settled_view inputs.entry.items)) }

@@ -86,7 +86,7 @@ fn play_inputs<'a, T: RunWatcher>(
     requires least { LEAST_FRAMES ≤ config.now.frames }
     requires most { config.now.frames ≤ MOST_FRAMES }
     requires quantum { 1 ≤ config.now.quantum }
-    requires sound { AreSound (map settled_view inputs.items) }
+    requires sound { AreSound system (map settled_view inputs.items) }
     requires sessions { map (λ i. i.session) (map settled_view inputs.items) ≡ config.now.sessions.items }
     ensures reports { IfOk result (λ p. AreReportedOf system (map settled_view inputs.entry.items) p.0) }
     ensures outputs { IfOk result (λ p. map named_output p.1.items

@@ -52,11 +52,11 @@ fn play_part<T: RunWatcher>(
     stops_idle: bool,
     watcher: &mut T,
 ) -> Result<(LivePlay, bool), RunError>
-    requires fit { IsFitPart (part_view part) }
+    requires fit { IsFitPart system.now (part_view part) }
     requires opened { IsOpened (start_view part.opened.now) }
     requires openable { IsOpenable (start_view part.opened.now) }
     ensures played { IfOk result (λ p. HasPlayedKeys system.now (part_view part.entry) stops_idle p.0.keys.items p.0.steps p.1) }
-    ensures sound { IfOk result (λ p. AreSoundKeys (part_view part.entry) p.0.keys.items p.0.steps) }
+    ensures sound { IfOk result (λ p. AreSoundKeys system.now (part_view part.entry) p.0.keys.items p.0.steps) }
     ensures refusal { IfErr result (λ e. e ≡ RunError.OutOfMemory) }
 {
     let Part {
@@ -121,12 +121,12 @@ fn settle_part<T: RunWatcher>(
     stops_idle: bool,
     watcher: &mut T,
 ) -> Result<(LivePlay, bool), RunError>
-    requires fit { IsFitPart (part_view part) }
+    requires fit { IsFitPart system.now (part_view part) }
     requires opened { IsOpened (start_view part.opened.now) }
     requires ready { IsPartReady stops_idle (all_said part.cues) (Some (start_view part.opened.now)) }
     ensures settled { IfOk result (λ p. HasSettledBy system.now (part_view part.entry) stops_idle (timed_keys (all_said part.entry.cues))
         p.0.keys.items p.0.steps p.1) }
-    ensures sound { IfOk result (λ p. AreSoundKeys (part_view part.entry) p.0.keys.items p.0.steps) }
+    ensures sound { IfOk result (λ p. AreSoundKeys system.now (part_view part.entry) p.0.keys.items p.0.steps) }
     ensures refusal { IfErr result (λ e. e ≡ RunError.OutOfMemory) }
 {
     match timed_keys(alloc, part.cues.as_slice())? {
@@ -156,12 +156,12 @@ fn settle_session<'a, T: RunWatcher>(
     watcher: &mut T,
 ) -> Result<SettledInput<'a>, RunError>
     requires fit { IsFitInput (typed_view typed.now) (starts_of (map settled_view settled.now)) (given input) }
-    requires sound { AreSound (map settled_view settled.now) }
+    requires sound { AreSound system.now (map settled_view settled.now) }
     requires ready { IsPartReady stops_idle (said_at (typed_view typed.now) (length settled.now) (all_said input.cues))
         (opened_by (starts_of (map settled_view settled.now)) (start_view input.start)) }
     ensures settled { IfOk result (λ s. IsSettled system.now stops_idle
         (part_of (typed_view typed.now) config.now.sessions.items (map settled_view settled.now) (given input.entry)) (given input.entry) (settled_view s)) }
-    ensures sound { IfOk result (λ s. IsSoundAfter (map settled_view settled.now) (settled_view s)) }
+    ensures sound { IfOk result (λ s. IsSoundAfter system.now (map settled_view settled.now) (settled_view s)) }
     ensures refusal { IfErr result (IsPartRefusal
         (part_of (typed_view typed.now) config.now.sessions.items (map settled_view settled.now) (given input.entry)) (given input.entry)) }
 {
@@ -200,7 +200,7 @@ pub(crate) fn settle<'a, T: RunWatcher>(
     requires ready { AreReady stops_idle (typed_view typed.now) (map given inputs.items) }
     ensures settled { IfOk result (λ v. AreSettled system.now stops_idle (typed_view typed.now) config.now.sessions.items []
         (map given inputs.entry.items) (map settled_view v.items)) }
-    ensures sound { IfOk result (λ v. AreSound (map settled_view v.items)) }
+    ensures sound { IfOk result (λ v. AreSound system.now (map settled_view v.items)) }
     ensures refusal { IfErr result (IsSettlingRefusal system.now stops_idle (typed_view typed.now) config.now.sessions.items (map given inputs.entry.items)) }
 {
     let mut settled = Vec::new(alloc);

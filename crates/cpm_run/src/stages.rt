@@ -129,7 +129,7 @@ pub(crate) fn settle_inputs<'a, P: Typist, W: Write, R: Write, T: RunWatcher>(
     ensures settled { IfOk result (λ s. AreSettledBy config.now options.entry
         (streams (P.typing typist.old) (P.typing typist.new) (W.contents out.old) (W.contents out.new) (R.contents «record».old) (R.contents «record».new))
         system.now (map given inputs.entry.items) (map settled_view s.items)) }
-    ensures sound { IfOk result (λ s. AreSound (map settled_view s.items)) }
+    ensures sound { IfOk result (λ s. AreSound system.now (map settled_view s.items)) }
     ensures refusal { IfErr result (IsSettleRefusal config.now options.entry
         (streams (P.typing typist.old) (P.typing typist.new) (W.contents out.old) (W.contents out.new) (R.contents «record».old) (R.contents «record».new))
         system.now (map given inputs.entry.items)) }

@@ -2,6 +2,8 @@
 ghost use Rattle.std.specs.Prelude.{◌<◌, Some, None, IfErr, IfOk};
 ghost use Rattle.cpm_batch.specs.Inputs.{IsOpened, start_view};
 ghost use Rattle.cpm_config.specs.Rules.{place_of};
+ghost use Rattle.cpm_play.specs.Cued.{AreAscii};
+ghost use Rattle.cpm_script.specs.Cues.{all_said};
 ghost use Rattle.cpm_run.specs.Refusing.{IsPlaceRefusal, IsTypingRefusal};
 ghost use Rattle.cpm_run.specs.Settled.{IsTypedBy, streams};
 ghost use Rattle.cpm_run.specs.Settling.{IsOpenable, IsTypedPlace};
@@ -53,10 +55,11 @@ pub(crate) fn type_at<P: Typist, W: Write, R: Write>(
 ) -> Result<LivePlay, RunError>
     requires opened { IsOpened (start_view session.now.start) }
     requires openable { IsOpenable (start_view session.now.start) }
-    ensures typed { IfOk result (λ t. IsTypedBy system.now config.now.sessions.items name.now (start_view session.now.start)
+    requires ascii { AreAscii session.now.cues.items }
+    ensures typed { IfOk result (λ t. IsTypedBy system.now config.now.sessions.items name.now (start_view session.now.start) (all_said session.now.cues)
         (streams (P.typing typist.old) (P.typing typist.new) (W.contents out.old) (W.contents out.new) (R.contents «record».old) (R.contents «record».new))
         t.keys.items t.steps) }
-    ensures refusal { IfErr result (IsTypingRefusal system.now (start_view session.now.start)
+    ensures refusal { IfErr result (IsTypingRefusal system.now (start_view session.now.start) (all_said session.now.cues)
         (streams (P.typing typist.old) (P.typing typist.new) (W.contents out.old) (W.contents out.new)
         (R.contents «record».old) (R.contents «record».new))) }
 {
