@@ -3,6 +3,7 @@ use Rattle.std.proofs.Common.{◌≡◌, ℕ, List, Option, Result, IfOk, sym, s
 use Rattle.std.proofs.lemmas.Result.{IfOk-weaker}
 use Rattle.cpm_geom.specs.Disk.{Disk}
 use Rattle.cpm_machine.specs.MachineState.{MachineState}
+use Rattle.cpm_play.specs.Typist.{TypingState}
 use Rattle.cpm_play.specs.declared.cued.CuedKeys.{CuedKeys}
 use Rattle.cpm_play.specs.declared.live.LiveError.{LiveError}
 use Rattle.cpm_play.specs.declared.live.LiveError.TheVariants.{Unreadable, Unwritable, Unrecorded, OutOfMemory}
@@ -22,14 +23,14 @@ not_long (Unwritable e) count is = cc
 not_long (Unrecorded e) count is = cc
 not_long OutOfMemory count is = cc
 
--- one that was played by a script, whatever there is to read
+-- one that was played by a script, whoever types
 pub played_by_cues : (source : Source) (c : CuedKeys) (system disk : Disk) (start machine : MachineState) (steps : ℕ) (r : Result ProgramPlay HostError)
-    (unread before written unrecorded record_now : Option (List ℕ)) → source ≡ Cues c → disk ≡ system → machine ≡ start →
-    IfOk r (λ t. (any : Option (List ℕ)) → IsPlayedCued disk machine steps c t (streams any any before written unrecorded record_now)) →
-    IfOk r (λ t. IsPlayedBy source system start steps t (streams unread unread before written unrecorded record_now))
-played_by_cues source c system disk start machine steps r unread before written unrecorded record_now cued blank begins played =
-    let io = streams unread unread before written unrecorded record_now in
+    (typing : TypingState) (before written unrecorded record_now : Option (List ℕ)) → source ≡ Cues c → disk ≡ system → machine ≡ start →
+    IfOk r (λ t. (any : TypingState) → IsPlayedCued disk machine steps c t (streams any any before written unrecorded record_now)) →
+    IfOk r (λ t. IsPlayedBy source system start steps t (streams typing typing before written unrecorded record_now))
+played_by_cues source c system disk start machine steps r typing before written unrecorded record_now cued blank begins played =
+    let io = streams typing typing before written unrecorded record_now in
     let P : Disk → Type 0 = λ d. IfOk r (λ t. IsPlayedBy (Cues c) d machine steps t io) in
     let Q : MachineState → Type 0 = λ s. IfOk r (λ t. IsPlayedBy (Cues c) system s steps t io) in
     let R : Source → Type 0 = λ x. IfOk r (λ t. IsPlayedBy x system start steps t io) in
-    subst R (sym cued) (subst Q begins (subst P blank (IfOk-weaker r _ _ (λ t h. h unread) played)))
+    subst R (sym cued) (subst Q begins (subst P blank (IfOk-weaker r _ _ (λ t h. h typing) played)))

@@ -8,9 +8,10 @@ use Rattle.cpm_flags.specs.declared.regs.Cpu.{Cpu}
 use Rattle.cpm_geom.specs.Disk.{Disk, blank_disk}
 use Rattle.cpm_geom.specs.declared.format.Format.TheVariants.{Ibm3740}
 use Rattle.cpm_script.specs.Cues.{cues}
-use Rattle.cpm_script.specs.Recording.{recorded}
+use Rattle.cpm_script.specs.Recording.{recorded, recording}
 use Rattle.cpm_script.specs.Script.{script, most_keys}
 use Rattle.cpm_script.specs.declared.cue.Cue.{Cue}
+use Rattle.cpm_script.specs.declared.script.Key.{Key}
 use Rattle.cpm_script.specs.declared.fault.ScriptError.{ScriptError}
 use Rattle.cpm_script.specs.declared.fault.ScriptError.TheVariants.{Line}
 use Rattle.cpm_script.specs.declared.fault.ScriptError.TheVariants as script_error
@@ -19,12 +20,13 @@ use Rattle.cpm_machine.specs.Opening.{most_program}
 use Rattle.cpm_machine.specs.Serve.{look_of}
 use Rattle.cpm_machine.specs.declared.opening.OpenError.TheVariants.{BadDrives}
 use Rattle.cpm_play.specs.Cued.{AreAscii, HasEndedCued, IsCued, IsCutOff, key_count}
-use Rattle.cpm_play.specs.Live.{AreGiven, AreTypedKeysRead, HasReason, IsCutShort}
+use Rattle.cpm_play.specs.Live.{AreGiven}
 use Rattle.cpm_play.specs.Playing.{alone_by, waits_at}
-use Rattle.cpm_play.specs.Wanting.{AreWanted, HasNoLongWait}
+use Rattle.cpm_play.specs.Sitting.{IsPlayCut, IsTypedPlay, sitting}
 use Rattle.cpm_play.specs.declared.cued.CuedKeys.{CuedKeys}
 use Rattle.cpm_play.specs.declared.live.LiveError.{LiveError}
 use Rattle.cpm_play.specs.declared.live.LivePlay.{LivePlay}
+use Rattle.cpm_play.specs.declared.live.PlayEnd.{PlayEnd}
 use Rattle.cpm_run.specs.Ending.{ending_of}
 use Rattle.cpm_run.specs.Settled.{AreUntouched, Streams}
 use Rattle.cpm_store.specs.Files.{StoreName}
@@ -77,10 +79,9 @@ IsProgramRefusal g _ = ⊥
 
 -- ---- its script
 
--- a machine takes all keys of a script
+-- a machine takes the keys of a script
 pub record AreFit (cues : List Cue) : Type 0 where
   pub ascii : AreAscii cues
-  pub few : key_count cues ≤ most_keys
 
 -- what is told of a script that is refused, in the file of this name
 abbrev pub IsScriptTold : StoreName → ScriptError → HostError → Type 0
@@ -103,17 +104,23 @@ abbrev pub console_text : MachineState → List ℕ
 console_text s = s.session.console.screen
 
 -- what a machine came to that was played so
-abbrev pub play_of : MachineState → LivePlay → ProgramPlay
-play_of s live = record {
+abbrev pub play_of : MachineState → LivePlay → Option PlayEnd → ProgramPlay
+play_of s live end = record {
   ending = ending_of s;
   drives = images_of s.session.disks;
   keys = live.keys;
   steps = live.steps;
   waits = (look_of s).waiting;
+  end = end;
 }
 
+-- the lines of keys are a recording of just these, and a script of them where it can have so many
+pub record GivesKeysAgain (keys : List Key) : Type 0 where
+  pub recording : recording (recorded keys) ≡ Ok keys
+  pub script : length keys ≤ most_keys → script (recorded keys) ≡ Ok keys
+
 -- A machine was played by a script that may wait: the keys that came are those that the script gives to the machine run alone; what it left is that of the
--- machine run alone by these keys, for so many steps; it ended as a script has it end; and the keys as lines of a script are one that gives them again.
+-- machine run alone by these keys, for so many steps; it ended as a script has it end; and their lines are a recording that gives them again.
 pub record IsRehearsed (system : Disk) (start : MachineState) (steps : ℕ) (c : CuedKeys) (t : ProgramPlay) : Type 0 where
   pub within : t.steps ≤ steps
   pub keys : IsCued system start steps c.waits_from c.cues.now t.keys.items
@@ -122,48 +129,47 @@ pub record IsRehearsed (system : Disk) (start : MachineState) (steps : ℕ) (c :
   pub drives : t.drives ≡ images_of (alone_by system t.keys.items t.steps start).session.disks
   pub ends : HasEndedCued system start steps c.waits_from c.stops_idle t.keys.items t.steps (alone_by system t.keys.items t.steps start)
   pub waits : t.waits ≡ waits_at system start t.keys.items t.steps
-  pub replays : script (recorded t.keys.items) ≡ Ok t.keys.items
+  pub untyped : t.end ≡ None
+  pub replays : GivesKeysAgain t.keys.items
 
--- and what it showed, and its keys as lines of a script, went to two writers; nothing was read
+-- and what it showed, and its keys as lines, went to two writers; nobody was heard
 pub record IsPlayedCued (system : Disk) (start : MachineState) (steps : ℕ) (c : CuedKeys) (t : ProgramPlay) (io : Streams) : Type 0 where
   pub rehearsed : IsRehearsed system start steps c t
   pub text : Appends io.before io.written (console_text (alone_by system t.keys.items t.steps start))
   pub lines : Appends io.unrecorded io.record_now (recorded t.keys.items)
   pub unread : io.left ≡ io.unread
 
--- A machine was played by keys as they were typed: what it showed and left is that of the machine run alone by these keys, each at the count at
--- which it was accepted, for so many steps; the keys are those that were read, up to ^]; and the record got just these keys as lines of a script, which gives
--- them again.
-pub record IsPlayedLive (system : Disk) (start : MachineState) (steps most : ℕ) (t : ProgramPlay) (io : Streams) : Type 0 where
+-- A machine was played by a script and then by keys as they were typed: what it showed and left is that of the machine run alone by these keys, each at the
+-- count at which it was accepted, for so many steps; the record got just these keys as lines, and these are a recording that gives them again; and why it
+-- ended is said.
+pub record IsPlayedLive (system : Disk) (start : MachineState) (steps : ℕ) (cues : List Cue) (t : ProgramPlay) (io : Streams) : Type 0 where
   pub within : t.steps ≤ steps
-  pub given : AreGiven most t.steps t.keys.items
-  pub read : AreTypedKeysRead io.unread io.left t.keys.items
+  pub given : AreGiven (length t.keys.items) t.steps t.keys.items
+  pub end : PlayEnd
+  pub told : t.end ≡ Some end
+  pub played : IsTypedPlay (sitting io.unread.is_patient system start steps cues) io.unread io.left t.keys.items t.steps end
   pub text : Appends io.before io.written (console_text (alone_by system t.keys.items t.steps start))
   pub ending : t.ending ≡ ending_of (alone_by system t.keys.items t.steps start)
   pub drives : t.drives ≡ images_of (alone_by system t.keys.items t.steps start).session.disks
-  pub ends : HasReason system start steps most io.unread io.left t.keys.items t.steps (alone_by system t.keys.items t.steps start)
-  -- each key came where the machine run alone wants one, and it never waits for long before it ends
-  pub wanted : AreWanted system start t.keys.items
-  pub brief : HasNoLongWait system start t.keys.items t.steps
   pub waits : t.waits ≡ waits_at system start t.keys.items t.steps
   pub lines : Appends io.unrecorded io.record_now (recorded t.keys.items)
-  pub replays : most ≤ most_keys → script (recorded t.keys.items) ≡ Ok t.keys.items
+  pub replays : GivesKeysAgain t.keys.items
 
 -- ---- where its keys come from
 
--- a machine takes all keys of its script, if it has one
+-- a machine takes the keys of its script, if it has one
 abbrev pub IsFitSource : Source → Type 0
 IsFitSource (Cues c) = AreFit c.cues.now
-IsFitSource (Typed most) = ⊤
+IsFitSource (Typed cues) = AreFit cues.now
 
 -- it was played so
 abbrev pub IsPlayedBy : Source → Disk → MachineState → (steps : ℕ) → ProgramPlay → Streams → Type 0
 IsPlayedBy (Cues c) system start steps t io = IsPlayedCued system start steps c t io
-IsPlayedBy (Typed most) system start steps t io = IsPlayedLive system start steps most t io
+IsPlayedBy (Typed cues) system start steps t io = IsPlayedLive system start steps cues.now t io
 
 -- ---- when it is refused
 
--- it was not played to its end by a script, and this is told of it; nothing was read
+-- it was not played to its end by a script, and this is told of it; nobody was heard
 pub record IsCutCued (system : Disk) (start : MachineState) (steps : ℕ) (c : CuedKeys) (io : Streams) (e : HostError) : Type 0 where
   pub error : LiveError
   pub told : e ≡ host_error_of_live error
@@ -171,18 +177,18 @@ pub record IsCutCued (system : Disk) (start : MachineState) (steps : ℕ) (c : C
   pub short : IsCutOff system steps c.waits_from c.cues.now start now io.before io.written io.unrecorded io.record_now error
   pub unread : io.left ≡ io.unread
 
--- nor by keys that were typed
-pub record IsLiveCut (system : Disk) (start : MachineState) (steps most : ℕ) (io : Streams) (e : HostError) : Type 0 where
+-- nor by a script and then by keys that were typed
+pub record IsLiveCut (system : Disk) (start : MachineState) (steps : ℕ) (cues : List Cue) (io : Streams) (e : HostError) : Type 0 where
   pub error : LiveError
   pub told : e ≡ host_error_of_live error
   pub now : MachineState
-  pub short : IsCutShort system steps most start now io.before io.written io.unrecorded io.record_now io.unread io.left error
+  pub short : IsPlayCut (sitting io.unread.is_patient system start steps cues) now io.before io.written io.unrecorded io.record_now io.unread io.left error
 
 abbrev pub IsCutBy : Source → Disk → MachineState → (steps : ℕ) → Streams → HostError → Type 0
 IsCutBy (Cues c) system start steps io e = IsCutCued system start steps c io e
-IsCutBy (Typed most) system start steps io e = IsLiveCut system start steps most io e
+IsCutBy (Typed cues) system start steps io e = IsLiveCut system start steps cues.now io e
 
--- nothing was read or written, and its machine is refused, or memory for the system drive
+-- nobody was heard, and nothing was written, and its machine is refused, or memory for the system drive
 pub record IsRefusedUnplayed (g : ProgramInput) (io : Streams) (e : HostError) : Type 0 where
   pub refused : IsProgramRefusal g e
   pub untouched : AreUntouched io

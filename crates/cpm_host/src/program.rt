@@ -22,7 +22,7 @@ use cpm_machine::{
 };
 use cpm_play::{CuedKeys, LivePlay, PlayEnd, Typist, Watcher, play_cues, play_live};
 use cpm_run::{Ending, RunError};
-use cpm_script::laws::{cues_in_order, recordings_give_their_keys_again};
+use cpm_script::laws::{cues_in_order, recordings_give_their_keys_again, scripts_are_recordings};
 use cpm_script::{Cue, Key, ScriptError, read_cues};
 use std::alloc::Global;
 use std::io::Write;
@@ -201,6 +201,7 @@ fn play_cued<W: Write, S: Write, T: Watcher>(
         (streams typing typing (W.contents out.old) (W.contents out.new) (S.contents «record».old) (S.contents «record».new)) e) }
 {
     recordings_give_their_keys_again();
+    scripts_are_recordings();
     let mut machine = machine;
     let live = play_cues(
         alloc,
@@ -234,6 +235,7 @@ fn play_typed<P: Typist, W: Write, S: Write>(
         (W.contents out.old) (W.contents out.new) (S.contents «record».old) (S.contents «record».new))) }
 {
     recordings_give_their_keys_again();
+    scripts_are_recordings();
     let mut machine = machine;
     let play = play_live(
         alloc,

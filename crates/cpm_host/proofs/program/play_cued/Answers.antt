@@ -1,11 +1,12 @@
-use Rattle.std.proofs.Common.{arith, refl, rules}
+use Rattle.std.proofs.Common.{refl, rules}
 use Rattle.std.proofs.lemmas.Result.{err_from_is_err_and}
+use Rattle.cpm_script.specs.Recording.{recorded}
 use Rattle.cpm_host.proofs.program.play_cued.Goals as goal
 
 pub returns-in_err-live-clause-refusal : goal.returns-in_err-live-clause-refusal
 returns-in_err-live-clause-refusal g c =
     let p = err_from_is_err_and c.from_residual.result c.from_residual.ensures.1 in
-    rw (p.1, p.2) (λ unread. record {
+    rw (p.1, p.2) (λ typing. record {
       error = c.in_err-live.field-0.0;
       told = refl;
       now = c.play_cues.new.machine;
@@ -16,7 +17,7 @@ returns-in_err-live-clause-refusal g c =
 pub returns-clause-played : goal.returns-clause-played
 returns-clause-played g c =
     let given = c.in_ok-live.ensures.given in
-    rw c.play_of.ensures (λ unread. record {
+    rw c.play_of.ensures (λ typing. record {
       rehearsed = record {
         within = c.in_ok-live.ensures.within;
         keys = c.in_ok-live.ensures.keys;
@@ -25,7 +26,12 @@ returns-clause-played g c =
         drives = search rules;
         ends = search rules;
         waits = c.in_ok-live.ensures.waits;
-        replays = c.recorded_keys.ensures c.in_ok-live.live.keys.items given.typed (let few = given.few in let fits = c.requires.fit.few in omega arith);
+        untyped = refl;
+        replays = record {
+          recording = c.recordings_give_their_keys_again.ensures c.in_ok-live.live.keys.items given.typed;
+          script = c.scripts_are_recordings.ensures.few (recorded c.in_ok-live.live.keys.items) c.in_ok-live.live.keys.items
+              (c.recordings_give_their_keys_again.ensures c.in_ok-live.live.keys.items given.typed);
+        };
       };
       text = c.in_ok-live.ensures.text;
       lines = c.in_ok-live.ensures.record;

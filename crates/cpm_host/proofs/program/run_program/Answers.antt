@@ -1,5 +1,6 @@
-use Rattle.std.proofs.Common.{None, inl, refl, arith}
+use Rattle.std.proofs.Common.{inl, refl, arith}
 use Rattle.std.proofs.lemmas.Result.{err_from_is_err_and, IfErr-at_err}
+use Rattle.cpm_play.specs.Typist.{nobody}
 use Rattle.cpm_host.proofs.ProgramLemmas.{not_long, played_by_cues}
 use Rattle.cpm_host.proofs.program.run_program.Goals as goal
 
@@ -15,6 +16,6 @@ returns-in-Cues-clause-played g c =
 pub returns-in-Cues-clause-too_long : goal.returns-in-Cues-clause-too_long
 returns-in-Cues-clause-too_long g c =
     let fits = c.in_ok-machine.ensures.fits.0 in (
-      λ is. let cut = IfErr-at_err _ is c.play_cued.ensures.refusal None in absurd (not_long cut.error _ cut.told),
+      λ is. let cut = IfErr-at_err _ is c.play_cued.ensures.refusal nobody in absurd (not_long cut.error _ cut.told),
       λ long. absurd (let bad : ⊥ = omega (arith, fits, long) in bad),
     )
