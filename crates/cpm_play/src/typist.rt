@@ -89,6 +89,13 @@ impl<I: Read> KeyReader<I> {
     {
         KeyReader { input }
     }
+
+    /// The input, with what was not read.
+    pub fn into_input(self) -> I
+        ensures { result ≡ self.input }
+    {
+        self.input
+    }
 }
 
 impl<I: Read> Typist for KeyReader<I> {
