@@ -14,6 +14,7 @@ use Rattle.cpm_host.specs.declared.error.HostError.{HostError}
 use Rattle.cpm_host.specs.declared.error.HostError.TheVariants.{OutOfMemory}
 use Rattle.cpm_run.specs.Refusing.{IsStoppedRun}
 use Rattle.cpm_run.specs.Run.{HasAccessed}
+use Rattle.cpm_play.specs.Typist.{TypingState}
 use Rattle.cpm_run.specs.Settled.{AreUntouched, Streams, streams}
 use Rattle.cpm_run.specs.declared.error.RunError.{RunError}
 use Rattle.cpm_run.specs.declared.options.RecordFile.{RecordFile}
@@ -26,7 +27,7 @@ use Rattle.cpm_commands.specs.Files.{IsUnread}
 use Rattle.cpm_commands.specs.Plan.{PlannedName, Plan, all_planned, planned, planned_if_any}
 use Rattle.cpm_commands.specs.Record.{IsUnrecorded}
 use Rattle.cpm_commands.specs.Report.{IsReported, IsUnprinted, report_text}
-use Rattle.cpm_commands.specs.Typed.{IsHeard, IsScriptKept, is_typed_at, typed_script}
+use Rattle.cpm_commands.specs.Typed.{IsScriptKept, is_typed_at, typed_script}
 use Rattle.cpm_commands.specs.declared.plan.FileRole.TheVariants.{Configuration, Image, Plain, Script}
 use Rattle.cpm_commands.specs.declared.plan.OutputNaming.TheVariants.{Replaces}
 
@@ -109,21 +110,16 @@ pub record HasRunAll {F : Type 0} (does : F → StoreAccess → F → Type 0) (t
     (scripts : List (String Global)) (report : Report) (io : Streams) (old new : F) : Type 0 where
   pub options : RunOptions
   pub asked : IsAsked (tells_name old) task config.sessions.items scripts options
-  -- without the script of the session that is typed at
-  pub heard : Config
-  pub hears : IsHeard (option_map (λ n. n.now) task.keyboard) config heard
-  pub accessed : HasAccessed does heard options report io old new
+  pub accessed : HasAccessed does config options report io old new
 
 -- the run was refused, and has come so far
 pub record IsRunRefused {F : Type 0} (does : F → StoreAccess → F → Type 0) (tells_name : F → StoreName → Bool → Type 0) (task : RunTask) (config : Config)
     (scripts : List (String Global)) (io : Streams) (old new : F) (e : HostError) : Type 0 where
   pub options : RunOptions
   pub asked : IsAsked (tells_name old) task config.sessions.items scripts options
-  pub heard : Config
-  pub hears : IsHeard (option_map (λ n. n.now) task.keyboard) config heard
   pub error : RunError
   pub told : e ≡ host_error_of_run error
-  pub stopped : IsStoppedRun does heard options io old new error
+  pub stopped : IsStoppedRun does config options io old new error
 
 -- or memory was refused before it, and nothing was read or written
 abbrev pub IsRunAllStopped : {F : Type 0} → (F → StoreAccess → F → Type 0) → (F → StoreName → Bool → Type 0) → RunTask → Config → List (String Global)
@@ -159,7 +155,7 @@ pub record IsRunPrepared {F : Type 0} (does : F → StoreAccess → F → Type 0
 -- record of what was typed was ended.
 pub record HasRunSessions {F : Type 0} (does : F → StoreAccess → F → Type 0) (sees_to : F → Plan → Option HostError → F → Type 0)
     (gives_names : F → Option HostError → F → Type 0) (tells_name : F → StoreName → Bool → Type 0) (ended : Option HostError → Type 0)
-    (told : List SessionReport → Type 0) (task : RunTask) (old new : F) (unread left before printed unrecorded record_now : Option (List ℕ)) : Type 0 where
+    (told : List SessionReport → Type 0) (task : RunTask) (old new : F) (unread left : TypingState) (before printed unrecorded record_now : Option (List ℕ)) : Type 0 where
   pub config : Config
   pub scripts : List (String Global)
   pub seen : F
@@ -176,8 +172,8 @@ pub record HasRunSessions {F : Type 0} (does : F → StoreAccess → F → Type 
 -- How far it came that was refused. Before its sessions ran no stream was read or written. Once they ran the record of what was typed was ended.
 pub data IsRunStopped {F : Type 0} (does : F → StoreAccess → F → Type 0) (sees_to : F → Plan → Option HostError → F → Type 0)
     (gives_names : F → Option HostError → F → Type 0) (tells_name : F → StoreName → Bool → Type 0) (ended : Option HostError → Type 0)
-    (told : List SessionReport → Type 0) (task : RunTask) (old new : F) (unread left before printed unrecorded record_now : Option (List ℕ))
-    (e : HostError) : Type 0 where
+    (told : List SessionReport → Type 0) (task : RunTask) (old new : F) (unread left : TypingState)
+    (before printed unrecorded record_now : Option (List ℕ)) (e : HostError) : Type 0 where
   -- it has no configuration
   NoConfig : IsConfigRefused does task.config.now old new e → AreUntouched (streams unread left before printed unrecorded record_now)
       → IsRunStopped does sees_to gives_names tells_name ended told task old new unread left before printed unrecorded record_now e

@@ -1,5 +1,5 @@
 -- What is done of what a command line asks for. All of it is own.
-use Rattle.std.specs.Prelude.{⊤, ◌≡◌, ◌⊎◌, ℕ, Bool, List, [], map, option_map, Option}
+use Rattle.std.specs.Prelude.{◌≡◌, ◌⊎◌, ℕ, Bool, List, [], map, option_map, Option, Result, Ok, Err}
 use Rattle.std.specs.Io.KnownBytes.{Appends}
 use Rattle.cpm_command_line.specs.HelpWords.{text_of_page}
 use Rattle.cpm_command_line.specs.declared.task.DiskTask.{DiskTask}
@@ -47,10 +47,17 @@ pub record Passage (F W : Type 0) : Type 0 where
   pub out : W
   pub out_now : W
   pub io : Streams
+  -- what standard input had
+  pub unread : Option (List ℕ)
 
 -- nothing was printed
 abbrev pub IsSilent : {F W : Type 0} → Passage F W → Type 0
 IsSilent {F} {W} p = p.out_now ≡ p.out
+
+-- the exit status of a command that runs no program of its own
+abbrev pub with_status : Result (Unit {0}) HostError → Result ℕ HostError
+with_status (Ok done) = Ok 0
+with_status (Err e) = Err e
 
 -- ---- what is done
 
@@ -71,21 +78,26 @@ IsDiskTaskDone {F} {W} acts p (Remove image names user) =
 IsDiskTaskDone {F} {W} acts p (Rename image change user) =
     HasRenamedOn acts.does acts.sees_to acts.gives_names image.now change.now user p.old p.new × IsSilent p
 
--- the command that the words name, by their values, and no other
-abbrev pub IsTaskDone : {F W : Type 0} → FileActs F → LastActs → Passage F W → Task → Type 0
-IsTaskDone {F} {W} acts last p (Com task) =
-    HasRunProgram acts.does acts.sees_to acts.gives_names last.ended (last.told_end task.is_quiet) task p.io p.old p.new
-IsTaskDone {F} {W} acts last p (Asm source out list) =
+-- a command that runs no program of its own
+abbrev pub IsPlainTaskDone : {F W : Type 0} → FileActs F → LastActs → Passage F W → Task → Type 0
+IsPlainTaskDone {F} {W} acts last p (Com task) = ⊥
+IsPlainTaskDone {F} {W} acts last p (Asm source out list) =
     HasAssembled acts.does acts.sees_to acts.gives_names source.now out.now (option_map (λ n. n.now) list) p.old p.new × IsSilent p
-IsTaskDone {F} {W} acts last p (Lines file cpu) = HasListed acts.does file.now cpu p.old p.new p.io.before p.io.written
-IsTaskDone {F} {W} acts last p (Check image) = HasChecked acts.does image.now p.old p.new p.io.before p.io.written
-IsTaskDone {F} {W} acts last p (Run task) =
+IsPlainTaskDone {F} {W} acts last p (Lines file cpu) = HasListed acts.does file.now cpu p.old p.new p.io.before p.io.written
+IsPlainTaskDone {F} {W} acts last p (Check image) = HasChecked acts.does image.now p.old p.new p.io.before p.io.written
+IsPlainTaskDone {F} {W} acts last p (Run task) =
     HasRunSessions acts.does acts.sees_to acts.gives_names acts.tells_name last.ended last.told_illegal task p.old p.new
     p.io.unread p.io.left p.io.before p.io.written p.io.unrecorded p.io.record_now
-IsTaskDone {F} {W} acts last p (Debug file cpu list) =
-    HasDebugged acts.does file.now cpu (option_map (λ n. n.now) list) p.old p.new p.io.unread p.io.before p.io.written
-IsTaskDone {F} {W} acts last p (Disk task) = IsDiskTaskDone acts p task
-IsTaskDone {F} {W} acts last p (Help page) = (p.new ≡ p.old) × Appends p.io.before p.io.written (text_of_page page)
+IsPlainTaskDone {F} {W} acts last p (Debug file cpu list) =
+    HasDebugged acts.does file.now cpu (option_map (λ n. n.now) list) p.old p.new p.unread p.io.before p.io.written
+IsPlainTaskDone {F} {W} acts last p (Disk task) = IsDiskTaskDone acts p task
+IsPlainTaskDone {F} {W} acts last p (Help page) = (p.new ≡ p.old) × Appends p.io.before p.io.written (text_of_page page)
+
+-- The command that the words name, by their values, and no other; and the exit status.
+abbrev pub IsTaskDone : {F W : Type 0} → FileActs F → LastActs → Passage F W → Task → (status : ℕ) → Type 0
+IsTaskDone {F} {W} acts last p (Com task) status =
+    HasRunProgram acts.does acts.sees_to acts.gives_names last.ended (last.told_end task.is_quiet) task p.io p.old p.new status
+IsTaskDone {F} {W} acts last p task status = IsPlainTaskDone acts last p task × (status ≡ 0)
 
 -- ---- how far it came that was refused
 
@@ -119,6 +131,6 @@ IsTaskRefused {F} {W} acts last p (Run task) e =
     IsRunStopped acts.does acts.sees_to acts.gives_names acts.tells_name last.ended last.told_illegal task p.old p.new
     p.io.unread p.io.left p.io.before p.io.written p.io.unrecorded p.io.record_now e
 IsTaskRefused {F} {W} acts last p (Debug file cpu list) e =
-    IsDebugRefused acts.does file.now cpu (option_map (λ n. n.now) list) p.old p.new p.io.unread p.io.before p.io.written p.out p.out_now e
+    IsDebugRefused acts.does file.now cpu (option_map (λ n. n.now) list) p.old p.new p.unread p.io.before p.io.written p.out p.out_now e
 IsTaskRefused {F} {W} acts last p (Disk task) e = IsDiskTaskRefused acts p task e
 IsTaskRefused {F} {W} acts last p (Help page) e = (p.new ≡ p.old) × IsUnprinted e

@@ -20,14 +20,3 @@ typed_script typed (p ∷ ps) = if is_typed_at typed p.0 then Some (string_bytes
 abbrev pub IsScriptKept : (tells_name : StoreName → Bool → Type 0) → Option StoreName → Option StoreName → Type 0
 IsScriptKept tells_name None kept = kept ≡ None
 IsScriptKept tells_name (Some name) kept = ((kept ≡ Some name) × tells_name name true) ⊎ ((kept ≡ None) × tells_name name false)
-
--- without the script of the session that is typed at
-abbrev pub without_script : Option StoreName → SessionConfig → SessionConfig
-without_script typed s = if is_typed_at typed s then record s { keys = None } else s
-
--- nothing else of a configuration is changed
-pub record IsHeard (typed : Option StoreName) (config heard : Config) : Type 0 where
-  pub frames : heard.frames ≡ config.frames
-  pub quantum : heard.quantum ≡ config.quantum
-  pub system : heard.system ≡ config.system
-  pub sessions : heard.sessions.items ≡ map (without_script typed) config.sessions.items

@@ -2,9 +2,11 @@
 ghost use Rattle.std.specs.Prelude.{◌≡◌, ◌&&◌, ◌<◌, ◌≤◌, ◌+◌, ◌++◌, IfErr, IfOk, IsOk, OnOk, Some, map, option_map, vec_len};
 ghost use Rattle.std.specs.Vec.{vec_capacity};
 ghost use Rattle.cpm_batch.specs.Outputs.{named_image};
-ghost use Rattle.cpm_commands.specs.Com.{AreCuesRead, AreCuesRefused, AreDrivesRead, AreDrivesRefused};
-ghost use Rattle.cpm_commands.specs.Com.{HasRunProgram, IsComStopped, IsStartRead, IsStartRefused, IsTailOf};
-ghost use Rattle.cpm_commands.specs.Com.{drive_outputs, plan_of_com, source_of, steps_asked};
+ghost use Rattle.cpm_commands.specs.Com.{AreCuesRead, AreCuesRefused, AreDrivesRead, AreDrivesRefused, AreKeysRead, AreKeysRefused};
+ghost use Rattle.cpm_commands.specs.Com.{AreRecordedRead, AreRecordedRefused, HasPlayedFile, HasRunProgram, IsComStopped, IsPlayStopped};
+ghost use Rattle.cpm_commands.specs.Com.{IsStartRead, IsStartRefused, IsTailOf, drive_outputs, is_cut_off, is_kept_back, plan_of_com, source_of};
+ghost use Rattle.cpm_commands.specs.Com.{status_of, status_of_end, steps_asked};
+ghost use Rattle.cpm_machine.specs.Step.{is_running};
 ghost use Rattle.cpm_commands.specs.Messages.{HasToldEnd};
 ghost use Rattle.cpm_commands.specs.Plan.{plan_view};
 ghost use Rattle.cpm_commands.specs.Record.{HasEndedRecord};
@@ -20,8 +22,8 @@ use crate::plan::{FilePlan, FileRole, OutputNaming, add_all, add_file, add_if_an
 use crate::record::{KeyRecord, end_record};
 use cpm_geom::Image;
 use cpm_host::{
-    ComTask, Cue, CuedKeys, HostError, ProgramPlay, ProgramStart, RunStage, RunWatcher, Source,
-    Tail, Typist, cues_of, run_program, tail_of,
+    ComTask, Cue, CuedKeys, End, Ending, HostError, ProgramPlay, ProgramStart, RunStage,
+    RunWatcher, Source, Tail, Typist, cues_of, recorded_cues_of, run_program, tail_of,
 };
 use cpm_store::Output;
 use std::alloc::{AllocError, Global};
@@ -38,6 +40,7 @@ fn plan_of<'a>(alloc: Global, task: &ComTask<'a>) -> Result<FilePlan<'a>, AllocE
     add_file(&mut inputs, task.file, FileRole::Plain)?;
     add_all(&mut inputs, &task.drives, FileRole::Image)?;
     add_if_any(&mut inputs, task.keys, FileRole::Plain)?;
+    add_if_any(&mut inputs, task.replay, FileRole::Plain)?;
     let mut outputs = Vec::new(alloc);
     add_all(&mut outputs, &task.outs, FileRole::Image)?;
     add_if_any(&mut outputs, task.record, FileRole::Plain)?;
@@ -115,6 +118,40 @@ fn read_script<F: CommandFiles>(
     cues_of(alloc, name, text.as_slice())
 }
 
+/// The keys of the recording in a file, if there is one, as what a script says.
+fn read_recorded<F: CommandFiles>(
+    alloc: Global,
+    name: Option<&str>,
+    files: &mut F,
+) -> Result<Vec<Cue>, HostError>
+    ensures read { IfOk result (λ v. AreRecordedRead F.does (option_map (λ n. n.now) name.entry) files.old files.new v.items) }
+    ensures fit { IfOk result (λ v. AreFit v.items) }
+    ensures refusal { IfErr result (AreRecordedRefused F.does (option_map (λ n. n.now) name.entry) files.old files.new) }
+{
+    let Some(name) = name else {
+        return Ok(Vec::new(alloc));
+    };
+    let text = read_file(alloc, files, name)?;
+    recorded_cues_of(alloc, name, text.as_slice())
+}
+
+/// What the program is played by before anybody types: its script, or else a recording.
+fn read_keys<F: CommandFiles>(
+    alloc: Global,
+    task: &ComTask<'_>,
+    files: &mut F,
+) -> Result<Vec<Cue>, HostError>
+    ensures read { IfOk result (λ v. AreKeysRead F.does task.now files.old files.new v.items) }
+    ensures fit { IfOk result (λ v. AreFit v.items) }
+    ensures refusal { IfErr result (AreKeysRefused F.does task.now files.old files.new) }
+{
+    if task.keys.is_some() {
+        read_script(alloc, task.keys, files)
+    } else {
+        read_recorded(alloc, task.replay, files)
+    }
+}
+
 /// Where the keys of the program come from.
 fn source_of<'a>(task: &ComTask<'_>, cues: &'a [Cue]) -> Source<'a>
     ensures { source_of task.now cues.entry.now result }
@@ -130,12 +167,61 @@ fn source_of<'a>(task: &ComTask<'_>, cues: &'a [Cue]) -> Source<'a>
     }
 }
 
-/// How many steps it has at most.
+/// How many steps it has at most. Where a person ends it, or its disks are written, there is no limit that nobody asked for.
 fn steps_asked(task: &ComTask<'_>) -> u64
     ensures { result ≡ steps_asked task.now }
 {
-    let unasked = if task.is_live { u64::MAX } else { STEPS };
+    let unasked = if task.is_live || !task.outs.is_empty() {
+        u64::MAX
+    } else {
+        STEPS
+    };
     task.steps.unwrap_or(unasked)
+}
+
+/// Whether a program still runs.
+fn runs(end: End) -> bool
+    ensures { result ≡ is_running end }
+{
+    matches!(end, End::Running)
+}
+
+/// The exit status that tells how a program ended.
+fn status_of_end(end: End) -> u8
+    ensures { result ≡ status_of_end end }
+{
+    match end {
+        End::Exited | End::Halted => 0,
+        End::Running => 11,
+        End::Illegal => 12,
+        End::Quota => 13,
+        End::CountEnd => 14,
+    }
+}
+
+/// Whether its limit of steps has cut a program off: it still runs, and doesn't wait for a key.
+fn is_cut_off(task: &ComTask<'_>, play: &ProgramPlay) -> bool
+    ensures { result ≡ is_cut_off task.now play.now }
+{
+    task.steps.is_some() && runs(play.ending.ended) && !play.waits
+}
+
+/// Whether its disks are to be written only where it was not cut off, and it was.
+fn is_kept_back(task: &ComTask<'_>, play: &ProgramPlay) -> bool
+    ensures { result ≡ is_kept_back task.now play.now }
+{
+    !task.outs.is_empty() && !task.is_partial && is_cut_off(task, play)
+}
+
+/// The exit status.
+fn status_of(task: &ComTask<'_>, ending: Ending) -> u8
+    ensures { result ≡ status_of task.now ending }
+{
+    if task.has_status {
+        status_of_end(ending.ended)
+    } else {
+        0
+    }
 }
 
 /// Adds the image of a drive to what is written, if there is one.
@@ -190,7 +276,47 @@ fn is_idle(waits: bool, stops_idle: bool) -> bool
     waits && stops_idle
 }
 
-/// Runs the program in a file, shows its text as it comes, writes its drives where files are named for them, once it has run, and tells how it ended.
+/// Reads a program, its disks and its keys, and plays it. What it shows is written as it comes.
+fn play_file<F: CommandFiles, P: Typist, W: Write, R: Write, T: RunWatcher>(
+    alloc: Global,
+    task: &ComTask<'_>,
+    files: &mut F,
+    typist: &mut P,
+    out: &mut W,
+    record: &mut R,
+    watcher: &mut T,
+) -> Result<ProgramPlay, HostError>
+    ensures played { IfOk result (HasPlayedFile F.does F.sees_to task.now
+        (streams (P.typing typist.old) (P.typing typist.new) (W.contents out.old) (W.contents out.new) (R.contents «record».old) (R.contents «record».new))
+        files.old files.new) }
+    ensures refusal { IfErr result (IsPlayStopped F.does F.sees_to task.now
+        (streams (P.typing typist.old) (P.typing typist.new) (W.contents out.old) (W.contents out.new) (R.contents «record».old) (R.contents «record».new))
+        files.old files.new) }
+{
+    let tail = tail_if_any(alloc, task)?;
+    let plan = plan_of(alloc, task)?;
+    files.see_to(&plan)?;
+    let start = read_start(alloc, task, tail, files)?;
+    let cues = read_keys(alloc, task, files)?;
+    watcher.begin(stage_of(task));
+    let source = source_of(task, cues.as_slice());
+    run_program(
+        alloc,
+        start,
+        steps_asked(task),
+        source,
+        typist,
+        out,
+        record,
+        watcher,
+    )
+}
+
+/// Runs the program in a file, shows its text as it comes, writes its drives where files are named for them, once it has run, and tells how it ended. It gives
+/// the exit status.
+///
+/// A program that its limit of steps has cut off is `CutOff` where files are named for its drives and these are not to be written in part: nothing is written
+/// then, but the record of its keys is.
 pub fn run_program_file<
     F: CommandFiles,
     P: Typist,
@@ -205,8 +331,8 @@ pub fn run_program_file<
     out: &mut W,
     record: &mut R,
     watcher: &mut T,
-) -> Result<(), HostError>
-    ensures ran { OnOk result (HasRunProgram F.does F.sees_to F.gives_names (HasEndedRecord R.ends R.contents (R.contents «record».new) «record».new)
+) -> Result<u8, HostError>
+    ensures ran { IfOk result (HasRunProgram F.does F.sees_to F.gives_names (HasEndedRecord R.ends R.contents (R.contents «record».new) «record».new)
         (λ ending waits. HasToldEnd T.tells task.now.is_quiet ending waits watcher.new) task.now
         (streams (P.typing typist.old) (P.typing typist.new) (W.contents out.old) (W.contents out.new) (R.contents «record».old) (R.contents «record».new))
         files.old files.new) }
@@ -215,25 +341,12 @@ pub fn run_program_file<
         (streams (P.typing typist.old) (P.typing typist.new) (W.contents out.old) (W.contents out.new) (R.contents «record».old) (R.contents «record».new))
         files.old files.new) }
 {
-    let tail = tail_if_any(alloc, task)?;
-    let plan = plan_of(alloc, task)?;
     let mut outputs = Vec::with_capacity(alloc, 4)?;
-    files.see_to(&plan)?;
-    let start = read_start(alloc, task, tail, files)?;
-    let cues = read_script(alloc, task.keys, files)?;
-    watcher.begin(stage_of(task));
-    let source = source_of(task, cues.as_slice());
-    let play = run_program(
-        alloc,
-        start,
-        steps_asked(task),
-        source,
-        typist,
-        out,
-        record,
-        watcher,
-    )?;
+    let play = play_file(alloc, task, files, typist, out, record, watcher)?;
     end_record(record)?;
+    if is_kept_back(task, &play) {
+        return Err(HostError::CutOff(play.steps));
+    }
     let ProgramPlay {
         ending,
         drives,
@@ -249,5 +362,5 @@ pub fn run_program_file<
         task.is_quiet,
         watcher,
     );
-    Ok(())
+    Ok(status_of(task, ending))
 }

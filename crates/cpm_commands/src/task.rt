@@ -1,5 +1,5 @@
 //! What a command line asks for, done.
-ghost use Rattle.std.specs.Prelude.{IfErr, OnOk};
+ghost use Rattle.std.specs.Prelude.{◌≡◌, IfErr, IfOk, None, OnOk};
 ghost use Rattle.std.specs.Io.KnownBytes.{Appends};
 ghost use Rattle.cpm_command_line.specs.DiskLine.{HasUser};
 ghost use Rattle.cpm_command_line.specs.Line.{HasUsers};
@@ -7,7 +7,8 @@ ghost use Rattle.cpm_command_line.specs.HelpWords.{text_of_page};
 ghost use Rattle.cpm_commands.specs.Messages.{HasToldEnd, HasToldIllegal};
 ghost use Rattle.cpm_commands.specs.Record.{HasEndedRecord};
 ghost use Rattle.cpm_commands.specs.Report.{IsUnprinted};
-ghost use Rattle.cpm_commands.specs.Task.{IsDiskTaskDone, IsDiskTaskRefused, IsTaskDone, IsTaskRefused};
+ghost use Rattle.cpm_commands.specs.Task.{IsDiskTaskDone, IsDiskTaskRefused, IsTaskDone, IsTaskRefused, with_status};
+ghost use Rattle.cpm_play.specs.Typist.{nobody};
 ghost use Rattle.cpm_run.specs.Settled.{streams};
 
 use crate::asm::assemble_file;
@@ -111,7 +112,17 @@ fn do_disk<F: CommandFiles, W: Write>(
     }
 }
 
-/// Does what a command line asks for, over these files and streams. Refusals and their order are each command's own.
+/// The exit status of a command that runs no program of its own: 0, unless it is refused.
+fn plain(done: Result<(), HostError>) -> Result<u8, HostError>
+    ensures { result ≡ with_status done }
+{
+    match done {
+        Ok(()) => Ok(0),
+        Err(error) => Err(error),
+    }
+}
+
+/// Does what a command line asks for, over these files and streams, and gives the exit status. Refusals and their order are each command's own.
 pub fn do_task<
     F: CommandFiles,
     I: BufRead,
@@ -128,9 +139,9 @@ pub fn do_task<
     out: &mut W,
     record: &mut R,
     watcher: &mut T,
-) -> Result<(), HostError>
+) -> Result<u8, HostError>
     requires { HasUsers task.now }
-    ensures done { OnOk result (IsTaskDone
+    ensures done { IfOk result (IsTaskDone
         (record { does = F.does; sees_to = F.sees_to; gives_names = F.gives_names; tells_name = F.tells_name; tells_folder = F.tells_folder })
         (record {
           ended = HasEndedRecord R.ends R.contents (R.contents «record».new) «record».new;
@@ -169,14 +180,14 @@ pub fn do_task<
             source,
             out: image,
             list,
-        } => assemble_file(alloc, source, image, *list, files),
-        Task::List { file, cpu } => list_program(alloc, file, *cpu, files, out),
-        Task::Check { image } => check_image(alloc, image, files, out),
-        Task::Run(task) => run_sessions(alloc, task, files, typist, out, record, watcher),
+        } => plain(assemble_file(alloc, source, image, *list, files)),
+        Task::List { file, cpu } => plain(list_program(alloc, file, *cpu, files, out)),
+        Task::Check { image } => plain(check_image(alloc, image, files, out)),
+        Task::Run(task) => plain(run_sessions(alloc, task, files, typist, out, record, watcher)),
         Task::Debug { file, cpu, list } => {
-            debug_program(alloc, file, *cpu, *list, files, input, out)
+            plain(debug_program(alloc, file, *cpu, *list, files, input, out))
         }
-        Task::Disk(task) => do_disk(alloc, task, files, out),
-        Task::Help(page) => print_page(*page, out),
+        Task::Disk(task) => plain(do_disk(alloc, task, files, out)),
+        Task::Help(page) => plain(print_page(*page, out)),
     }
 }

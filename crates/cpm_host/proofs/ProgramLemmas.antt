@@ -1,5 +1,5 @@
 -- What a program was played by, and what it is not refused for.
-use Rattle.std.proofs.Common.{◌≡◌, ℕ, List, Option, Result, IfOk, sym, subst}
+use Rattle.std.proofs.Common.{◌≡◌, ℕ, List, [], ◌∷◌, map, Option, Result, IfOk, sym, subst}
 use Rattle.std.proofs.lemmas.Result.{IfOk-weaker}
 use Rattle.cpm_geom.specs.Disk.{Disk}
 use Rattle.cpm_machine.specs.MachineState.{MachineState}
@@ -8,6 +8,11 @@ use Rattle.cpm_play.specs.declared.cued.CuedKeys.{CuedKeys}
 use Rattle.cpm_play.specs.declared.live.LiveError.{LiveError}
 use Rattle.cpm_play.specs.declared.live.LiveError.TheVariants.{Unreadable, Unwritable, Unrecorded, OutOfMemory}
 use Rattle.cpm_run.specs.Settled.{streams}
+use Rattle.cpm_script.specs.Cues.{cue_text}
+use Rattle.cpm_script.specs.Laws.{KeysAreAscii}
+use Rattle.cpm_script.specs.Recording.{AreTyped}
+use Rattle.cpm_script.specs.declared.cue.Cue.TheVariants.{Key as Timed}
+use Rattle.cpm_script.specs.declared.script.Key.{Key}
 use Rattle.cpm_host.specs.Program.{IsPlayedBy, IsPlayedCued}
 use Rattle.cpm_host.specs.Refusals.{host_error_of_live}
 use Rattle.cpm_host.specs.declared.error.HostError.{HostError}
@@ -34,3 +39,8 @@ played_by_cues source c system disk start machine steps r typing before written 
     let Q : MachineState → Type 0 = λ s. IfOk r (λ t. IsPlayedBy (Cues c) system s steps t io) in
     let R : Source → Type 0 = λ x. IfOk r (λ t. IsPlayedBy x system start steps t io) in
     subst R (sym cued) (subst Q begins (subst P blank (IfOk-weaker r _ _ (λ t h. h typing) played)))
+
+-- keys that may have been typed are below 80h
+pub typed-fit : (low : ℕ) (keys : List Key) → AreTyped low keys → KeysAreAscii (map cue_text (map Timed keys))
+typed-fit low [] typed = tt
+typed-fit low (k ∷ keys) typed = (typed.2, typed-fit k.count keys typed.3)

@@ -1,5 +1,5 @@
 -- A program that is played by its script or typed at: what it runs with, what it shows and leaves, and when it is refused. All of it is own.
-use Rattle.std.specs.Prelude.{⊤, ◌≡◌, ◌<◌, ◌≤◌, ◌⊎◌, ℕ, List, [], ◌∷◌, length, chars, Option, Some, None, Ok, Err}
+use Rattle.std.specs.Prelude.{⊤, ◌≡◌, ◌<◌, ◌≤◌, ◌⊎◌, ℕ, List, [], ◌∷◌, length, map, chars, Option, Some, None, Ok, Err}
 use Rattle.std.specs.Io.KnownBytes.{Appends}
 use Rattle.cpm_batch.specs.declared.error.ReadError.TheVariants as read
 use Rattle.cpm_command_line.specs.Shown.{shown_of}
@@ -11,6 +11,7 @@ use Rattle.cpm_script.specs.Cues.{cues}
 use Rattle.cpm_script.specs.Recording.{recorded, recording}
 use Rattle.cpm_script.specs.Script.{script, most_keys}
 use Rattle.cpm_script.specs.declared.cue.Cue.{Cue}
+use Rattle.cpm_script.specs.declared.cue.Cue.TheVariants.{Key as Timed}
 use Rattle.cpm_script.specs.declared.script.Key.{Key}
 use Rattle.cpm_script.specs.declared.fault.ScriptError.{ScriptError}
 use Rattle.cpm_script.specs.declared.fault.ScriptError.TheVariants.{Line}
@@ -96,6 +97,17 @@ IsCueRefusal name text (RunRefused (FileRefused (read.Script shown line fault)))
     (shown.bytes ≡ shown_of (chars name)) × (cues text ≡ Err (line, fault))
 IsCueRefusal name text OutOfMemory = ⊤
 IsCueRefusal name text _ = ⊥
+
+-- a recording has these keys, each at its count
+abbrev pub AreRecorded : (text : List ℕ) → List Cue → Type 0
+AreRecorded text said = (keys : List Key) × (recording text ≡ Ok keys) × (said ≡ map Timed keys)
+
+-- how one is refused: for its first line with a fault, with the name of its file as it is shown
+abbrev pub IsRecordingRefusal : StoreName → (text : List ℕ) → HostError → Type 0
+IsRecordingRefusal name text (RunRefused (FileRefused (read.Script shown line fault))) =
+    (shown.bytes ≡ shown_of (chars name)) × (recording text ≡ Err (line, fault))
+IsRecordingRefusal name text OutOfMemory = ⊤
+IsRecordingRefusal name text _ = ⊥
 
 -- ---- what it shows and leaves
 

@@ -79,6 +79,9 @@ pub enum HostError {
     /// The program has this many bytes, which is more than a machine takes.
     #[error("the program has {0} bytes, and a machine takes at most 58112")]
     ProgramTooLong(usize),
+    /// The program still ran when it had made all the steps that it may make, so its disks were not written.
+    #[error("the program still ran after {0} steps, so its disks are as they were; give it more '--steps', or '--partial' to write them as they stand")]
+    CutOff(u64),
 }
 
 impl fmt::Debug for HostError {
@@ -146,6 +149,7 @@ impl HostError {
             HostError::SourceRefused { .. } => RefusalCode::Source,
             HostError::OutOfMemory => RefusalCode::OutOfMemory,
             HostError::OpeningRefused(_) | HostError::ProgramTooLong(_) => RefusalCode::Machine,
+            HostError::CutOff(_) => RefusalCode::CutOff,
         }
     }
 }

@@ -36,5 +36,5 @@ pub use cpm_store::{MemoryStore, Store, StoreError};
 pub use error::HostError;
 pub use input::{MOST_FILE, read_whole};
 pub use list::run_list;
-pub use program::{ProgramPlay, ProgramStart, Source, cues_of, run_program};
+pub use program::{ProgramPlay, ProgramStart, Source, cues_of, recorded_cues_of, run_program};
 pub use tail::tail_of;

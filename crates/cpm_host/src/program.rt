@@ -1,5 +1,6 @@
 //! The command `com`: a program is played by what its script says, or as it is typed at.
-ghost use Rattle.std.specs.Prelude.{◌≡◌, ◌≢◌, ◌↔◌, ◌<◌, ◌≤◌, ℕ, List, Option, None, IfErr, IfOk, IsErrOf, OnOk, Ok, length};
+ghost use Rattle.std.specs.Prelude.{◌≡◌, ◌≢◌, ◌↔◌, ◌<◌, ◌≤◌, ℕ, List, Option, None, IfErr, IfOk, IsErrOf, OnOk, Ok, length, map};
+ghost use Rattle.cpm_script.specs.declared.cue.Cue.TheVariants.{Key as Timed};
 ghost use Rattle.cpm_geom.specs.Disk.{blank_disk};
 ghost use Rattle.cpm_geom.specs.declared.format.Format.TheVariants.{Ibm3740};
 ghost use Rattle.cpm_script.specs.Cues.{all_said, cues};
@@ -8,7 +9,7 @@ ghost use Rattle.cpm_machine.specs.Opening.{program_fault, IsRefusal, most_progr
 ghost use Rattle.cpm_play.specs.Playing.{IsFresh};
 ghost use Rattle.cpm_play.specs.Typist.{TypingState};
 ghost use Rattle.cpm_run.specs.Settled.{streams};
-ghost use Rattle.cpm_host.specs.Program.{AreFit, IsCueRefusal, IsCutCued, IsFitSource, IsLiveCut, IsPlayedBy, IsPlayedCued, IsPlayedLive};
+ghost use Rattle.cpm_host.specs.Program.{AreFit, AreRecorded, IsCueRefusal, IsRecordingRefusal, IsCutCued, IsFitSource, IsLiveCut, IsPlayedBy, IsPlayedCued, IsPlayedLive};
 ghost use Rattle.cpm_host.specs.Program.{IsProgramPlayRefusal, IsProgramRefusal, IsScriptTold};
 ghost use Rattle.cpm_host.specs.Program.{drives_or_blank, machine_of, play_of, program_given, with_tail_if_any};
 
@@ -22,9 +23,11 @@ use cpm_machine::{
 };
 use cpm_play::{CuedKeys, LivePlay, PlayEnd, Typist, Watcher, play_cues, play_live};
 use cpm_run::{Ending, RunError};
-use cpm_script::laws::{cues_in_order, recordings_give_their_keys_again, scripts_are_recordings};
-use cpm_script::{Cue, Key, ScriptError, read_cues};
-use std::alloc::Global;
+use cpm_script::laws::{
+    cues_in_order, recordings_give_their_keys_again, recordings_in_order, scripts_are_recordings,
+};
+use cpm_script::{Cue, Key, ScriptError, read_cues, read_recording};
+use std::alloc::{AllocError, Global};
 use std::io::Write;
 
 /// The refusal of the script in a file of this name.
@@ -54,6 +57,28 @@ pub fn cues_of(alloc: Global, name: &str, text: &[u8]) -> Result<Vec<Cue>, HostE
     cues_in_order();
     match read_cues(alloc, text) {
         Ok(cues) => Ok(cues),
+        Err(error) => Err(script_refused(name, error)),
+    }
+}
+
+/// Keys as what a script says.
+fn timed_cues(alloc: Global, keys: &[Key]) -> Result<Vec<Cue>, AllocError>
+    ensures { IfOk result (λ v. v.items ≡ map Timed keys.now) }
+{
+    keys.iter().map(|key| Cue::Key(*key)).collect(alloc)
+}
+
+/// The keys of the recording in a file of this name, by its text, as what a script says. It may have any number of them.
+///
+/// `FileRefused` names its first line with a fault. `OutOfMemory` comes only where memory is refused.
+pub fn recorded_cues_of(alloc: Global, name: &str, text: &[u8]) -> Result<Vec<Cue>, HostError>
+    ensures cues { IfOk result (λ v. AreRecorded text.now v.items) }
+    ensures fit { IfOk result (λ v. AreFit v.items) }
+    ensures refusal { IfErr result (IsRecordingRefusal name.now text.now) }
+{
+    recordings_in_order();
+    match read_recording(alloc, text) {
+        Ok(keys) => Ok(timed_cues(alloc, keys.as_slice())?),
         Err(error) => Err(script_refused(name, error)),
     }
 }

@@ -2,7 +2,7 @@
 use Rattle.std.specs.Prelude.{ℕ, List, ◌++◌, codes}
 use Rattle.std.specs.Fmt.{decimal}
 use Rattle.cpm_refusals.specs.declared.code.RefusalCode.{RefusalCode}
-use Rattle.cpm_refusals.specs.declared.code.RefusalCode.TheVariants.{Usage, Configuration, Script, Unreadable, Unwritable, Image, Source, OutOfMemory, Machine}
+use Rattle.cpm_refusals.specs.declared.code.RefusalCode.TheVariants.{Usage, Configuration, Script, Unreadable, Unwritable, Image, Source, OutOfMemory, Machine, CutOff}
 
 -- the exit status
 abbrev pub status_of_code : RefusalCode → ℕ
@@ -15,6 +15,7 @@ status_of_code Image = 6
 status_of_code Source = 7
 status_of_code OutOfMemory = 8
 status_of_code Machine = 9
+status_of_code CutOff = 10
 
 -- the code as a person reads it
 abbrev pub code_text : RefusalCode → List ℕ

@@ -25,6 +25,8 @@ pub enum RefusalCode {
     OutOfMemory,
     /// A machine that can't be made.
     Machine,
+    /// A program that its limit of steps has cut off, so that its disks are not written.
+    CutOff,
 }
 
 impl RefusalCode {
@@ -42,6 +44,7 @@ impl RefusalCode {
             RefusalCode::Source => 7,
             RefusalCode::OutOfMemory => 8,
             RefusalCode::Machine => 9,
+            RefusalCode::CutOff => 10,
         }
     }
 }
