@@ -157,12 +157,15 @@ pub record HasPlayedKeys (system : Disk) (p : SessionPart) (stops_idle : Bool) (
 
 -- A session has these keys and steps: all keys as they are written where each has a count, a script can have so many, and no session stops idle; and else those
 -- that come.
+abbrev pub HasSettledTimed : (is_few : Bool) → Disk → SessionPart → (own keys : List Key) → (steps : ℕ) → (is_idle : Bool) → Type 0
+HasSettledTimed true system p own keys steps is_idle = (keys ≡ p.before ++ own) × (steps ≡ p.limit) × (is_idle ≡ false)
+HasSettledTimed false system p own keys steps is_idle = HasPlayedKeys system p false keys steps is_idle
+
 abbrev pub HasSettledBy : Disk → SessionPart → (stops_idle : Bool) → Option (List Key) → (keys : List Key) → (steps : ℕ) → (is_idle : Bool) → Type 0
 HasSettledBy system p true timed keys steps is_idle = HasPlayedKeys system p true keys steps is_idle
 HasSettledBy system p false None keys steps is_idle = HasPlayedKeys system p false keys steps is_idle
 HasSettledBy system p false (Some own) keys steps is_idle =
-    if nat_le (length p.before + length own) most_keys then (keys ≡ p.before ++ own) × (steps ≡ p.limit) × (is_idle ≡ false)
-    else HasPlayedKeys system p false keys steps is_idle
+    HasSettledTimed (nat_le (length p.before + length own) most_keys) system p own keys steps is_idle
 
 pub record IsSettled (system : Disk) (stops_idle : Bool) (p : SessionPart) (i : SessionInput) (s : SettledSession) : Type 0 where
   pub session : s.session ≡ i.session
