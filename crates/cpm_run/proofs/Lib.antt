@@ -6,6 +6,7 @@ pub mod PlayLemmas
 pub mod PrepareLemmas
 pub mod RecordLemmas
 pub mod ReplayLemmas
+pub mod RoomLemmas
 pub mod RunLemmas
 pub mod ScriptLemmas
 pub mod SettleLemmas

@@ -1,22 +1,24 @@
 -- What settling sessions rests on.
-use Rattle.std.proofs.Common.{◌≡◌, ◌∙◌, ◌<◌, ◌≤◌, ◌^◌, ◌+◌, ⊎_elim, inl, inr, ℕ, zero, suc, Bool, true, false, ◌&&◌, List, [], ◌∷◌, ◌++◌, length, drop, get_or, map, Option, Some, None, refl, sym, ap, subst, arith, append_assoc, append-nil}
-use Rattle.std.specs.Prelude.{Vec, IfSome, IsSome, max, nat_lt, option_map, slice_get}
+use Rattle.std.proofs.Common.{◌≡◌, ◌∙◌, ◌<◌, ◌≤◌, ◌^◌, ◌+◌, ⊎_elim, inl, inr, true≢false, ℕ, zero, suc, Bool, true, false, ◌&&◌, List, [], ◌∷◌, ◌++◌, length, drop, get_or, map, Option, Some, None, refl, sym, ap, subst, arith, append_assoc, append-nil}
+use Rattle.std.specs.Prelude.{Vec, IfSome, IsSome, is_some, max, nat_le, not, nat_lt, option_map, slice_get}
+use Rattle.std.proofs.lemmas.Bool.Decides.{nat_tests}
 use Rattle.std.specs.List.{All}
 use Rattle.std.specs.declared.alloc.Global.{Global}
 use Rattle.std.proofs.Math.Nat.{le-max_left, le-max_right}
-use Rattle.std.proofs.lemmas.List.{length-append, length-drop, length-map, map-append, map_push}
+use Rattle.std.proofs.lemmas.List.{length-append, length-map, map-append, map_push}
 use Rattle.std.proofs.lemmas.List.Elements.{All-append, All-cons, All-drop, All-filter, All-nil}
 use Rattle.std.proofs.lemmas.Option.{get_or_from_slice_get, slice_get-map, slice_get_within}
 use Rattle.cpm_batch.specs.Inputs.{Forks, IsOpened, Opens, SessionInput, StartInput, given, timed_keys}
 use Rattle.cpm_batch.specs.declared.input.Input.{Input}
 use Rattle.cpm_config.specs.declared.config.SessionConfig.{SessionConfig}
 use Rattle.cpm_geom.specs.Disk.{Disk}
-use Rattle.cpm_machine.specs.MachineState.{MachineState}
+use Rattle.cpm_machine.specs.MachineState.{MachineState, opened_machine}
 use Rattle.cpm_machine.specs.Serve.{look_of}
 use Rattle.cpm_machine.specs.Step.{is_running}
 use Rattle.cpm_play.specs.Cued.{HasEndedCued, IsCued, IsCuedFrom, key_count, waits_at}
 use Rattle.cpm_play.specs.Live.{AreGiven}
-use Rattle.cpm_play.specs.Playing.{EndsAs, IsInOrder, alone_by}
+use Rattle.cpm_play.specs.declared.live.LivePlay.{LivePlay}
+use Rattle.cpm_play.specs.Playing.{EndsAs, HaveRoom, IsFresh, IsInOrder, alone_by}
 use Rattle.cpm_script.specs.Cues.{Awaited, Counted, CueText, Pressed, cue_text, cued_key_count}
 use Rattle.cpm_script.specs.Fork.{keys_before}
 use Rattle.cpm_script.specs.Laws.{CountsRise, KeysAreAscii, PressesFollow}
@@ -25,19 +27,19 @@ use Rattle.cpm_script.specs.Script.{most_keys}
 use Rattle.cpm_script.specs.declared.cue.Cue.{Cue}
 use Rattle.cpm_script.specs.declared.cue.Cue.TheVariants.{Key as Timed}
 use Rattle.cpm_script.specs.declared.script.Key.{Key}
-use Rattle.cpm_script.proofs.CueLemmas.{ascii-append, counted-keys, keys_in-append}
-use Rattle.cpm_script.proofs.ForkLemmas.{length-keys_before}
+use Rattle.cpm_script.proofs.CueLemmas.{ascii-append, counted-keys}
 use Rattle.cpm_run.specs.Playing.{IsForkPressable, IsPressableBy}
 use Rattle.cpm_run.specs.Run.{GivesItsKeysAgain, starts_read}
 use Rattle.cpm_run.specs.Settled.{AreSettled, HasPlayedKeys, IsSettled, SessionPart, SettledSession, TypedSession}
-use Rattle.cpm_run.specs.Settled.{before_in, forked_at, keys_if_settled, opened_by, part_of, said_at, settled_steps, settled_view, starts_of, steps_at}
+use Rattle.cpm_run.specs.Settled.{before_in, forked_at, keys_if_settled, opened_by, opening_at, opening_of, part_of, said_at, settled_steps, settled_view, start_by, starts_of, steps_at, typed_view}
 use Rattle.cpm_run.specs.Settling.{AreBelow80h, AreCounts, AreFitInputs, AreOpenable, AreReady, AreSound, AreSoundKeys, HasParent, IsFitInput, IsFitPart, IsOpenable}
-use Rattle.cpm_run.specs.Settling.{IsPartReady, IsPartRefusal, IsSettlingRefusal, IsSoundAfter}
+use Rattle.cpm_run.specs.Settling.{IsPartReady, IsPartRefusal, IsSessionReady, IsSettlingRefusal, IsSoundAfter}
 use Rattle.cpm_run.specs.declared.settled.SettledInput.{SettledInput}
 use Rattle.cpm_run.specs.declared.error.RunError.{RunError}
 use Rattle.cpm_run.proofs.OrderLemmas.{own_from}
 use Rattle.cpm_run.proofs.PartLemmas.{joined_said}
 use Rattle.cpm_run.proofs.ReplayLemmas.{counts_typed, gives_again}
+use Rattle.cpm_run.proofs.RoomLemmas.{before_ordered, before_room, came_room, few_joined}
 
 -- ---- keys below 80h
 
@@ -58,18 +60,8 @@ below_typed n (k ∷ ks) all = All-cons (λ (k : Key). k.byte < 128) k ks all.2 
 pub cues_say : (before : List Key) (own cues : List Cue) → cues ≡ map Timed before ++ own → map cue_text cues ≡ map Counted before ++ map cue_text own
 cues_say before own cues is = joined_said before own cues is
 
-pub cues_ascii : (p : SessionPart) (cues : List Cue) → IsFitPart p → map cue_text cues ≡ map Counted p.before ++ p.said → KeysAreAscii (map cue_text cues)
-cues_ascii p cues fit says = subst KeysAreAscii (sym says) (ascii-append (map Counted p.before) p.said (counted_below p.before fit.before) fit.ascii)
-
-cues_counted : (p : SessionPart) (cues : List Cue) → map cue_text cues ≡ map Counted p.before ++ p.said → key_count cues ≡ length p.before + cued_key_count p.said
-cues_counted p cues says =
-    let own = keys_in-append (map Counted p.before) p.said in
-    let first = counted-keys p.before in
-    let all = ap cued_key_count says in
-    omega (arith, own, first, all)
-
-pub cues_few : (p : SessionPart) (cues : List Cue) → IsFitPart p → map cue_text cues ≡ map Counted p.before ++ p.said → key_count cues ≤ most_keys
-cues_few p cues fit says = let few = fit.few in let n = cues_counted p cues says in omega (arith, few, n)
+pub cues_ascii : (system : Disk) (p : SessionPart) (cues : List Cue) → IsFitPart system p → map cue_text cues ≡ map Counted p.before ++ p.said → KeysAreAscii (map cue_text cues)
+cues_ascii system p cues fit says = subst KeysAreAscii (sym says) (ascii-append (map Counted p.before) p.said (counted_below p.before fit.before) fit.ascii)
 
 -- the code's values
 pub all_cues : (before first : List Key) (own all cues : List Cue) → first ≡ before → all ≡ map Timed first ++ own → cues ≡ all → cues ≡ map Timed before ++ own
@@ -122,28 +114,23 @@ at_least true p done within =
     omega (arith, a, b)
 
 -- the keys that came are sound
-pub came_sound : (system : Disk) (start : MachineState) (p : SessionPart) (own cues : List Cue) (came keys : List Key) (done steps : ℕ) → p.said ≡ map cue_text own → IsFitPart p
-    → cues ≡ map Timed p.before ++ own → IsCued system start p.limit p.at cues came → AreGiven (key_count cues) done came → keys ≡ p.before ++ drop (length p.before) came → p.at ≤ steps
-    → AreSoundKeys p keys steps
-came_sound system start p own cues came keys done steps said fit are by given joined late =
+pub came_sound : (system : Disk) (start : MachineState) (p : SessionPart) (own cues : List Cue) (came keys : List Key) (done steps : ℕ) → start ≡ p.opening → p.said ≡ map cue_text own
+    → IsFitPart system p → cues ≡ map Timed p.before ++ own → IsCued system start p.limit p.at cues came → HaveRoom system start came → AreGiven (key_count cues) done came
+    → keys ≡ p.before ++ drop (length p.before) came → p.at ≤ steps → AreSoundKeys system p keys steps
+came_sound system start p own cues came keys done steps opened said fit are by all given joined late =
     let rise = subst (λ (cs : List CueText). CountsRise p.at cs) said fit.counts in
     let follow = subst (λ (cs : List CueText). PressesFollow false cs) said fit.presses in
     let cued = subst (λ (cs : List Cue). IsCuedFrom system start p.limit p.limit p.at [] 0 0 cs came) are by in
     let r = own_from system start p.limit p.at p.before [] 0 0 own came rise follow cued in
-    let says : map cue_text cues ≡ map Counted p.before ++ p.said = cues_say p.before own cues are ∙ ap (λ (cs : List CueText). map Counted p.before ++ cs) (sym said) in
-    let n = cues_counted p cues says in
-    let few = given.few in
-    let most = fit.few in
-    let long = length-append p.before (drop (length p.before) came) in
-    let left = length-drop (length p.before) came in
-    let all = ap (λ (ks : List Key). length ks) joined in
+    let before = subst (λ (s : MachineState). HaveRoom system s p.before) (sym opened) fit.room in
     record {
       own = drop (length p.before) came;
       joined = joined;
       order = subst (λ (ks : List Key). IsInOrder p.at (drop (length p.before) ks)) (sym r.1) r.2;
       ascii = All-drop (λ (k : Key). k.byte < 128) (length p.before) came (below_typed 0 came given.typed);
       counts = All-drop (λ (k : Key). k.count < 2 ^ 64) (length p.before) came (counts_typed 0 came given.typed);
-      few = omega (arith, n, few, most, long, left, all);
+      room = subst (λ (s : MachineState). HaveRoom system s keys) opened
+          (came_room system start p.limit p.at p.before came keys own cues fit.order before rise follow are by all joined);
       within = late;
     }
 
@@ -166,107 +153,168 @@ counted_order : (n : ℕ) (keys : List Key) → CountsRise n (map Counted keys) 
 counted_order n [] rise = tt
 counted_order n (k ∷ ks) rise = (rise.0, counted_order k.count ks rise.1)
 
-pub written_sound : (p : SessionPart) (own keys : List Key) → IsFitPart p → timed_keys p.said ≡ Some own → keys ≡ p.before ++ own → AreCounts own → AreSoundKeys p keys p.limit
-written_sound p own keys fit timed joined counts =
+pub written_sound : (system : Disk) (p : SessionPart) (own keys : List Key) → IsFresh p.opening → IsFitPart system p → timed_keys p.said ≡ Some own → keys ≡ p.before ++ own
+    → length p.before + length own ≤ most_keys → AreCounts own → AreSoundKeys system p keys p.limit
+written_sound system p own keys fresh fit timed joined few counts =
     let said = timed_said p.said own timed in
-    let n = ap cued_key_count said in
-    let m = counted-keys own in
-    let few = fit.few in
-    let long = length-append p.before own in
-    let all = ap (λ (ks : List Key). length ks) joined in
     record {
       own = own;
       joined = joined;
       order = counted_order p.at own (subst (λ (cs : List CueText). CountsRise p.at cs) said fit.counts);
       ascii = below_counted own (subst KeysAreAscii said fit.ascii);
       counts = counts;
-      few = omega (arith, n, m, few, long, all);
+      room = few_joined system p.opening p.before own keys fresh joined few;
       within = fit.within;
     }
 
-pub written_part : (p : SessionPart) (cues now : List Cue) (read : Option (Vec Key Global)) (own : Vec Key Global) (first last keys : List Key) → IsFitPart p → now ≡ cues
+pub written_part : (system : Disk) (p : SessionPart) (cues now : List Cue) (read : Option (Vec Key Global)) (own : Vec Key Global) (first last keys : List Key) → IsFresh p.opening → IsFitPart system p → now ≡ cues
     → option_map (λ (v : Vec Key Global). v.items) read ≡ timed_keys (map cue_text now) → read ≡ Some own → first ≡ p.before → last ≡ own.items → keys ≡ first ++ last → p.said ≡ map cue_text cues
-    → IfSome read (λ (v : Vec Key Global). AreCounts v.items) → AreSoundKeys p keys p.limit
-written_part p cues now read own first last keys fit same timed some before are joined said counts =
+    → length first + length last ≤ most_keys → IfSome read (λ (v : Vec Key Global). AreCounts v.items) → AreSoundKeys system p keys p.limit
+written_part system p cues now read own first last keys fresh fit same timed some before are joined said few counts =
+    let a = ap (λ (ks : List Key). length ks) before in
+    let b = ap (λ (ks : List Key). length ks) are in
     let is : timed_keys p.said ≡ Some own.items =
     ap timed_keys said ∙ ap (λ (cs : List Cue). timed_keys (map cue_text cs)) (sym same) ∙ sym timed ∙ ap (λ (o : Option (Vec Key Global)). option_map (λ (v : Vec Key Global). v.items) o) some in
-    written_sound p own.items keys fit is (joined ∙ ap (λ (ks : List Key). ks ++ last) before ∙ ap (λ (ks : List Key). p.before ++ ks) are)
+    written_sound system p own.items keys fresh fit is (joined ∙ ap (λ (ks : List Key). ks ++ last) before ∙ ap (λ (ks : List Key). p.before ++ ks) are) (omega (arith, few, a, b))
     (subst (λ (o : Option (Vec Key Global)). IfSome o (λ (v : Vec Key Global). AreCounts v.items)) some counts)
+
+-- ---- keys that aren't taken as they are written
+
+timed_by : (cues now : List Cue) (read : Option (Vec Key Global)) (own : Vec Key Global) → now ≡ cues → option_map (λ (v : Vec Key Global). v.items) read ≡ timed_keys (map cue_text now) → read ≡ Some own
+    → timed_keys (map cue_text cues) ≡ Some own.items
+timed_by cues now read own same timed some =
+    ap (λ (cs : List Cue). timed_keys (map cue_text cs)) (sym same) ∙ sym timed ∙ ap (λ (o : Option (Vec Key Global)). option_map (λ (v : Vec Key Global). v.items) o) some
+
+-- there are too many of them, sessions stop idle, or not all have counts
+pub many_openable : (stops_idle : Bool) (before : List Key) (cues now : List Cue) (read : Option (Vec Key Global)) (own : Vec Key Global) (first last : ℕ) (few : Bool) (b : StartInput)
+    → IsPartReady stops_idle (length before) (map cue_text cues) (Some b) → now ≡ cues → option_map (λ (v : Vec Key Global). v.items) read ≡ timed_keys (map cue_text now) → read ≡ Some own → first ≡ length before
+    → last ≡ length own.items → few ≡ nat_le (first + last) most_keys → few ≡ false → IsOpenable b
+many_openable stops_idle before cues now read own first last few b ready same timed some as_before are test over =
+    ⊎_elim (λ written.
+    let said = timed_said (map cue_text cues) own.items (timed_by cues now read own same timed some) in
+    let n = ap cued_key_count said in
+    let m = counted-keys own.items in
+    let within = written.2 in
+    let all : first + last ≤ most_keys = omega (arith, n, m, as_before, are, within) in
+    let is : nat_le (first + last) most_keys ≡ false = sym test ∙ over in
+    absurd (let no : ⊥ = grind (arith, nat_tests) in no))
+    (λ openable. openable) ready
+
+pub idle_openable : (stops_idle : Bool) (before : ℕ) (said : List CueText) (b : StartInput) → IsPartReady stops_idle before said (Some b) → stops_idle ≡ true → IsOpenable b
+idle_openable stops_idle before said b ready idle =
+    ⊎_elim (λ written. let off = written.0 in absurd (let no : ⊥ = cc in no)) (λ openable. openable) ready
+
+pub waiting_openable : (stops_idle : Bool) (before : ℕ) (cues now : List Cue) (read : Option (Vec Key Global)) (b : StartInput) → IsPartReady stops_idle before (map cue_text cues) (Some b) → now ≡ cues
+    → option_map (λ (v : Vec Key Global). v.items) read ≡ timed_keys (map cue_text now) → ((own : Vec Key Global) → read ≡ Some own → ⊥) → IsOpenable b
+waiting_openable stops_idle before cues now None b ready same timed none =
+    ⊎_elim (λ written.
+    let some : IsSome (timed_keys (map cue_text cues)) = written.1 in
+    let is : timed_keys (map cue_text cues) ≡ None = ap (λ (cs : List Cue). timed_keys (map cue_text cs)) (sym same) ∙ sym timed in
+    let none : Option (List Key) = None in
+    let left : IsSome none = subst (λ (o : Option (List Key)). IsSome o) is some in
+    absurd (true≢false (sym left))) (λ openable. openable) ready
+waiting_openable stops_idle before cues now (Some own) b ready same timed none = absurd (none own refl)
+
+-- whether there are few is known where nobody typed
+pub part_ready : (stops_idle : Bool) (typed : Option TypedSession) (place : ℕ) (said : List CueText) (p : SessionPart) (cues : List Cue) (opened : Option StartInput) (b : StartInput)
+    → p.said ≡ said_at typed place said → p.said ≡ map cue_text cues → opened ≡ Some b → (typed ≡ None → length p.before + cued_key_count (map cue_text cues) ≤ most_keys)
+    → IsSessionReady stops_idle typed (said_at typed place said) opened → IsPartReady stops_idle (length p.before) (map cue_text cues) (Some b)
+part_ready stops_idle typed place said p cues opened b says same is few ready =
+    ⊎_elim (λ (plain : (typed ≡ None) × (stops_idle ≡ false) × IsSome (timed_keys (said_at typed place said))).
+    inl (plain.1, subst (λ (cs : List CueText). IsSome (timed_keys cs)) (sym says ∙ same) plain.2, few plain.0))
+    (λ openable. inr (subst (λ (o : Option StartInput). IfSome o IsOpenable) is openable)) ready
+
+pub not_typed : (typed : Option (ℕ × LivePlay)) (none : Bool) → is_some typed ≡ not none → none ≡ false → typed_view typed ≡ None → ⊥
+not_typed None none test some view = let no : ⊥ = cc in no
+not_typed (Some t) none test some view = let no : ⊥ = cc in no
 
 -- ---- a session after those before it
 
-few_pressable : (ss : List SettledSession) (b : StartInput) (s : SettledSession) → IsPressableBy ss b s → length s.keys ≤ most_keys
-few_pressable ss (Opens cpu quota drives) s h = h.1
-few_pressable ss (Forks parent at) s h = h.few
+abbrev pub IsSoundIn : Disk → List SettledSession → SettledSession → Type 0
+IsSoundIn system ss s = IsPressableBy system ss s.start s × AreBelow80h s.keys × GivesItsKeysAgain s
 
-abbrev pub IsSoundIn : List SettledSession → SettledSession → Type 0
-IsSoundIn ss s = IsPressableBy ss s.start s × AreBelow80h s.keys × GivesItsKeysAgain s
+-- the keys of an opened session are in order, and find room where they come
+opened_keys : (system : Disk) (ss : List SettledSession) (b : StartInput) (s : SettledSession) → IsOpened b → IsPressableBy system ss b s → IsInOrder 0 s.keys × HaveRoom system (opening_of b) s.keys
+opened_keys system ss (Opens cpu quota drives) s opened h = h
+opened_keys system ss (Forks parent at) s opened h = absurd opened
 
-few_if : (ss : List SettledSession) (at : ℕ) (o : Option SettledSession) → IfSome o (IsSoundIn ss) → length (keys_before at (keys_if_settled o)) ≤ most_keys
-few_if ss at None h = omega arith
-few_if ss at (Some s) h =
-    let all = few_pressable ss s.start s h.0 in
-    let some = length-keys_before at s.keys in
-    omega (arith, all, some)
+-- keys from before a session that begins after an opening
+record AreFitBefore (system : Disk) (opening : MachineState) (keys : List Key) : Type 0 where
+  below : AreBelow80h keys
+  order : IsInOrder 0 keys
+  room : HaveRoom system opening keys
 
-pub few_before : (ss : List SettledSession) (b : StartInput) → AreSound ss → length (before_in ss b) ≤ most_keys
-few_before ss (Opens cpu quota drives) sound = omega arith
-few_before ss (Forks parent at) sound = few_if ss at (slice_get ss parent) (sound parent)
+none_before : (system : Disk) (opening : MachineState) → AreFitBefore system opening []
+none_before system opening = record { below = All-nil (λ (k : Key). k.byte < 128); order = tt; room = tt }
 
-below_if : (ss : List SettledSession) (at : ℕ) (o : Option SettledSession) → IfSome o (IsSoundIn ss) → AreBelow80h (keys_before at (keys_if_settled o))
-below_if ss at None h = All-nil (λ (k : Key). k.byte < 128)
-below_if ss at (Some s) h = All-filter (λ (k : Key). nat_lt k.count at) (λ (k : Key). k.byte < 128) s.keys h.1
+fit_if : (system : Disk) (ss : List SettledSession) (at : ℕ) (b : StartInput) (o : Option SettledSession) → option_map (λ x. x.start) o ≡ Some b → IsOpened b → IfSome o (IsSoundIn system ss)
+    → AreFitBefore system (opening_at (option_map (λ x. x.start) o)) (keys_before at (keys_if_settled o))
+fit_if system ss at b None seen opened h = absurd (cc)
+fit_if system ss at b (Some s) seen opened h =
+    let same : b ≡ s.start = cc in
+    let all = opened_keys system ss s.start s (subst IsOpened same opened) h.0 in
+    record {
+      below = All-filter (λ (k : Key). nat_lt k.count at) (λ (k : Key). k.byte < 128) s.keys h.1;
+      order = before_ordered at s.keys all.0;
+      room = before_room system (opening_of s.start) at s.keys all.0 all.1;
+    }
 
-below_before : (ss : List SettledSession) (b : StartInput) → AreSound ss → AreBelow80h (before_in ss b)
-below_before ss (Opens cpu quota drives) sound = All-nil (λ (k : Key). k.byte < 128)
-below_before ss (Forks parent at) sound = below_if ss at (slice_get ss parent) (sound parent)
+fit_before : (system : Disk) (ss : List SettledSession) (b : StartInput) → AreSound system ss → HasParent (starts_of ss) b → AreFitBefore system (start_by (starts_of ss) b) (before_in ss b)
+fit_before system ss (Opens cpu quota drives) sound parent = none_before system (opened_machine cpu quota drives)
+fit_before system ss (Forks place at) sound parent =
+    let seen = slice_get-map (λ (x : SettledSession). x.start) ss place in
+    subst (λ (o : Option StartInput). AreFitBefore system (opening_at o) (keys_before at (keys_if_settled (slice_get ss place)))) (sym seen)
+    (fit_if system ss at parent.0 (slice_get ss place) (sym seen ∙ parent.1) parent.2 (sound place))
 
-pub part_before : (typed : Option TypedSession) (sessions : List SessionConfig) (ss : List SettledSession) (i : SessionInput) (p : SessionPart) → p ≡ part_of typed sessions ss i → AreSound ss
-    → length p.before ≤ most_keys
-part_before typed sessions ss i p is sound = let few = few_before ss i.start sound in let same = ap (λ (q : SessionPart). length q.before) is in omega (arith, few, same)
-
-pub part_fit : (typed : Option TypedSession) (sessions : List SessionConfig) (ss : List SettledSession) (i : SessionInput) (p : SessionPart) → p ≡ part_of typed sessions ss i → AreSound ss
-    → IsFitInput typed (starts_of ss) i → length p.before + cued_key_count p.said ≤ most_keys → IsFitPart p
-part_fit typed sessions ss i p is sound fit few =
+pub part_fit : (system : Disk) (typed : Option TypedSession) (sessions : List SessionConfig) (ss : List SettledSession) (i : SessionInput) (p : SessionPart) → p ≡ part_of typed sessions ss i
+    → AreSound system ss → IsFitInput typed (starts_of ss) i → IsFitPart system p
+part_fit system typed sessions ss i p is sound fit =
+    let before = fit_before system ss i.start sound fit.parent in
+    let keys : before_in ss i.start ≡ p.before = sym (ap (λ (q : SessionPart). q.before) is) in
+    let opening : start_by (starts_of ss) i.start ≡ p.opening = sym (ap (λ (q : SessionPart). q.opening) is) in
     let long : length (starts_of ss) ≡ length ss = length-map ss (λ (s : SettledSession). s.start) in
     let said : said_at typed (length (starts_of ss)) i.said ≡ p.said = ap (λ (n : ℕ). said_at typed n i.said) long ∙ sym (ap (λ (q : SessionPart). q.said) is) in
     let at : forked_at i.start ≡ p.at = sym (ap (λ (q : SessionPart). q.at) is) in
     let limit : steps_at typed (length (starts_of ss)) i.session.steps ≡ p.limit = ap (λ (n : ℕ). steps_at typed n i.session.steps) long ∙ sym (ap (λ (q : SessionPart). q.limit) is) in
     let within = fit.within in
     record {
-      before = subst AreBelow80h (sym (ap (λ (q : SessionPart). q.before) is)) (below_before ss i.start sound);
-      ascii = subst KeysAreAscii said fit.order.ascii;
+      before = subst AreBelow80h keys before.below;
+      order = subst (IsInOrder 0) keys before.order;
+      ascii = subst KeysAreAscii said fit.ascii;
       counts = subst (λ (n : ℕ). CountsRise n p.said) at (subst (λ (cs : List CueText). CountsRise (forked_at i.start) cs) said fit.from_fork);
-      presses = subst (λ (cs : List CueText). PressesFollow false cs) said fit.order.presses;
-      few = few;
+      presses = subst (λ (cs : List CueText). PressesFollow false cs) said fit.presses;
+      room = subst (HaveRoom system p.opening) keys (subst (λ (s : MachineState). HaveRoom system s (before_in ss i.start)) opening before.room);
       within = omega (arith, within, at, limit);
     }
 
-fork_sound : (ss : List SettledSession) (parent at : ℕ) (b : StartInput) (own : List Key) (s : SettledSession) (o : Option SettledSession) → slice_get ss parent ≡ o → option_map (λ x. x.start) o ≡ Some b → IsOpened b
-    → s.keys ≡ keys_before at (keys_if_settled o) ++ own → IsInOrder at own → length s.keys ≤ most_keys → at ≤ s.steps → IsForkPressable ss s parent at
-fork_sound ss parent at b own s None there seen opened joined order few within = absurd (cc)
-fork_sound ss parent at b own s (Some other) there seen opened joined order few within =
+fork_sound : (system : Disk) (ss : List SettledSession) (parent at : ℕ) (b : StartInput) (own : List Key) (s : SettledSession) (o : Option SettledSession) → slice_get ss parent ≡ o
+    → option_map (λ x. x.start) o ≡ Some b → IsOpened b → s.keys ≡ keys_before at (keys_if_settled o) ++ own → IsInOrder at own → HaveRoom system (opening_at (option_map (λ x. x.start) o)) s.keys → at ≤ s.steps
+    → IsForkPressable system ss s parent at
+fork_sound system ss parent at b own s None there seen opened joined order room within = absurd (cc)
+fork_sound system ss parent at b own s (Some other) there seen opened joined order room within =
     let same : b ≡ other.start = cc in
-    record { other = other; there = there; opened = subst IsOpened same opened; own = own; keys = joined; order = order; few = few; within = within }
+    record { other = other; there = there; opened = subst IsOpened same opened; own = own; keys = joined; order = order; room = room; within = within }
 
-pressable : (ss : List SettledSession) (b : StartInput) (s : SettledSession) (own : List Key) → HasParent (starts_of ss) b → s.keys ≡ before_in ss b ++ own → IsInOrder (forked_at b) own → length s.keys ≤ most_keys
-    → forked_at b ≤ s.steps → IsPressableBy ss b s
-pressable ss (Opens cpu quota drives) s own parent joined order few within = (subst (λ (ks : List Key). IsInOrder 0 ks) (sym joined) order, few)
-pressable ss (Forks parent at) s own h joined order few within =
-    fork_sound ss parent at h.0 own s (slice_get ss parent) refl (sym (slice_get-map (λ (x : SettledSession). x.start) ss parent) ∙ h.1) h.2 joined order few within
+pressable : (system : Disk) (ss : List SettledSession) (b : StartInput) (s : SettledSession) (own : List Key) → HasParent (starts_of ss) b → s.keys ≡ before_in ss b ++ own → IsInOrder (forked_at b) own
+    → HaveRoom system (start_by (starts_of ss) b) s.keys → forked_at b ≤ s.steps → IsPressableBy system ss b s
+pressable system ss (Opens cpu quota drives) s own parent joined order room within = (subst (λ (ks : List Key). IsInOrder 0 ks) (sym joined) order, room)
+pressable system ss (Forks parent at) s own h joined order room within =
+    let seen = slice_get-map (λ (x : SettledSession). x.start) ss parent in
+    fork_sound system ss parent at h.0 own s (slice_get ss parent) refl (sym seen ∙ h.1) h.2 joined order (subst (λ (o : Option StartInput). HaveRoom system (opening_at o) s.keys) seen room) within
 
-pub session_sound : (typed : Option TypedSession) (sessions : List SessionConfig) (ss : List SettledSession) (i : SessionInput) (p : SessionPart) (s : SettledSession) → p ≡ part_of typed sessions ss i → AreSound ss
-    → HasParent (starts_of ss) i.start → s.start ≡ i.start → s.before ≡ length p.before → AreSoundKeys p s.keys s.steps → IsSoundAfter ss s
-session_sound typed sessions ss i p s is sound parent begins first keys =
+pub session_sound : (system : Disk) (typed : Option TypedSession) (sessions : List SessionConfig) (ss : List SettledSession) (i : SessionInput) (p : SessionPart) (s : SettledSession)
+    → p ≡ part_of typed sessions ss i → AreSound system ss → HasParent (starts_of ss) i.start → s.start ≡ i.start → s.before ≡ length p.before → AreSoundKeys system p s.keys s.steps → IsSoundAfter system ss s
+session_sound system typed sessions ss i p s is sound parent begins first keys =
     let before : p.before ≡ before_in ss i.start = ap (λ (q : SessionPart). q.before) is in
     let at : p.at ≡ forked_at i.start = ap (λ (q : SessionPart). q.at) is in
     let joined : s.keys ≡ before_in ss i.start ++ keys.own = keys.joined ∙ ap (λ (ks : List Key). ks ++ keys.own) before in
     let late = keys.within in
+    let room = subst (λ (m : MachineState). HaveRoom system m s.keys) (ap (λ (q : SessionPart). q.opening) is) keys.room in
     record {
-      pressable = subst (λ (b : StartInput). IsPressableBy ss b s) (sym begins)
-          (pressable ss i.start s keys.own parent joined (subst (λ (n : ℕ). IsInOrder n keys.own) at keys.order) keys.few (omega (arith, late, at)));
-      ascii = subst AreBelow80h (sym joined) (All-append (λ (k : Key). k.byte < 128) (before_in ss i.start) keys.own (below_before ss i.start sound) keys.ascii);
-      replays = gives_again p s first keys;
+      pressable = subst (λ (b : StartInput). IsPressableBy system ss b s) (sym begins)
+          (pressable system ss i.start s keys.own parent joined (subst (λ (n : ℕ). IsInOrder n keys.own) at keys.order) room (omega (arith, late, at)));
+      ascii = subst AreBelow80h (sym joined) (All-append (λ (k : Key). k.byte < 128) (before_in ss i.start) keys.own (fit_before system ss i.start sound parent).below keys.ascii);
+      replays = gives_again system p s first keys;
     }
 
 -- ---- one after another
@@ -278,15 +326,15 @@ pub record IsSettledTo (system : Disk) (stops_idle : Bool) (typed : Option Typed
   pub starts : starts_read done ≡ starts_of settled
   pub keys : AreSettled system stops_idle typed sessions [] done settled
   pub fit : AreFitInputs typed (starts_of settled) rest
-  pub sound : AreSound settled
+  pub sound : AreSound system settled
 
-none_sound : AreSound []
-none_sound place = tt
+none_sound : (system : Disk) → AreSound system []
+none_sound system place = tt
 
 settled_none : (system : Disk) (stops_idle : Bool) (typed : Option TypedSession) (sessions : List SessionConfig) (all : List SessionInput) (settled : List SettledSession) → settled ≡ [] → AreFitInputs typed [] all
     → IsSettledTo system stops_idle typed sessions all all settled
 settled_none system stops_idle typed sessions all settled none fit =
-    let first : IsSettledTo system stops_idle typed sessions all all [] = record { done = []; parts = refl; starts = refl; keys = tt; fit = fit; sound = none_sound } in
+    let first : IsSettledTo system stops_idle typed sessions all all [] = record { done = []; parts = refl; starts = refl; keys = tt; fit = fit; sound = none_sound system } in
     subst (λ (ss : List SettledSession). IsSettledTo system stops_idle typed sessions all all ss) (sym none) first
 
 -- at a place, also where one more stands behind
@@ -301,26 +349,27 @@ still_there [] s other place is = absurd (cc)
 still_there (x ∷ ss) s other zero is = is
 still_there (x ∷ ss) s other (suc place) is = still_there ss s other place is
 
-still_pressable : (ss : List SettledSession) (s : SettledSession) (b : StartInput) (x : SettledSession) → IsPressableBy ss b x → IsPressableBy (ss ++ s ∷ []) b x
-still_pressable ss s (Opens cpu quota drives) x h = h
-still_pressable ss s (Forks parent at) x h = record {
+still_pressable : (system : Disk) (ss : List SettledSession) (s : SettledSession) (b : StartInput) (x : SettledSession) → IsPressableBy system ss b x → IsPressableBy system (ss ++ s ∷ []) b x
+still_pressable system ss s (Opens cpu quota drives) x h = h
+still_pressable system ss s (Forks parent at) x h = record {
   other = h.other;
   there = still_there ss s h.other parent h.there;
   opened = h.opened;
   own = h.own;
   keys = h.keys;
   order = h.order;
-  few = h.few;
+  room = h.room;
   within = h.within;
 }
 
-still_sound : (ss : List SettledSession) (s : SettledSession) (o : Option SettledSession) → IfSome o (IsSoundIn ss) → IfSome o (IsSoundIn (ss ++ s ∷ []))
-still_sound ss s None h = tt
-still_sound ss s (Some x) h = (still_pressable ss s x.start x h.0, h.1, h.2)
+still_sound : (system : Disk) (ss : List SettledSession) (s : SettledSession) (o : Option SettledSession) → IfSome o (IsSoundIn system ss) → IfSome o (IsSoundIn system (ss ++ s ∷ []))
+still_sound system ss s None h = tt
+still_sound system ss s (Some x) h = (still_pressable system ss s x.start x h.0, h.1, h.2)
 
-sound_more : (ss : List SettledSession) (s : SettledSession) → AreSound ss → IsSoundAfter ss s → AreSound (ss ++ s ∷ [])
-sound_more ss s all one =
-    sound_there (IsSoundIn (ss ++ s ∷ [])) ss s (λ (place : ℕ). still_sound ss s (slice_get ss place) (all place)) (still_pressable ss s s.start s one.pressable, one.ascii, one.replays)
+sound_more : (system : Disk) (ss : List SettledSession) (s : SettledSession) → AreSound system ss → IsSoundAfter system ss s → AreSound system (ss ++ s ∷ [])
+sound_more system ss s all one =
+    sound_there (IsSoundIn system (ss ++ s ∷ [])) ss s (λ (place : ℕ). still_sound system ss s (slice_get ss place) (all place))
+    (still_pressable system ss s s.start s one.pressable, one.ascii, one.replays)
 
 keys_more : (system : Disk) (stops_idle : Bool) (typed : Option TypedSession) (sessions : List SessionConfig) (before : List SettledSession) (is : List SessionInput) (ss : List SettledSession) (i : SessionInput) (s : SettledSession)
     → AreSettled system stops_idle typed sessions before is ss → IsSettled system stops_idle (part_of typed sessions (before ++ ss) i) i s
@@ -355,7 +404,7 @@ pushed_view settled now more s same pushed =
 
 -- one more
 pub settled_more : (system : Disk) (stops_idle : Bool) (typed : Option TypedSession) (sessions : List SessionConfig) (all rest : List SessionInput) (i : SessionInput) (settled more : List SettledSession) (s : SettledSession)
-    → IsSettledTo system stops_idle typed sessions all (i ∷ rest) settled → IsSettled system stops_idle (part_of typed sessions settled i) i s → IsSoundAfter settled s → more ≡ settled ++ s ∷ []
+    → IsSettledTo system stops_idle typed sessions all (i ∷ rest) settled → IsSettled system stops_idle (part_of typed sessions settled i) i s → IsSoundAfter system settled s → more ≡ settled ++ s ∷ []
     → IsSettledTo system stops_idle typed sessions all rest more
 settled_more system stops_idle typed sessions all rest i settled more s h one sound pushed =
     let begins : starts_of (settled ++ s ∷ []) ≡ starts_of settled ++ i.start ∷ [] =
@@ -366,7 +415,7 @@ settled_more system stops_idle typed sessions all rest i settled more s h one so
       starts = map_push (λ (x : SessionInput). x.start) h.done i ∙ ap (λ (bs : List StartInput). bs ++ i.start ∷ []) h.starts ∙ sym begins;
       keys = keys_more system stops_idle typed sessions [] h.done settled i s h.keys one;
       fit = subst (λ (bs : List StartInput). AreFitInputs typed bs rest) (sym begins) h.fit.1;
-      sound = sound_more settled s h.sound sound;
+      sound = sound_more system settled s h.sound sound;
     } in
     subst (λ (ss : List SettledSession). IsSettledTo system stops_idle typed sessions all rest ss) (sym pushed) next
 
@@ -400,11 +449,12 @@ untyped : (typed : Option TypedSession) (place : ℕ) (said : List CueText) → 
 untyped typed place said none timed = subst (λ (t : Option TypedSession). IsSome (timed_keys (said_at t place said))) (sym none) timed
 
 pub next_ready : (system : Disk) (stops_idle : Bool) (typed : Option TypedSession) (sessions : List SessionConfig) (all rest : List SessionInput) (i : SessionInput) (settled : List SettledSession) (place : ℕ)
-    → IsSettledTo system stops_idle typed sessions all (i ∷ rest) settled → AreReady stops_idle typed all → IsPartReady stops_idle (said_at typed place i.said) (opened_by (starts_of settled) i.start)
+    → IsSettledTo system stops_idle typed sessions all (i ∷ rest) settled → AreReady stops_idle typed all
+    → IsSessionReady stops_idle typed (said_at typed place i.said) (opened_by (starts_of settled) i.start)
 next_ready system stops_idle typed sessions all rest i settled place h ready =
     ⊎_elim (λ plain.
     let timed = subst (λ (is : List SessionInput). All (λ (x : SessionInput). IsSome (timed_keys x.said)) is) (sym h.parts) plain.timed in
-    inl (plain.runs_on, untyped typed place i.said plain.untyped (all_there (λ (x : SessionInput). IsSome (timed_keys x.said)) h.done rest i timed)))
+    inl (plain.untyped, plain.runs_on, untyped typed place i.said plain.untyped (all_there (λ (x : SessionInput). IsSome (timed_keys x.said)) h.done rest i timed)))
     (λ openable.
     let joined : starts_read all ≡ starts_read h.done ++ i.start ∷ starts_read rest = sym (ap starts_read h.parts) ∙ starts_joined h.done (i ∷ rest) in
     let good = subst AreOpenable joined openable in

@@ -1,5 +1,5 @@
 -- What running the sessions of a configuration writes and reports, and when it is refused. All of it is own.
-use Rattle.std.specs.Prelude.{◌≡◌, ◌⊎◌, ◌+◌, ℕ, sum_by, ◌==◌, ◌&&◌, not, nat_le, List, [], ◌∷◌, ◌++◌, length, drop}
+use Rattle.std.specs.Prelude.{◌≡◌, ◌≤◌, ◌⊎◌, ◌+◌, ℕ, sum_by, ◌==◌, ◌&&◌, not, nat_le, List, [], ◌∷◌, ◌++◌, length, drop}
 use Rattle.std.specs.Prelude.{map, slice_get, Option, Some, None, option_and_then, option_map, string_bytes, chars, Ok, if◌then◌else◌}
 use Rattle.std.specs.List.{All}
 use Rattle.cpm_batch.specs.Inputs.{AreInputs, Forks, Opens, SessionInput, StartInput}

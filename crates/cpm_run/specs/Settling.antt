@@ -10,8 +10,9 @@ use Rattle.cpm_geom.specs.Disk.{Disk}
 use Rattle.cpm_machine.specs.Opening.{opening_fault}
 use Rattle.cpm_machine.specs.declared.opening.Opening.{Opening}
 use Rattle.cpm_play.specs.Playing.{HaveRoom, IsInOrder}
-use Rattle.cpm_script.specs.Cues.{CueText, all_said}
-use Rattle.cpm_script.specs.Laws.{AreInOrder, CountsRise, KeysAreAscii, PressesFollow}
+use Rattle.cpm_script.specs.Cues.{CueText, all_said, cued_key_count}
+use Rattle.cpm_script.specs.Laws.{CountsRise, KeysAreAscii, PressesFollow}
+use Rattle.cpm_script.specs.Script.{most_keys}
 use Rattle.cpm_script.specs.declared.script.Key.{Key}
 use Rattle.cpm_run.specs.Playing.{IsPressableBy}
 use Rattle.cpm_run.specs.Refusing.{IsOverfull}
@@ -55,10 +56,11 @@ part_view p = record {
   last = p.last;
 }
 
--- what a session says can be pressed after its keys from before, for each of which there is room: it is in order, from the fork on; and the fork is within its
--- steps
+-- what a session says can be pressed after its keys from before, which are in order, and for each of which there is room: it is in order, from the fork on;
+-- and the fork is within its steps
 pub record IsFitPart (system : Disk) (p : SessionPart) : Type 0 where
   pub before : AreBelow80h p.before
+  pub order : IsInOrder 0 p.before
   pub ascii : KeysAreAscii p.said
   pub counts : CountsRise p.at p.said
   pub presses : PressesFollow false p.said
@@ -76,9 +78,15 @@ pub record AreSoundKeys (system : Disk) (p : SessionPart) (keys : List Key) (ste
   pub room : HaveRoom system p.opening keys
   pub within : p.at ≤ steps
 
--- a session has the keys of its script as they are written, or it can be opened by itself
-abbrev pub IsPartReady : (stops_idle : Bool) → List CueText → Option StartInput → Type 0
-IsPartReady stops_idle said opened = ((stops_idle ≡ false) × IsSome (timed_keys said)) ⊎ IfSome opened IsOpenable
+-- a session has the keys of its script as they are written, and with those from before, of which there are so many, a script can have all of them; or it can
+-- be opened by itself
+abbrev pub IsPartReady : (stops_idle : Bool) → (before : ℕ) → List CueText → Option StartInput → Type 0
+IsPartReady stops_idle before said opened =
+    ((stops_idle ≡ false) × IsSome (timed_keys said) × (before + cued_key_count said ≤ most_keys)) ⊎ IfSome opened IsOpenable
+
+-- nobody typed, and a session has the keys of its script as they are written, if these are not too many; or it can be opened by itself
+abbrev pub IsSessionReady : (stops_idle : Bool) → Option TypedSession → List CueText → Option StartInput → Type 0
+IsSessionReady stops_idle typed said opened = ((typed ≡ None) × (stops_idle ≡ false) × IsSome (timed_keys said)) ⊎ IfSome opened IsOpenable
 
 -- ---- all sessions
 
@@ -99,7 +107,8 @@ HasParent starts (Forks parent at) = (b : StartInput) × (slice_get starts paren
 
 -- a session can be settled after those that begin so
 pub record IsFitInput (typed : Option TypedSession) (starts : List StartInput) (i : SessionInput) : Type 0 where
-  pub order : AreInOrder (said_at typed (length starts) i.said)
+  pub ascii : KeysAreAscii (said_at typed (length starts) i.said)
+  pub presses : PressesFollow false (said_at typed (length starts) i.said)
   pub from_fork : CountsRise (forked_at i.start) (said_at typed (length starts) i.said)
   pub within : forked_at i.start ≤ steps_at typed (length starts) i.session.steps
   pub parent : HasParent starts i.start

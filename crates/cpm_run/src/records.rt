@@ -1,10 +1,11 @@
 //! The keys of the sessions of a run as scripts by which they do the same again.
 ghost use Rattle.std.specs.Prelude.{◌≡◌, ◌++◌, IfOk, OnOk, map};
+ghost use Rattle.std.specs.List.{All};
 ghost use Rattle.cpm_script.specs.Recording.{recorded};
 ghost use Rattle.cpm_store.specs.Writes.{named_output};
 ghost use Rattle.cpm_run.specs.Run.{record_of, record_outputs};
 ghost use Rattle.cpm_run.specs.Settled.{settled_view};
-ghost use Rattle.cpm_run.specs.Settling.{AreBelow80h, AreSound};
+ghost use Rattle.cpm_run.specs.Settling.{AreBelow80h};
 
 use crate::options::RecordFile;
 use crate::settle::keys_after;
@@ -53,7 +54,7 @@ pub(crate) fn records_of<'a>(
     records: &'a [RecordFile<'a>],
     settled: &[SettledInput<'_>],
 ) -> Result<Vec<Output<'a>>, AllocError>
-    requires { AreSound (map settled_view settled.now) }
+    requires { All (λ s. AreBelow80h s.keys) (map settled_view settled.now) }
     ensures { IfOk result (λ v. map named_output v.items ≡ record_outputs records.entry.now (map settled_view settled.now)) }
 {
     let mut outputs = Vec::new(alloc);

@@ -4,7 +4,7 @@ ghost use Rattle.std.specs.Prelude.{◌≡◌, ◌++◌, [], drop, IfErr, IfOk, 
 ghost use Rattle.cpm_batch.specs.Inputs.{IsOpened, given, start_view, timed_keys};
 ghost use Rattle.cpm_script.specs.Cues.{all_said};
 ghost use Rattle.cpm_run.specs.Settled.{AreSettled, HasPlayedKeys, HasSettledBy, IsSettled, opened_by, part_of, said_at, settled_view, starts_of, typed_view};
-ghost use Rattle.cpm_run.specs.Settling.{AreFitInputs, AreReady, AreSound, AreSoundKeys, IsFitInput, IsFitPart, IsOpenable, IsPartReady, IsPartRefusal};
+ghost use Rattle.cpm_run.specs.Settling.{AreFitInputs, AreReady, AreSound, AreSoundKeys, IsFitInput, IsFitPart, IsOpenable, IsPartReady, IsPartRefusal, IsSessionReady};
 ghost use Rattle.cpm_run.specs.Settling.{IsSettlingRefusal, IsSoundAfter, part_view};
 ghost use Rattle.std.specs.Prelude.{Some, ◌+◌, length, nat_le};
 ghost use Rattle.cpm_script.specs.Script.{most_keys};
@@ -105,11 +105,11 @@ fn play_part<T: RunWatcher>(
     Ok((LivePlay { keys, steps }, is_idle))
 }
 
-/// Whether a script can have so many keys. A machine then takes all of them, wherever they come.
-fn is_few(before: &[Key], own: &[Key]) -> bool
-    ensures { result ≡ nat_le (length before.now + length own.now) most_keys }
+/// Whether a script can have so many keys, those from before and own ones. A machine then takes all of them, wherever they come.
+fn is_few(before: usize, own: usize) -> bool
+    ensures { result ≡ nat_le (before + own) most_keys }
 {
-    before.len() <= MOST_KEYS && own.len() <= MOST_KEYS - before.len()
+    before <= MOST_KEYS && own <= MOST_KEYS - before
 }
 
 /// What a session is played by: the keys of its script as they are written, or those that come.
@@ -123,14 +123,14 @@ fn settle_part<T: RunWatcher>(
 ) -> Result<(LivePlay, bool), RunError>
     requires fit { IsFitPart system.now (part_view part) }
     requires opened { IsOpened (start_view part.opened.now) }
-    requires ready { IsPartReady stops_idle (all_said part.cues) (Some (start_view part.opened.now)) }
+    requires ready { IsPartReady stops_idle (length part.before.items) (all_said part.cues) (Some (start_view part.opened.now)) }
     ensures settled { IfOk result (λ p. HasSettledBy system.now (part_view part.entry) stops_idle (timed_keys (all_said part.entry.cues))
         p.0.keys.items p.0.steps p.1) }
     ensures sound { IfOk result (λ p. AreSoundKeys system.now (part_view part.entry) p.0.keys.items p.0.steps) }
     ensures refusal { IfErr result (λ e. e ≡ RunError.OutOfMemory) }
 {
     match timed_keys(alloc, part.cues.as_slice())? {
-        Some(own) if !stops_idle && is_few(part.before.as_slice(), own.as_slice()) => {
+        Some(own) if !stops_idle && is_few(part.before.len(), own.len()) => {
             let live = LivePlay {
                 keys: joined(alloc, part.before.as_slice(), own.as_slice())?,
                 steps: part.steps,
@@ -157,7 +157,7 @@ fn settle_session<'a, T: RunWatcher>(
 ) -> Result<SettledInput<'a>, RunError>
     requires fit { IsFitInput (typed_view typed.now) (starts_of (map settled_view settled.now)) (given input) }
     requires sound { AreSound system.now (map settled_view settled.now) }
-    requires ready { IsPartReady stops_idle (said_at (typed_view typed.now) (length settled.now) (all_said input.cues))
+    requires ready { IsSessionReady stops_idle (typed_view typed.now) (said_at (typed_view typed.now) (length settled.now) (all_said input.cues))
         (opened_by (starts_of (map settled_view settled.now)) (start_view input.start)) }
     ensures settled { IfOk result (λ s. IsSettled system.now stops_idle
         (part_of (typed_view typed.now) config.now.sessions.items (map settled_view settled.now) (given input.entry)) (given input.entry) (settled_view s)) }
@@ -172,7 +172,7 @@ fn settle_session<'a, T: RunWatcher>(
     } = input;
     let part = part_of(alloc, config, typed, settled, session, &start, cues)?;
     let before = part.before.len();
-    if typed.is_none() && key_count(part.cues.as_slice()) > MOST_KEYS.saturating_sub(before) {
+    if typed.is_none() && !is_few(before, key_count(part.cues.as_slice())) {
         return Err(RunError::TooManyKeys(shown(session.name.as_str())));
     }
     let (live, is_idle) = settle_part(alloc, system, settled.len(), part, stops_idle, watcher)?;

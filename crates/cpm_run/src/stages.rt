@@ -4,6 +4,7 @@ ghost use Rattle.std.specs.List.{All};
 ghost use Rattle.cpm_batch.specs.Inputs.{given};
 ghost use Rattle.cpm_slots.specs.Host.{new_host};
 ghost use Rattle.cpm_script.specs.Cues.{cue_text};
+ghost use Rattle.cpm_script.specs.Laws.{KeysAreAscii};
 ghost use Rattle.cpm_batch.specs.Inputs.{timed_keys};
 ghost use Rattle.std.specs.Prelude.{is_some, not};
 ghost use Rattle.cpm_run.specs.Refusing.{IsSettleRefusal};
@@ -89,6 +90,7 @@ fn type_if_any<P: Typist, W: Write, R: Write, T: RunWatcher>(
     requires starts { All BeginsAsConfigured (map given inputs.now) }
     requires accepted { AllAccepted (starts_read (map given inputs.now)) (new_host system.now config.now.frames)
         (starts_read (map given inputs.now)) }
+    requires ascii { All (λ i. KeysAreAscii i.said) (map given inputs.now) }
     ensures typed { IfOk result (λ t. IsTypedIfAny system.now config.now.sessions.items (option_map (λ n. n.now) options.entry.typed)
         (map given inputs.now)
         (streams (P.typing typist.old) (P.typing typist.new) (W.contents out.old) (W.contents out.new) (R.contents «record».old) (R.contents «record».new))

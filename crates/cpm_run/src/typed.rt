@@ -41,8 +41,8 @@ pub(crate) fn typed_place(
     }
 }
 
-/// Plays a session by itself, by its script and then by the keys that are typed, without a limit of steps. It gives these, each with the count at which it was accepted, and how many
-/// steps the session then has.
+/// Plays a session by itself, by its script and then by the keys that are typed, without a limit of steps. It gives these, each with the count at which it was
+/// accepted, and how many steps the session then has.
 pub(crate) fn type_at<P: Typist, W: Write, R: Write>(
     alloc: Global,
     config: &Config,

@@ -4,19 +4,14 @@ use Rattle.cpm_machine.specs.Serve.{look_of}
 use Rattle.cpm_machine.specs.declared.reply.Look.{Look}
 use Rattle.cpm_run.specs.Settled.{settled_steps}
 use Rattle.cpm_run.specs.Settling.{part_view}
-use Rattle.cpm_run.proofs.SettleLemmas.{came_sound, cues_ascii, cues_few, cues_say, all_cues, all_keys, at_least, played_by}
+use Rattle.cpm_run.proofs.SettleLemmas.{came_sound, cues_ascii, cues_say, all_cues, all_keys, at_least, played_by}
 use Rattle.cpm_run.proofs.settle.play_part.Goals.{then-stops_idle, else-stops_idle, then-stops_idle-2, else-stops_idle-2}
 use Rattle.cpm_run.proofs.settle.play_part.Goals as goal
 
 pub play_cues-played-requires-clause-ascii : goal.play_cues-played-requires-clause-ascii
 play_cues-played-requires-clause-ascii g c =
     let are = all_cues c.args.part.before.items c.as_slice.result.now c.args.part.cues.items c.in_ok-cues.cues.items c.as_slice-2.result.now c.as_slice.ensures.value c.in_ok-cues.ensures c.as_slice-2.ensures.value in
-    cues_ascii (part_view c.args.part) c.as_slice-2.result.now c.requires.fit (cues_say c.args.part.before.items c.args.part.cues.items c.as_slice-2.result.now are)
-
-pub play_cues-played-requires-clause-few : goal.play_cues-played-requires-clause-few
-play_cues-played-requires-clause-few g c =
-    let are = all_cues c.args.part.before.items c.as_slice.result.now c.args.part.cues.items c.in_ok-cues.cues.items c.as_slice-2.result.now c.as_slice.ensures.value c.in_ok-cues.ensures c.as_slice-2.ensures.value in
-    cues_few (part_view c.args.part) c.as_slice-2.result.now c.requires.fit (cues_say c.args.part.before.items c.args.part.cues.items c.as_slice-2.result.now are)
+    cues_ascii c.args.system.now (part_view c.args.part) c.as_slice-2.result.now c.requires.fit (cues_say c.args.part.before.items c.args.part.cues.items c.as_slice-2.result.now are)
 
 pub returns-clause-played : goal.returns-clause-played
 returns-clause-played g c =
@@ -66,4 +61,5 @@ returns-clause-sound g c =
       | else-stops_idle w ↦ w.steps-is ∙ ap (λ (b : Bool). settled_steps b (part_view part) done) (sym w.if-stops_idle.false)
     ] in
     let late : part.at ≤ c.if-stops_idle.steps = let least = at_least c.args.stops_idle (part_view part) done c.requires.fit.within in omega (arith, least, steps) in
-    came_sound c.args.system.now c.in_ok-machine.machine (part_view part) part.cues.items cues came c.in_ok-keys.keys.items done c.if-stops_idle.steps refl c.requires.fit are h.keys h.given keys late
+    came_sound c.args.system.now c.in_ok-machine.machine (part_view part) part.cues.items cues came c.in_ok-keys.keys.items done c.if-stops_idle.steps
+    c.in_ok-machine.ensures.machine refl c.requires.fit are h.keys h.room h.given keys late
