@@ -5,3 +5,4 @@ pub mod ListLemmas
 pub mod MessageLemmas
 pub mod PlanLemmas
 pub mod RunLemmas
+pub mod TaskLemmas

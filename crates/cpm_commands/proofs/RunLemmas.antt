@@ -4,6 +4,7 @@ use Rattle.std.specs.Prelude.{Option, IfErr, OnOk, Result, Ok, Err}
 use Rattle.cpm_command_line.specs.declared.task.RunTask.{RunTask}
 use Rattle.cpm_config.specs.declared.config.Config.{Config}
 use Rattle.cpm_host.specs.declared.error.HostError.{HostError}
+use Rattle.cpm_play.specs.Typist.{TypingState}
 use Rattle.cpm_run.specs.Settled.{AreUntouched, streams}
 use Rattle.cpm_run.specs.declared.report.Report.{Report}
 use Rattle.cpm_run.specs.declared.report.SessionReport.{SessionReport}
@@ -27,7 +28,7 @@ prepared does sees_to task old known new config lent scripts fault read named le
 -- they were not, or memory was refused before
 pub unseen : {F : Type 0} (does : F → StoreAccess → F → Type 0) (sees_to : F → Plan → Option HostError → F → Type 0) (gives_names : F → Option HostError → F → Type 0) (tells_name : F → StoreName → Bool → Type 0)
     (ended : Option HostError → Type 0) (told : List SessionReport → Type 0) (task : RunTask)
-    (old known new : F) (config : Config) (lent scripts : List (String Global)) (unread left before printed unrecorded record_now : Option (List ℕ)) (e : HostError)
+    (old known new : F) (config : Config) (lent scripts : List (String Global)) (unread left : TypingState) (before printed unrecorded record_now : Option (List ℕ)) (e : HostError)
     → IsConfigRead does task.config.now old known config → AreScripts task config scripts → lent ≡ scripts → IsRunUnseen sees_to task config lent known new e
     → AreUntouched (streams unread left before printed unrecorded record_now)
     → IsRunStopped does sees_to gives_names tells_name ended told task old new unread left before printed unrecorded record_now e
@@ -38,7 +39,7 @@ unseen does sees_to gives_names tells_name ended told task old known new config 
 
 -- the record of what is typed is as it was played
 pub played : {F : Type 0} (does : F → StoreAccess → F → Type 0) (tells_name : F → StoreName → Bool → Type 0) (task : RunTask) (config : Config) (lent scripts : List (String Global)) (report : Report)
-    (unread left before shown unrecorded recorded record_now : Option (List ℕ)) (seen ran : F) → lent ≡ scripts → record_now ≡ recorded
+    (unread left : TypingState) (before shown unrecorded recorded record_now : Option (List ℕ)) (seen ran : F) → lent ≡ scripts → record_now ≡ recorded
     → HasRunAll does tells_name task config lent report (streams unread left before shown unrecorded recorded) seen ran
     → HasRunAll does tells_name task config scripts report (streams unread left before shown unrecorded record_now) seen ran
 played does tells_name task config lent scripts report unread left before shown unrecorded recorded record_now seen ran lent_is record_is all =

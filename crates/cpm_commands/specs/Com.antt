@@ -15,6 +15,7 @@ use Rattle.cpm_host.specs.declared.program.Source.TheVariants.{Cues, Typed}
 use Rattle.cpm_machine.specs.Step.{is_running}
 use Rattle.cpm_machine.specs.declared.reply.End.{End}
 use Rattle.cpm_machine.specs.declared.reply.End.TheVariants.{Running, Halted, Illegal, Quota, CountEnd, Exited}
+use Rattle.cpm_play.specs.declared.live.PlayEnd.{PlayEnd}
 use Rattle.cpm_run.specs.Settled.{AreUntouched, Streams}
 use Rattle.cpm_run.specs.declared.ending.Ending.{Ending}
 use Rattle.cpm_script.specs.Cues.{cue_text, cues}
@@ -216,7 +217,7 @@ pub data IsPlayStopped {F : Type 0} (does : F → StoreAccess → F → Type 0) 
 -- A program was played, and then the record of its keys was ended, and its disks were written, and got their names: it was not cut off, or they are written
 -- in part. It was told how it ended, and whether it was to stop where it waits, and did; and the status is given.
 pub record HasRunProgram {F : Type 0} (does : F → StoreAccess → F → Type 0) (sees_to : F → Plan → Option HostError → F → Type 0)
-    (gives_names : F → Option HostError → F → Type 0) (ended : Option HostError → Type 0) (told : Ending → (waits : Bool) → Type 0)
+    (gives_names : F → Option HostError → F → Type 0) (ended : Option HostError → Type 0) (told : Ending → (waits : Bool) → Option PlayEnd → Type 0)
     (task : ComTask) (io : Streams) (old new : F) (status : ℕ) : Type 0 where
   pub read : F
   pub written : F
@@ -226,7 +227,7 @@ pub record HasRunProgram {F : Type 0} (does : F → StoreAccess → F → Type 0
   pub whole : is_kept_back task play ≡ false
   pub wrote : LogLeadsBy does (AreWrites (com_outputs task play)) read written
   pub named : gives_names written None new
-  pub tells : told play.ending (play.waits && task.stops_idle)
+  pub tells : told play.ending (play.waits && task.stops_idle) play.end
   pub gives : status ≡ status_of task play.ending
 
 -- how far it came that was refused

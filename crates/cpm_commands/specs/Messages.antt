@@ -1,5 +1,8 @@
 -- What a person is told of a command, beside what it prints. All of it is own.
-use Rattle.std.specs.Prelude.{◌≡◌, ℕ, Bool, true, false, List, [], ◌∷◌, ◌++◌, codes, string_bytes, MatchOption}
+use Rattle.std.specs.Prelude.{◌≡◌, ℕ, Bool, true, false, List, [], ◌∷◌, ◌++◌, codes, string_bytes, MatchOption, Option, Some}
+use Rattle.cpm_play.specs.declared.live.PlayEnd.{PlayEnd}
+use Rattle.cpm_play.specs.declared.live.PlayEnd.TheVariants.{Typing}
+use Rattle.cpm_play.specs.declared.typist.TypingEnd.TheVariants.{Quit, InputEnd, Signal}
 use Rattle.cpm_run.specs.Ending.{ending_text, illegal_of, illegal_text}
 use Rattle.cpm_run.specs.declared.ending.Ending.{Ending}
 use Rattle.cpm_run.specs.declared.report.SessionReport.{SessionReport}
@@ -7,19 +10,26 @@ use Rattle.cpm_commands.specs.Report.{waiting_word}
 
 -- ---- of a program
 
--- the last line: how it ended, and whether it was to stop where it waits for a key, and did
-abbrev pub end_line : Ending → Bool → List ℕ
-end_line e waits = ending_text e ++ waiting_word waits
+-- the word for why no more was typed, where that ended it
+abbrev pub typing_word : Option PlayEnd → List ℕ
+typing_word (Some (Typing Quit)) = codes " quit"
+typing_word (Some (Typing InputEnd)) = codes " input-end"
+typing_word (Some (Typing Signal)) = codes " signal"
+typing_word end = []
+
+-- the last line: how it ended, whether it was to stop where it waits for a key, and did, and why no more was typed
+abbrev pub end_line : Ending → Bool → Option PlayEnd → List ℕ
+end_line e waits end = ending_text e ++ waiting_word waits ++ typing_word end
 
 abbrev pub IsLastTold : {M : Type 0} → (M → List ℕ → M → Type 0) → (is_quiet : Bool) → List ℕ → M → M → Type 0
 IsLastTold {M} tells true line old new = new ≡ old
 IsLastTold {M} tells false line old new = tells old line new
 
 -- where it ended at bytes that are no instruction, these are told; and then how it ended, unless that is not to be told
-pub record IsEndTold {M : Type 0} (tells : M → List ℕ → M → Type 0) (is_quiet : Bool) (e : Ending) (waits : Bool) (old new : M) : Type 0 where
+pub record IsEndTold {M : Type 0} (tells : M → List ℕ → M → Type 0) (is_quiet : Bool) (e : Ending) (waits : Bool) (end : Option PlayEnd) (old new : M) : Type 0 where
   pub between : M
   pub illegal : MatchOption (illegal_of e.ended e.pc e.at_pc) (between ≡ old) (λ i. tells old (illegal_text i) between)
-  pub last : IsLastTold tells is_quiet (end_line e waits) between new
+  pub last : IsLastTold tells is_quiet (end_line e waits end) between new
 
 -- ---- of the sessions of a run
 
@@ -36,9 +46,9 @@ AreIllegalTold {M} tells (s ∷ ss) old new = (next : M) × IsIllegalTold tells 
 -- ---- at the end of a command
 
 -- so it was told at last of a program
-pub record HasToldEnd {M : Type 0} (tells : M → List ℕ → M → Type 0) (is_quiet : Bool) (e : Ending) (waits : Bool) (new : M) : Type 0 where
+pub record HasToldEnd {M : Type 0} (tells : M → List ℕ → M → Type 0) (is_quiet : Bool) (e : Ending) (waits : Bool) (end : Option PlayEnd) (new : M) : Type 0 where
   pub before : M
-  pub told : IsEndTold tells is_quiet e waits before new
+  pub told : IsEndTold tells is_quiet e waits end before new
 
 -- and of sessions
 pub record HasToldIllegal {M : Type 0} (tells : M → List ℕ → M → Type 0) (sessions : List SessionReport) (new : M) : Type 0 where

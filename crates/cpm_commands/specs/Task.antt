@@ -7,6 +7,7 @@ use Rattle.cpm_command_line.specs.declared.task.DiskTask.TheVariants.{New, List 
 use Rattle.cpm_command_line.specs.declared.task.Task.{Task}
 use Rattle.cpm_command_line.specs.declared.task.Task.TheVariants.{Com, Asm, List as Lines, Check, Run, Debug, Disk, Help}
 use Rattle.cpm_host.specs.declared.error.HostError.{HostError}
+use Rattle.cpm_play.specs.declared.live.PlayEnd.{PlayEnd}
 use Rattle.cpm_run.specs.Settled.{Streams}
 use Rattle.cpm_run.specs.declared.ending.Ending.{Ending}
 use Rattle.cpm_run.specs.declared.report.SessionReport.{SessionReport}
@@ -37,7 +38,7 @@ pub record FileActs (F : Type 0) : Type 1 where
 -- how the record of what is typed ended, and what was told at last: of a program, and of sessions
 pub record LastActs : Type 1 where
   pub ended : Option HostError → Type 0
-  pub told_end : (is_quiet : Bool) → Ending → (waits : Bool) → Type 0
+  pub told_end : (is_quiet : Bool) → Ending → (waits : Bool) → Option PlayEnd → Type 0
   pub told_illegal : List SessionReport → Type 0
 
 -- the files and standard output before and after, and what the streams held

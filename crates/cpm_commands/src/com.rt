@@ -333,7 +333,7 @@ pub fn run_program_file<
     watcher: &mut T,
 ) -> Result<u8, HostError>
     ensures ran { IfOk result (HasRunProgram F.does F.sees_to F.gives_names (HasEndedRecord R.ends R.contents (R.contents «record».new) «record».new)
-        (λ ending waits. HasToldEnd T.tells task.now.is_quiet ending waits watcher.new) task.now
+        (λ ending waits end. HasToldEnd T.tells task.now.is_quiet ending waits end watcher.new) task.now
         (streams (P.typing typist.old) (P.typing typist.new) (W.contents out.old) (W.contents out.new) (R.contents «record».old) (R.contents «record».new))
         files.old files.new) }
     ensures refusal { IfErr result (IsComStopped F.does F.sees_to F.gives_names (HasEndedRecord R.ends R.contents (R.contents «record».new) «record».new)
@@ -351,6 +351,7 @@ pub fn run_program_file<
         ending,
         drives,
         waits,
+        end,
         ..
     } = play;
     add_drives(&mut outputs, &task.outs, drives)?;
@@ -359,6 +360,7 @@ pub fn run_program_file<
     tell_end(
         ending,
         is_idle(waits, task.stops_idle),
+        end,
         task.is_quiet,
         watcher,
     );

@@ -145,7 +145,7 @@ pub fn do_task<
         (record { does = F.does; sees_to = F.sees_to; gives_names = F.gives_names; tells_name = F.tells_name; tells_folder = F.tells_folder })
         (record {
           ended = HasEndedRecord R.ends R.contents (R.contents «record».new) «record».new;
-          told_end = λ is_quiet ending waits. HasToldEnd T.tells is_quiet ending waits watcher.new;
+          told_end = λ is_quiet ending waits end. HasToldEnd T.tells is_quiet ending waits end watcher.new;
           told_illegal = λ sessions. HasToldIllegal T.tells sessions watcher.new;
         })
         (record {
@@ -161,7 +161,7 @@ pub fn do_task<
         (record { does = F.does; sees_to = F.sees_to; gives_names = F.gives_names; tells_name = F.tells_name; tells_folder = F.tells_folder })
         (record {
           ended = HasEndedRecord R.ends R.contents (R.contents «record».new) «record».new;
-          told_end = λ is_quiet ending waits. HasToldEnd T.tells is_quiet ending waits watcher.new;
+          told_end = λ is_quiet ending waits end. HasToldEnd T.tells is_quiet ending waits end watcher.new;
           told_illegal = λ sessions. HasToldIllegal T.tells sessions watcher.new;
         })
         (record {

@@ -1,37 +1,87 @@
-use Rattle.std.proofs.Common.{rules, ◌≡◌, ◌&&◌, ◌<◌, ◌≤◌, ◌+◌, ◌++◌, IfErr, IfOk, IsOk, OnOk, Some, map, option_map, vec_len, ℕ, ◌-◌, ◌*◌, length, ◌/◌, ◌%◌, Bool, true, false, nat_eq, nat_lt, List, [], ◌∷◌, slice_index_or, slice_set, bit_and, bit_or, Fits, w8, w32, w64, Bor, MutBor}
-use Rattle.std.specs.Vec.{vec_capacity}
-use Rattle.cpm_batch.specs.Outputs.{named_image}
-use Rattle.cpm_commands.specs.Com.{AreCuesRead, AreCuesRefused, AreDrivesRead, AreDrivesRefused, AreKeysRead, AreKeysRefused, AreRecordedRead, AreRecordedRefused, HasPlayedFile, HasRunProgram, IsComStopped, IsPlayStopped, IsStartRead, IsStartRefused, IsTailOf, drive_outputs, is_cut_off, is_kept_back, plan_of_com, source_of, status_of, status_of_end, steps_asked}
-use Rattle.cpm_machine.specs.Step.{is_running}
-use Rattle.cpm_commands.specs.Messages.{HasToldEnd}
-use Rattle.cpm_commands.specs.Plan.{plan_view}
-use Rattle.cpm_commands.specs.Record.{HasEndedRecord}
-use Rattle.cpm_host.specs.Program.{AreFit, program_given}
-use Rattle.cpm_host.specs.Tails.{IsTailRefusal}
+use Rattle.std.proofs.Common.{◌∙◌, ◌++◌, Bool, List, ap, map, refl, subst, sym, ℕ}
+use Rattle.std.specs.Prelude.{Option}
+use Rattle.std.proofs.lemmas.Result.{err_from_is_err_and}
 use Rattle.cpm_run.specs.Settled.{streams}
-use Rattle.cpm_store.specs.Writes.{named_output}
+use Rattle.cpm_store.specs.Log.{AreWrites, LogLeadsBy}
+use Rattle.cpm_store.specs.Writes.{NamedBytes, named_output}
+use Rattle.cpm_commands.specs.Com.{HasPlayedFile, drive_outputs}
+use Rattle.cpm_commands.specs.Com.IsComStopped.{KeptBack, NotNamed, NotPlayed, NotRecorded, NotWritten}
+use Rattle.cpm_commands.specs.Files.{IsWritingStopped}
+use Rattle.cpm_commands.specs.Messages.{IsEndTold}
 use Rattle.cpm_commands.proofs.com.run_program_file.Goals as goal
 
--- src/com.rt:345:16
 pub returns-in_err-play-clause-refusal : goal.returns-in_err-play-clause-refusal
-returns-in_err-play-clause-refusal g c = ?
+returns-in_err-play-clause-refusal g c =
+    let p = err_from_is_err_and c.from_residual-in_err-play.result c.from_residual-in_err-play.ensures.1 in
+    rw (p.1, p.2) (NotPlayed c.in_err-play.ensures.refusal)
 
--- src/com.rt:346:5
 pub returns-in_err-end_record-clause-refusal : goal.returns-in_err-end_record-clause-refusal
-returns-in_err-end_record-clause-refusal g c = ?
+returns-in_err-end_record-clause-refusal g c =
+    let p = err_from_is_err_and c.from_residual-in_err-end_record.result c.from_residual-in_err-end_record.ensures.1 in
+    let now = streams (g.P.Typist.typing c.args.typist.now) (g.P.Typist.typing c.play_file.new.typist) (g.W.Write.contents c.args.out.now) (g.W.Write.contents c.play_file.new.out)
+    (g.R.Write.contents c.args.record.now) in
+    let played = subst (λ (r : Option (List ℕ)). HasPlayedFile g.F.Store.does g.F.CommandFiles.sees_to c.args.task.now (now r) c.args.files.now c.play_file.new.files c.in_ok-play.play)
+    (sym c.in_err-end_record.ensures.same) c.in_ok-play.ensures.played in
+    rw (p.1, p.2) (NotRecorded c.in_ok-play.play played c.in_err-end_record.ensures.refused c.in_err-end_record.ensures.refusal)
 
--- src/com.rt:348:9
 pub returns-then-is_kept_back-clause-refusal : goal.returns-then-is_kept_back-clause-refusal
-returns-then-is_kept_back-clause-refusal g c = ?
+returns-then-is_kept_back-clause-refusal g c =
+    let now = streams (g.P.Typist.typing c.args.typist.now) (g.P.Typist.typing c.play_file.new.typist) (g.W.Write.contents c.args.out.now) (g.W.Write.contents c.play_file.new.out)
+    (g.R.Write.contents c.args.record.now) in
+    let played = subst (λ (r : Option (List ℕ)). HasPlayedFile g.F.Store.does g.F.CommandFiles.sees_to c.args.task.now (now r) c.args.files.now c.play_file.new.files c.in_ok-play.play)
+    (sym c.in_ok-end_record.ensures.same) c.in_ok-play.ensures.played in
+    KeptBack c.in_ok-play.play played c.in_ok-end_record.ensures.ended (sym c.is_kept_back.ensures ∙ c.if-is_kept_back.true) refl
 
--- src/com.rt:357:5
 pub returns-in_err-write_outputs-clause-refusal : goal.returns-in_err-write_outputs-clause-refusal
-returns-in_err-write_outputs-clause-refusal g c = ?
+returns-in_err-write_outputs-clause-refusal g c =
+    let p = err_from_is_err_and c.from_residual-in_err-write_outputs.result c.from_residual-in_err-write_outputs.ensures.1 in
+    let now = streams (g.P.Typist.typing c.args.typist.now) (g.P.Typist.typing c.play_file.new.typist) (g.W.Write.contents c.args.out.now) (g.W.Write.contents c.play_file.new.out)
+    (g.R.Write.contents c.args.record.now) in
+    let played = subst (λ (r : Option (List ℕ)). HasPlayedFile g.F.Store.does g.F.CommandFiles.sees_to c.args.task.now (now r) c.args.files.now c.play_file.new.files c.in_ok-play.play)
+    (sym c.in_ok-end_record.ensures.same) c.in_ok-play.ensures.played in
+    let whole = sym c.is_kept_back.ensures ∙ c.if-is_kept_back.false in
+    let written = ap (map named_output) c.as_slice.ensures.value ∙ c.in_ok-add_drives.ensures.added
+    ∙ (λ i. map named_output (c.in_ok-outputs.ensures.items i) ++ drive_outputs (map (λ n. n.now) (c.deref.ensures.value i)) c.in_ok-play.play.drives) in
+    let unwritten = subst (λ (qs : List NamedBytes). IsWritingStopped g.F.Store.does qs c.play_file.new.files c.write_outputs.new.files c.in_err-write_outputs.field-0.0) written
+    c.in_err-write_outputs.ensures.refusal in
+    rw (p.1, p.2) (NotWritten c.in_ok-play.play c.play_file.new.files played c.in_ok-end_record.ensures.ended whole unwritten)
 
--- src/com.rt:358:5
 pub returns-in_err-give_names-clause-refusal : goal.returns-in_err-give_names-clause-refusal
-returns-in_err-give_names-clause-refusal g c = ?
+returns-in_err-give_names-clause-refusal g c =
+    let p = err_from_is_err_and c.from_residual-in_err-give_names.result c.from_residual-in_err-give_names.ensures.1 in
+    let now = streams (g.P.Typist.typing c.args.typist.now) (g.P.Typist.typing c.play_file.new.typist) (g.W.Write.contents c.args.out.now) (g.W.Write.contents c.play_file.new.out)
+    (g.R.Write.contents c.args.record.now) in
+    let played = subst (λ (r : Option (List ℕ)). HasPlayedFile g.F.Store.does g.F.CommandFiles.sees_to c.args.task.now (now r) c.args.files.now c.play_file.new.files c.in_ok-play.play)
+    (sym c.in_ok-end_record.ensures.same) c.in_ok-play.ensures.played in
+    let whole = sym c.is_kept_back.ensures ∙ c.if-is_kept_back.false in
+    let written = ap (map named_output) c.as_slice.ensures.value ∙ c.in_ok-add_drives.ensures.added
+    ∙ (λ i. map named_output (c.in_ok-outputs.ensures.items i) ++ drive_outputs (map (λ n. n.now) (c.deref.ensures.value i)) c.in_ok-play.play.drives) in
+    let wrote = subst (λ (qs : List NamedBytes). LogLeadsBy g.F.Store.does (AreWrites qs) c.play_file.new.files c.write_outputs.new.files) written c.in_ok-write_outputs.ensures.wrote in
+    rw (p.1, p.2) (NotNamed c.in_ok-play.play c.play_file.new.files c.write_outputs.new.files played c.in_ok-end_record.ensures.ended whole wrote c.in_err-give_names.ensures.refused)
 
--- src/com.rt:320:1
 pub returns-clause-ran : goal.returns-clause-ran
-returns-clause-ran g c = ?
+returns-clause-ran g c =
+    let now = streams (g.P.Typist.typing c.args.typist.now) (g.P.Typist.typing c.play_file.new.typist) (g.W.Write.contents c.args.out.now) (g.W.Write.contents c.play_file.new.out)
+    (g.R.Write.contents c.args.record.now) in
+    let played = subst (λ (r : Option (List ℕ)). HasPlayedFile g.F.Store.does g.F.CommandFiles.sees_to c.args.task.now (now r) c.args.files.now c.play_file.new.files c.in_ok-play.play)
+    (sym c.in_ok-end_record.ensures.same) c.in_ok-play.ensures.played in
+    let whole = sym c.is_kept_back.ensures ∙ c.if-is_kept_back.false in
+    let written = ap (map named_output) c.as_slice.ensures.value ∙ c.in_ok-add_drives.ensures.added
+    ∙ (λ i. map named_output (c.in_ok-outputs.ensures.items i) ++ drive_outputs (map (λ n. n.now) (c.deref.ensures.value i)) c.in_ok-play.play.drives) in
+    let wrote = subst (λ (qs : List NamedBytes). LogLeadsBy g.F.Store.does (AreWrites qs) c.play_file.new.files c.write_outputs.new.files) written c.in_ok-write_outputs.ensures.wrote in
+    record {
+      read = c.play_file.new.files;
+      written = c.write_outputs.new.files;
+      play = c.in_ok-play.play;
+      played = played;
+      recorded = c.in_ok-end_record.ensures.ended;
+      whole = whole;
+      wrote = wrote;
+      named = c.in_ok-give_names.ensures.named;
+      tells = record {
+        before = c.play_file.new.watcher;
+        told = subst (λ (w : Bool). IsEndTold g.T.Messages.tells c.args.task.now.is_quiet c.in_ok-play.play.ending w c.in_ok-play.play.end
+            c.play_file.new.watcher c.tell_end.new.messages) c.is_idle.ensures c.tell_end.ensures;
+      };
+      gives = c.status_of.ensures;
+    }

@@ -22,7 +22,7 @@ returns-in_err-report-clause-refusal g c =
     let task = c.args.task.now in
     let ready = prepared g.F.Store.does g.F.CommandFiles.sees_to task c.args.files.now c.read_config.new.files c.see_to_run.new.files config c.deref.result.now scripts None
     c.in_ok-config.ensures.read c.in_ok-scripts.ensures c.deref.ensures.value c.in_ok-see_to_run.ensures.seen in
-    let io = streams (g.I.Read.remaining c.args.input.now) (g.I.Read.remaining c.run_all.new.input) (g.W.Write.contents c.args.out.now) (g.W.Write.contents c.run_all.new.out)
+    let io = streams (g.P.Typist.typing c.args.typist.now) (g.P.Typist.typing c.run_all.new.typist) (g.W.Write.contents c.args.out.now) (g.W.Write.contents c.run_all.new.out)
     (g.R.Write.contents c.args.record.now) (g.R.Write.contents c.run_all.new.record) in
     let stopped = subst (λ (ss : List (String Global)). IsRunAllStopped g.F.Store.does g.F.CommandFiles.tells_name task config ss io c.see_to_run.new.files c.run_all.new.files c.in_err-report.field-0.0) c.deref-2.ensures.value
     c.in_err-report.ensures.refusal in
@@ -38,7 +38,7 @@ returns-in_err-ended-clause-refusal g c =
     c.in_ok-config.ensures.read c.in_ok-scripts.ensures c.deref.ensures.value c.in_ok-see_to_run.ensures.seen in
     let report = c.in_ok-report.report in
     let shown = g.W.Write.contents c.run_all.new.out in
-    let all = played g.F.Store.does g.F.CommandFiles.tells_name task config c.deref-2.result.now scripts report (g.I.Read.remaining c.args.input.now) (g.I.Read.remaining c.run_all.new.input) (g.W.Write.contents c.args.out.now) shown
+    let all = played g.F.Store.does g.F.CommandFiles.tells_name task config c.deref-2.result.now scripts report (g.P.Typist.typing c.args.typist.now) (g.P.Typist.typing c.run_all.new.typist) (g.W.Write.contents c.args.out.now) shown
     (g.R.Write.contents c.args.record.now) (g.R.Write.contents c.run_all.new.record) (g.R.Write.contents c.end_record-recorded.new.record) c.see_to_run.new.files c.run_all.new.files c.deref-2.ensures.value
     c.end_record-recorded.ensures.same c.in_ok-report.ensures.ran in
     let ended = ended_so c.end_record-recorded.result (HasEndedRecord g.R.KeyRecord.ends g.R.Write.contents (g.R.Write.contents c.end_record-recorded.new.record) c.end_record-recorded.new.record) c.end_record-recorded.ensures.ended c.end_record-recorded.ensures.refused in
@@ -53,7 +53,7 @@ returns-clause-ran g c =
     c.in_ok-config.ensures.read c.in_ok-scripts.ensures c.deref.ensures.value c.in_ok-see_to_run.ensures.seen in
     let report = c.in_ok-report.report in
     let shown = g.W.Write.contents c.run_all.new.out in
-    let all = played g.F.Store.does g.F.CommandFiles.tells_name task config c.deref-2.result.now scripts report (g.I.Read.remaining c.args.input.now) (g.I.Read.remaining c.run_all.new.input) (g.W.Write.contents c.args.out.now) shown
+    let all = played g.F.Store.does g.F.CommandFiles.tells_name task config c.deref-2.result.now scripts report (g.P.Typist.typing c.args.typist.now) (g.P.Typist.typing c.run_all.new.typist) (g.W.Write.contents c.args.out.now) shown
     (g.R.Write.contents c.args.record.now) (g.R.Write.contents c.run_all.new.record) (g.R.Write.contents c.end_record-recorded.new.record) c.see_to_run.new.files c.run_all.new.files c.deref-2.ensures.value
     c.end_record-recorded.ensures.same c.in_ok-report.ensures.ran in
     done c.end_record-recorded.result _ _ (λ ended. record {
@@ -80,7 +80,7 @@ returns-clause-refusal g c =
     c.in_ok-config.ensures.read c.in_ok-scripts.ensures c.deref.ensures.value c.in_ok-see_to_run.ensures.seen in
     let report = c.in_ok-report.report in
     let shown = g.W.Write.contents c.run_all.new.out in
-    let all = played g.F.Store.does g.F.CommandFiles.tells_name task config c.deref-2.result.now scripts report (g.I.Read.remaining c.args.input.now) (g.I.Read.remaining c.run_all.new.input) (g.W.Write.contents c.args.out.now) shown
+    let all = played g.F.Store.does g.F.CommandFiles.tells_name task config c.deref-2.result.now scripts report (g.P.Typist.typing c.args.typist.now) (g.P.Typist.typing c.run_all.new.typist) (g.W.Write.contents c.args.out.now) shown
     (g.R.Write.contents c.args.record.now) (g.R.Write.contents c.run_all.new.record) (g.R.Write.contents c.end_record-recorded.new.record) c.see_to_run.new.files c.run_all.new.files c.deref-2.ensures.value
     c.end_record-recorded.ensures.same c.in_ok-report.ensures.ran in
     both c.end_record-recorded.result _ _ _ (λ e ended unrecorded. NotRecorded config scripts c.see_to_run.new.files c.run_all.new.files report shown ready all
