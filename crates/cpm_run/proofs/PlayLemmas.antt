@@ -8,12 +8,12 @@ use Rattle.cpm_flags.specs.declared.regs.Cpu.{Cpu}
 use Rattle.cpm_geom.specs.Disk.{Disk}
 use Rattle.cpm_script.specs.Fork.{keys_before}
 use Rattle.cpm_script.specs.declared.script.Key.{Key}
-use Rattle.cpm_slots.specs.Host.{Host, SlotState}
+use Rattle.cpm_slots.specs.Host.{Host, SlotState, slot_at}
 use Rattle.cpm_machine.specs.MachineState.{MachineState, opened_machine}
 use Rattle.cpm_machine.specs.declared.opening.OpenError.{OpenError}
 use Rattle.cpm_machine.specs.declared.opening.OpenError.TheVariants as fault
 use Rattle.cpm_play.specs.Players.{AllReady, HasPlayed, HasRoomForForks, IsForkReady, IsPlayRefusal, IsPlayerReady, fork_pages, forks_of, is_fork, pages_of, player_keys, player_steps, quota_of, player_slot, start_at}
-use Rattle.cpm_play.specs.Playing.{IsInOrder, IsPlayed}
+use Rattle.cpm_play.specs.Playing.{HaveRoom, IsInOrder, IsPlayed}
 use Rattle.cpm_play.specs.ScriptedSlots.{IsReady, script_keys}
 use Rattle.cpm_play.specs.declared.player.Fork.{Fork}
 use Rattle.cpm_play.specs.declared.player.Player.{Player}
@@ -52,12 +52,14 @@ record HasSlotAt (slots : List SlotState) (ps : List Player) (place : ℕ) (i : 
   slot : ScriptedSlot
   plays : slice_get ps place ≡ Some (Playing slot)
   keys : script_keys slot ≡ i.keys
+  stands : slot_at slot.id.0 slots ≡ Some (opening_of i.start)
 
-slot_by : (slots : List SlotState) (ps : List Player) (place : ℕ) (b : StartInput) (i : SettledSession) (p : Player) → IsOpened b → HasPlayerBy slots b i p → slice_get ps place ≡ Some p
+slot_by : (slots : List SlotState) (ps : List Player) (place : ℕ) (b : StartInput) (i : SettledSession) (p : Player) → b ≡ i.start → IsOpened b → HasPlayerBy slots b i p → slice_get ps place ≡ Some p
     → HasSlotAt slots ps place i
-slot_by slots ps place (Opens cpu quota drives) i (Playing slot) opened h there = record { slot = slot; plays = there; keys = h.keys }
-slot_by slots ps place (Opens cpu quota drives) i (Waiting fork) opened h there = absurd h
-slot_by slots ps place (Forks parent at) i p opened h there = absurd opened
+slot_by slots ps place (Opens cpu quota drives) i (Playing slot) begins opened h there =
+    record { slot = slot; plays = there; keys = h.keys; stands = h.slot ∙ ap (λ (b : StartInput). Some (opening_of b)) begins }
+slot_by slots ps place (Opens cpu quota drives) i (Waiting fork) begins opened h there = absurd h
+slot_by slots ps place (Forks parent at) i p begins opened h there = absurd opened
 
 slot_there : (slots : List SlotState) (is : List SettledSession) (ps : List Player) (place : ℕ) (i : SettledSession) → HavePlayers slots is ps → slice_get is place ≡ Some i → IsOpened i.start
     → HasSlotAt slots ps place i
@@ -65,27 +67,27 @@ slot_there slots [] ps place i all there opened = absurd (cc)
 slot_there slots (j ∷ is) [] place i all there opened = absurd all
 slot_there slots (j ∷ is) (p ∷ ps) zero i all there opened =
     let same : j ≡ i = cc in
-    slot_by slots (p ∷ ps) zero i.start i p opened (subst (λ (x : SettledSession). HasPlayer slots x p) same all.0) refl
+    slot_by slots (p ∷ ps) zero i.start i p refl opened (subst (λ (x : SettledSession). HasPlayer slots x p) same all.0) refl
 slot_there slots (j ∷ is) (p ∷ ps) (suc place) i all there opened =
     let more = slot_there slots is ps place i all.1 there opened in
-    record { slot = more.slot; plays = more.plays; keys = more.keys }
+    record { slot = more.slot; plays = more.plays; keys = more.keys; stands = more.stands }
 
 -- ---- players can be played
 
-slot_ready : (slots : List SlotState) (cpu : Cpu) (quota : ℕ) (drives : List Disk) (i : SettledSession) (p : ScriptedSlot) → HasSlot slots (opened_machine cpu quota drives) i p → IsInOrder 0 i.keys
-    → length i.keys ≤ 4096 → IsReady slots p
-slot_ready slots cpu quota drives i p h order few = record {
+slot_ready : (system : Disk) (slots : List SlotState) (cpu : Cpu) (quota : ℕ) (drives : List Disk) (i : SettledSession) (p : ScriptedSlot) → HasSlot slots (opened_machine cpu quota drives) i p
+    → IsInOrder 0 i.keys → HaveRoom system (opened_machine cpu quota drives) i.keys → IsReady system slots p
+slot_ready system slots cpu quota drives i p h order room = record {
   unplayed = h.unplayed;
   order = subst (λ (ks : List Key). IsInOrder 0 ks) (sym h.keys) order;
-  few = subst (λ (ks : List Key). length ks ≤ 4096) (sym h.keys) few;
+  room = subst (λ (ks : List Key). HaveRoom system (opened_machine cpu quota drives) ks) (sym h.keys) room;
   start = opened_machine cpu quota drives;
   opened = h.slot;
   fresh = record { keys = refl; screen = refl; printer = refl };
 }
 
-fork_ready : (slots : List SlotState) (is : List SettledSession) (ps : List Player) (i : SettledSession) (parent at : ℕ) (fork : Fork) → HavePlayers slots is ps → IsForkFor i parent at fork
-    → IsForkPressable is i parent at → IsForkReady ps fork
-fork_ready slots is ps i parent at fork all h can =
+fork_ready : (system : Disk) (slots : List SlotState) (is : List SettledSession) (ps : List Player) (i : SettledSession) (parent at : ℕ) (fork : Fork) → HavePlayers slots is ps → IsForkFor i parent at fork
+    → IsForkPressable system is i parent at → IsForkReady system slots ps fork
+fork_ready system slots is ps i parent at fork all h can =
     let other = slot_there slots is ps parent can.other all can.there can.opened in
     record {
       parent = other.slot;
@@ -93,26 +95,28 @@ fork_ready slots is ps i parent at fork all h can =
       own = can.own;
       keys = h.keys ∙ can.keys ∙ ap (λ (n : ℕ). keys_before n can.other.keys ++ can.own) (sym h.at) ∙ ap (λ (ks : List Key). keys_before fork.at ks ++ can.own) (sym other.keys);
       order = subst (λ (n : ℕ). IsInOrder n can.own) (sym h.at) can.order;
-      few = subst (λ (ks : List Key). length ks ≤ 4096) (sym h.keys) can.few;
+      start = opening_of can.other.start;
+      opened = other.stands;
+      room = subst (λ (ks : List Key). HaveRoom system (opening_of can.other.start) ks) (sym h.keys) can.room;
       within = let a = h.at in let s = h.steps in let w = can.within in omega (arith, a, s, w);
     }
 
-ready_by : (slots : List SlotState) (is : List SettledSession) (ps : List Player) (b : StartInput) (i : SettledSession) (p : Player) → HavePlayers slots is ps → HasPlayerBy slots b i p
-    → IsPressableBy is b i → IsPlayerReady slots ps p
-ready_by slots is ps (Opens cpu quota drives) i (Playing slot) all h can = slot_ready slots cpu quota drives i slot h can.0 can.1
-ready_by slots is ps (Opens cpu quota drives) i (Waiting fork) all h can = absurd h
-ready_by slots is ps (Forks parent at) i (Playing slot) all h can = absurd h
-ready_by slots is ps (Forks parent at) i (Waiting fork) all h can = fork_ready slots is ps i parent at fork all h can
+ready_by : (system : Disk) (slots : List SlotState) (is : List SettledSession) (ps : List Player) (b : StartInput) (i : SettledSession) (p : Player) → HavePlayers slots is ps → HasPlayerBy slots b i p
+    → IsPressableBy system is b i → IsPlayerReady system slots ps p
+ready_by system slots is ps (Opens cpu quota drives) i (Playing slot) all h can = slot_ready system slots cpu quota drives i slot h can.0 can.1
+ready_by system slots is ps (Opens cpu quota drives) i (Waiting fork) all h can = absurd h
+ready_by system slots is ps (Forks parent at) i (Playing slot) all h can = absurd h
+ready_by system slots is ps (Forks parent at) i (Waiting fork) all h can = fork_ready system slots is ps i parent at fork all h can
 
-pub all_ready : (slots : List SlotState) (is : List SettledSession) (ps : List Player) → HavePlayers slots is ps → ArePressable is → AllReady slots ps
-all_ready slots is ps all can = λ place. by_player place (slice_get ps place) refl
+pub all_ready : (system : Disk) (slots : List SlotState) (is : List SettledSession) (ps : List Player) → HavePlayers slots is ps → ArePressable system is → AllReady system slots ps
+all_ready system slots is ps all can = λ place. by_player place (slice_get ps place) refl
   where
-    by_player : (place : ℕ) (o : Option Player) → slice_get ps place ≡ o → IfSome o (IsPlayerReady slots ps)
+    by_player : (place : ℕ) (o : Option Player) → slice_get ps place ≡ o → IfSome o (IsPlayerReady system slots ps)
     by_player place None there = tt
     by_player place (Some p) there =
         let s = session_at slots is ps place p all there in
-        let pressable = subst (λ (o : Option SettledSession). IfSome o (λ i. IsPressableBy is i.start i)) s.there (can place) in
-        ready_by slots is ps s.input.start s.input p all s.has pressable
+        let pressable = subst (λ (o : Option SettledSession). IfSome o (λ i. IsPressableBy system is i.start i)) s.there (can place) in
+        ready_by system slots is ps s.input.start s.input p all s.has pressable
 
 -- ---- room for forks
 

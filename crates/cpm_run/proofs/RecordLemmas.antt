@@ -1,16 +1,16 @@
 -- The lines of keys, and the records of all sessions.
 use Rattle.std.proofs.Common.{◌≡◌, ◌∙◌, ◌<◌, ◌≤◌, ◌+◌, ℕ, Bool, List, [], ◌∷◌, ◌++◌, Option, Some, length, map, refl, sym, subst, ap, slice_get, get_or, drop, append-nil, append_assoc}
-use Rattle.std.specs.Prelude.{IfSome, option_map}
+use Rattle.std.specs.Prelude.{option_map}
+use Rattle.std.specs.List.{All}
 use Rattle.std.proofs.lemmas.List.{at_drop_all, drop_more}
 use Rattle.std.proofs.lemmas.List.Elements.{All-drop}
-use Rattle.std.proofs.lemmas.Option.{slice_get-get_or, slice_get-map}
+use Rattle.std.proofs.lemmas.Option.{get_or_from_slice_get, slice_get-get_or, slice_get-map, slice_get_within}
 use Rattle.cpm_script.specs.Recording.{key_line, recorded}
 use Rattle.cpm_script.specs.declared.script.Key.{Key}
 use Rattle.cpm_store.specs.Writes.{NamedBytes}
-use Rattle.cpm_run.specs.Playing.{IsPressableBy}
-use Rattle.cpm_run.specs.Run.{GivesItsKeysAgain, record_of, record_outputs}
+use Rattle.cpm_run.specs.Run.{record_of, record_outputs}
 use Rattle.cpm_run.specs.Settled.{SettledSession, settled_view}
-use Rattle.cpm_run.specs.Settling.{AreBelow80h, AreSound}
+use Rattle.cpm_run.specs.Settling.{AreBelow80h}
 use Rattle.cpm_run.specs.declared.options.RecordFile.{RecordFile}
 use Rattle.cpm_run.specs.declared.settled.SettledInput.{SettledInput}
 
@@ -57,11 +57,13 @@ records-more rs ss i d e own outputs more there too at own_is is all =
     ∙ ap (λ (xs : List RecordFile). outputs ++ record_outputs xs (map settled_view (drop i ss))) (sym (drop_more rs i d there)) ∙ all
 
 -- own keys are below 80h
-pub own-below : (ss : List SettledInput) (i : ℕ) (e : SettledInput) (own : List Key) → AreSound (map settled_view ss) → i < length ss → e ≡ get_or ss i e → own ≡ drop e.before e.keys.items → AreBelow80h own
-own-below ss i e own sound within at is =
+pub own-below : (ss : List SettledInput) (i : ℕ) (e : SettledInput) (own : List Key) → All (λ s. AreBelow80h s.keys) (map settled_view ss) → i < length ss → e ≡ get_or ss i e → own ≡ drop e.before e.keys.items
+    → AreBelow80h own
+own-below ss i e own below within at is =
     let there : slice_get (map settled_view ss) i ≡ Some (settled_view (get_or ss i e)) = slice_get-map settled_view ss i ∙ ap (option_map settled_view) (slice_get-get_or ss i e within) in
-    let both = subst (λ (o : Option SettledSession). IfSome o (λ s. IsPressableBy (map settled_view ss) s.start s × AreBelow80h s.keys × GivesItsKeysAgain s)) there (sound i) in
-    subst AreBelow80h (sym (is ∙ ap (λ (x : SettledInput). drop x.before x.keys.items) at)) (All-drop (λ k. k.byte < 128) (get_or ss i e).before (get_or ss i e).keys.items both.1)
+    let here = get_or_from_slice_get (map settled_view ss) i (settled_view (get_or ss i e)) (settled_view e) there in
+    let all = subst (λ (s : SettledSession). AreBelow80h s.keys) here (below i (settled_view e) (slice_get_within (map settled_view ss) i (settled_view (get_or ss i e)) there)) in
+    subst AreBelow80h (sym (is ∙ ap (λ (x : SettledInput). drop x.before x.keys.items) at)) (All-drop (λ k. k.byte < 128) (get_or ss i e).before (get_or ss i e).keys.items all)
 
 -- ---- where sessions stopped idle
 

@@ -51,10 +51,10 @@ settled_sessions system idle typed sessions before (i ∷ is) [] h = absurd h
 settled_sessions system idle typed sessions before (i ∷ is) (s ∷ ss) h =
     ap (λ (x : SessionConfig). x ∷ map (λ s. s.session) ss) h.0.session ∙ ap (λ (xs : List SessionConfig). i.session ∷ xs) (settled_sessions system idle typed sessions (before ++ s ∷ []) is ss h.1)
 
-pub sound_pressable : (ss : List SettledSession) → AreSound ss → ArePressable ss
-sound_pressable ss sound = λ place. by_session (slice_get ss place) (sound place)
+pub sound_pressable : (system : Disk) (ss : List SettledSession) → AreSound system ss → ArePressable system ss
+sound_pressable system ss sound = λ place. by_session (slice_get ss place) (sound place)
   where
-    by_session : (o : Option SettledSession) → IfSome o (λ s. IsPressableBy ss s.start s × AreBelow80h s.keys × GivesItsKeysAgain s) → IfSome o (λ s. IsPressableBy ss s.start s)
+    by_session : (o : Option SettledSession) → IfSome o (λ s. IsPressableBy system ss s.start s × AreBelow80h s.keys × GivesItsKeysAgain s) → IfSome o (λ s. IsPressableBy system ss s.start s)
     by_session None h = tt
     by_session (Some s) h = h.0
 

@@ -67,32 +67,40 @@ ordered_more [] i all one (suc place) j there = absurd (cc)
 ordered_more (k ∷ is) i all one zero j there = all zero j there
 ordered_more (k ∷ is) i all one (suc place) j there = ordered_more is i (λ p x at. all (suc p) x at) one place j there
 
-opened_fit : (files : Option StoreFiles) (starts : List StartInput) (cpu : Cpu) (quota : ℕ) (names : List (String Global)) (i : SessionInput) → IsOpenedInput files cpu quota names i → IsFitInput None starts i
+-- it can be settled, and what it says is in order
+abbrev IsFitInOrder : List StartInput → SessionInput → Type 0
+IsFitInOrder starts i = IsFitInput None starts i × AreInOrder i.said
+
+opened_fit : (files : Option StoreFiles) (starts : List StartInput) (cpu : Cpu) (quota : ℕ) (names : List (String Global)) (i : SessionInput) → IsOpenedInput files cpu quota names i → IsFitInOrder starts i
 opened_fit files starts cpu quota names i h =
     let order = opened_order files i.session.keys i.said h.said in
-    record {
-      order = order;
+    let fit : IsFitInput None starts i = record {
+      ascii = order.ascii;
+      presses = order.presses;
       from_fork = subst (λ (b : StartInput). CountsRise (forked_at b) i.said) (sym h.start) order.counts;
       within = subst (λ (b : StartInput). forked_at b ≤ i.session.steps) (sym h.start) (omega arith);
       parent = subst (HasParent starts) (sym h.start) tt;
-    }
+    } in
+    (fit, order)
 
 fork_fit : (files : Option StoreFiles) (before : List SessionInput) (name : StoreName) (at : ℕ) (i : SessionInput) → AreOrdered before → IsForkedInput files before name at i → at ≤ i.session.steps
-    → IsFitInput None (starts_read before) i
+    → IsFitInOrder (starts_read before) i
 fork_fit files before name at i ordered h within =
     let parent = ordered h.place h.parent h.found.there in
     let few = few-known at h.parent.said parent.few in
     let said = forked_order files i.session.keys at (known_before at h.parent.said) i.said few h.said in
     let there : slice_get (starts_read before) h.place ≡ Some h.parent.start = slice_get-map (λ (x : SessionInput). x.start) before h.place ∙ ap (option_map (λ (x : SessionInput). x.start)) h.found.there in
-    record {
-      order = said.0;
+    let fit : IsFitInput None (starts_read before) i = record {
+      ascii = said.0.ascii;
+      presses = said.0.presses;
       from_fork = subst (λ (b : StartInput). CountsRise (forked_at b) i.said) (sym h.start) said.1;
       within = subst (λ (b : StartInput). forked_at b ≤ i.session.steps) (sym h.start) within;
       parent = subst (HasParent (starts_read before)) (sym h.start) (h.parent.start, there, h.found.opened);
-    }
+    } in
+    (fit, said.0)
 
 input_fit : (files : Option StoreFiles) (before : List SessionInput) (o : Origin) (i : SessionInput) → AreOrdered before → HasInputOf files before o i
-    → origin_fault (map (λ x. session_view x.session) before) (pos i.session.steps) (origin_view o) ≡ None → IsFitInput None (starts_read before) i
+    → origin_fault (map (λ x. session_view x.session) before) (pos i.session.steps) (origin_view o) ≡ None → IsFitInOrder (starts_read before) i
 input_fit files before (origin.Opened cpu quota drives) i ordered h none = opened_fit files (starts_read before) cpu quota drives.items i h
 input_fit files before (origin.Forked parent at) i ordered h none =
     fork_fit files before (string_bytes parent) at i ordered h (at_within (parent_in (map (λ x. session_view x.session) before) (string_bytes parent)) i.session.steps at none)
@@ -109,7 +117,7 @@ fit_from files n before (i ∷ is) ordered h none =
     let fit = input_fit files before i.session.origin i ordered h.0 apart.0 in
     let later = ap (λ (seen : List SessionEntries). forks_fault (n + 1) seen (map (λ x. session_view x.session) is)) (map-append (λ (x : SessionInput). session_view x.session) before (i ∷ [])) ∙ apart.1 in
     let starts : starts_read (before ++ i ∷ []) ≡ starts_read before ++ i.start ∷ [] = map-append (λ (x : SessionInput). x.start) before (i ∷ []) in
-    (fit, subst (λ (bs : List StartInput). AreFitInputs None bs is) starts (fit_from files (n + 1) (before ++ i ∷ []) is (ordered_more before i ordered fit.order) h.1 later))
+    (fit.0, subst (λ (bs : List StartInput). AreFitInputs None bs is) starts (fit_from files (n + 1) (before ++ i ∷ []) is (ordered_more before i ordered fit.1) h.1 later))
 
 pub inputs_fit : (files : Option StoreFiles) (sessions : List SessionConfig) (is : List SessionInput) → map (λ i. i.session) is ≡ sessions → AllInputs files [] is
     → forks_fault 1 [] (map session_view sessions) ≡ None → AreFitInputs None [] is

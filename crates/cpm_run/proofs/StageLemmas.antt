@@ -15,13 +15,14 @@ use Rattle.cpm_machine.specs.Opening.{drives_fault, fault_else, opening_fault}
 use Rattle.cpm_machine.specs.declared.opening.OpenError.{OpenError}
 use Rattle.cpm_machine.specs.declared.opening.OpenError.TheVariants.{BadQuota}
 use Rattle.cpm_machine.specs.declared.opening.Opening.{Opening}
-use Rattle.cpm_script.specs.Cues.{Counted, cue_text, cued_key_count}
-use Rattle.cpm_script.specs.Laws.{AreInOrder, CountsRise, KeysAreAscii, PressesFollow}
+use Rattle.cpm_script.specs.Cues.{Counted, cue_text}
+use Rattle.cpm_script.specs.Laws.{CountsRise, KeysAreAscii, PressesFollow}
 use Rattle.cpm_script.specs.Recording.{AreTyped}
 use Rattle.cpm_script.specs.declared.cue.Cue.{Cue}
 use Rattle.cpm_script.specs.declared.cue.Cue.TheVariants as cue
 use Rattle.cpm_script.specs.declared.script.Key.{Key}
 use Rattle.cpm_slots.specs.Host.{Host, new_host, room_fault, with_opened}
+use Rattle.cpm_play.specs.Typist.{TypingState}
 use Rattle.cpm_play.specs.declared.live.LivePlay.{LivePlay}
 use Rattle.cpm_run.specs.Playing.{IsSessionsRefusal}
 use Rattle.cpm_run.specs.Refusing.{IsSettleRefusal}
@@ -114,11 +115,12 @@ pub fit_starts : (typed : Option TypedSession) (starts : List StartInput) (is : 
 fit_starts typed starts [] fit = tt
 fit_starts typed starts (i ∷ is) fit = (fit.0.parent, fit_starts typed (starts ++ i.start ∷ []) is fit.1)
 
--- what was typed is in order
-typed_few : (keys : List Key) → cued_key_count (map Counted keys) ≡ length keys
-typed_few [] = refl
-typed_few (k ∷ ks) = ap suc (typed_few ks)
+-- what each of them says is below 80h
+pub ascii_inputs : (starts : List StartInput) (is : List SessionInput) → AreFitInputs None starts is → All (λ i. KeysAreAscii i.said) is
+ascii_inputs starts [] fit = All-nil (λ (i : SessionInput). KeysAreAscii i.said)
+ascii_inputs starts (i ∷ is) fit = All-cons (λ (x : SessionInput). KeysAreAscii x.said) i is fit.0.ascii (ascii_inputs (starts ++ i.start ∷ []) is fit.1)
 
+-- what was typed is in order
 typed_counts : (n : ℕ) (keys : List Key) → AreTyped n keys → CountsRise n (map Counted keys)
 typed_counts n [] typed = tt
 typed_counts n (k ∷ ks) typed = (typed.0, typed_counts k.count ks typed.3)
@@ -131,15 +133,11 @@ typed_presses : (keys : List Key) → PressesFollow false (map Counted keys)
 typed_presses [] = tt
 typed_presses (k ∷ ks) = typed_presses ks
 
-typed_order : (keys : List Key) → AreTyped 0 keys → length keys ≤ 4096 → AreInOrder (map Counted keys)
-typed_order keys typed few =
-    record { few = let n = typed_few keys in omega (arith, n, few); counts = typed_counts 0 keys typed; ascii = typed_ascii 0 keys typed; presses = typed_presses keys }
-
 at_zero : (b : StartInput) → IsOpened b → forked_at b ≡ 0
 at_zero (Opens cpu quota drives) opened = refl
 at_zero (Forks parent at) opened = absurd opened
 
-fit_one : (t : TypedSession) (starts : List StartInput) (i : SessionInput) → AreInOrder (map Counted t.keys) → (length starts ≡ t.place → IsOpened i.start) → IsFitInput None starts i
+fit_one : (t : TypedSession) (starts : List StartInput) (i : SessionInput) → AreTyped 0 t.keys → (length starts ≡ t.place → IsOpened i.start) → IsFitInput None starts i
     → IsFitInput (Some t) starts i
 fit_one t starts i keys opened fit = by_test (length starts == t.place) refl
   where
@@ -148,20 +146,22 @@ fit_one t starts i keys opened fit = by_test (length starts == t.place) refl
         let same : length starts ≡ t.place = grind (arith, nat_tests) in
         let zero = at_zero i.start (opened same) in
         record {
-          order = subst (λ (b : Bool). AreInOrder (if b then map Counted t.keys else i.said)) (sym e) keys;
+          ascii = subst (λ (b : Bool). KeysAreAscii (if b then map Counted t.keys else i.said)) (sym e) (typed_ascii 0 t.keys keys);
+          presses = subst (λ (b : Bool). PressesFollow false (if b then map Counted t.keys else i.said)) (sym e) (typed_presses t.keys);
           from_fork = subst (λ (b : Bool). CountsRise (forked_at i.start) (if b then map Counted t.keys else i.said)) (sym e)
-              (subst (λ (n : ℕ). CountsRise n (map Counted t.keys)) (sym zero) keys.counts);
+              (subst (λ (n : ℕ). CountsRise n (map Counted t.keys)) (sym zero) (typed_counts 0 t.keys keys));
           within = subst (λ (b : Bool). forked_at i.start ≤ (if b then t.steps else i.session.steps)) (sym e) (omega (arith, zero));
           parent = fit.parent;
         }
     by_test false e = record {
-      order = subst (λ (b : Bool). AreInOrder (if b then map Counted t.keys else i.said)) (sym e) fit.order;
+      ascii = subst (λ (b : Bool). KeysAreAscii (if b then map Counted t.keys else i.said)) (sym e) fit.ascii;
+      presses = subst (λ (b : Bool). PressesFollow false (if b then map Counted t.keys else i.said)) (sym e) fit.presses;
       from_fork = subst (λ (b : Bool). CountsRise (forked_at i.start) (if b then map Counted t.keys else i.said)) (sym e) fit.from_fork;
       within = subst (λ (b : Bool). forked_at i.start ≤ (if b then t.steps else i.session.steps)) (sym e) fit.within;
       parent = fit.parent;
     }
 
-fit_from : (t : TypedSession) (starts : List StartInput) (is : List SessionInput) → AreInOrder (map Counted t.keys)
+fit_from : (t : TypedSession) (starts : List StartInput) (is : List SessionInput) → AreTyped 0 t.keys
     → ((place : ℕ) (i : SessionInput) → slice_get is place ≡ Some i → length starts + place ≡ t.place → IsOpened i.start) → AreFitInputs None starts is → AreFitInputs (Some t) starts is
 fit_from t starts [] keys opened fit = tt
 fit_from t starts (i ∷ is) keys opened fit = (
@@ -172,8 +172,7 @@ fit_from t starts (i ∷ is) keys opened fit = (
 fit_typed : (system : Disk) (sessions : List SessionConfig) (name : List ℕ) (inputs : List SessionInput) (io : Streams) (t : TypedSession) → IsTypedAt system sessions name inputs io t
     → AreFitInputs None [] inputs → AreFitInputs (Some t) [] inputs
 fit_typed system sessions name inputs io t at fit =
-    let given = at.typed.given in
-    fit_from t [] inputs (typed_order t.keys given.typed given.few)
+    fit_from t [] inputs at.typed.given.typed
     (λ place i there e.
     let here : place ≡ t.place = omega (arith, e) in
     let found : Some i ≡ Some at.input = sym there ∙ ap (slice_get inputs) here ∙ at.there in
@@ -220,5 +219,5 @@ nothing_heard config options io system inputs none untouched =
     subst (λ (o : Option (Bor (List ℕ))). IsTypedIfAny system config.sessions.items (option_map (λ n. n.now) o) inputs io None) (sym none) (refl, untouched)
 
 -- what wasn't used
-pub none_touched : (unread before unrecorded : Option (List ℕ)) → AreUntouched (streams unread unread before before unrecorded unrecorded)
+pub none_touched : (unread : TypingState) (before unrecorded : Option (List ℕ)) → AreUntouched (streams unread unread before before unrecorded unrecorded)
 none_touched unread before unrecorded = record { unread = refl; unwritten = refl; unrecorded = refl }

@@ -11,6 +11,7 @@ use Rattle.cpm_batch.specs.declared.input.Input.{Input}
 use Rattle.cpm_batch.specs.declared.input.Start.{Start}
 use Rattle.cpm_config.specs.declared.config.Config.{Config}
 use Rattle.cpm_config.specs.declared.config.SessionConfig.{SessionConfig}
+use Rattle.cpm_geom.specs.Disk.{Disk}
 use Rattle.cpm_machine.specs.declared.opening.OpenError.{OpenError}
 use Rattle.cpm_machine.specs.declared.opening.OpenError.TheVariants.{NoFrames}
 use Rattle.cpm_play.specs.Players.{HasRoomForForks}
@@ -160,8 +161,8 @@ opened_tried : (b : StartInput) → IsOpened b → IsOpened (trial_start b)
 opened_tried (Opens cpu quota drives) opened = tt
 opened_tried (Forks parent at) opened = absurd opened
 
-fork_pressable : (is : List SessionInput) (i : SessionInput) (parent : ℕ) (b : StartInput) → slice_get (starts_read is) parent ≡ Some b → IsOpened b → IsForkPressable (map trial_of is) (trial_of i) parent 0
-fork_pressable is i parent b there opened =
+fork_pressable : (system : Disk) (is : List SessionInput) (i : SessionInput) (parent : ℕ) (b : StartInput) → slice_get (starts_read is) parent ≡ Some b → IsOpened b → IsForkPressable system (map trial_of is) (trial_of i) parent 0
+fork_pressable system is i parent b there opened =
     let tried = tried_there is parent b there in
     record {
       other = tried.session;
@@ -170,26 +171,26 @@ fork_pressable is i parent b there opened =
       own = [];
       keys = sym (ap (λ (ks : List Key). keys_before 0 ks ++ []) tried.keys);
       order = tt;
-      few = omega arith;
+      room = tt;
       within = omega arith;
     }
 
-one_pressable : (is : List SessionInput) (b : StartInput) (i : SessionInput) → HasParent (starts_read is) b → IsPressableBy (map trial_of is) (trial_start b) (trial_of i)
-one_pressable is (Opens cpu quota drives) i h = (tt, omega arith)
-one_pressable is (Forks parent at) i h = fork_pressable is i parent h.0 h.1 h.2
+one_pressable : (system : Disk) (is : List SessionInput) (b : StartInput) (i : SessionInput) → HasParent (starts_read is) b → IsPressableBy system (map trial_of is) (trial_start b) (trial_of i)
+one_pressable system is (Opens cpu quota drives) i h = (tt, tt)
+one_pressable system is (Forks parent at) i h = fork_pressable system is i parent h.0 h.1 h.2
 
-pressable_at : (is : List SessionInput) (place : ℕ) (o : Option SessionInput) → slice_get is place ≡ o → IfSome (slice_get (starts_read is) place) (HasParent (starts_read is))
-    → IfSome (option_map trial_of o) (λ i. IsPressableBy (map trial_of is) i.start i)
-pressable_at is place None there h = tt
-pressable_at is place (Some i) there h =
+pressable_at : (system : Disk) (is : List SessionInput) (place : ℕ) (o : Option SessionInput) → slice_get is place ≡ o → IfSome (slice_get (starts_read is) place) (HasParent (starts_read is))
+    → IfSome (option_map trial_of o) (λ i. IsPressableBy system (map trial_of is) i.start i)
+pressable_at system is place None there h = tt
+pressable_at system is place (Some i) there h =
     let start : slice_get (starts_read is) place ≡ Some i.start = slice_get-map (λ (x : SessionInput). x.start) is place ∙ ap (option_map (λ (x : SessionInput). x.start)) there in
-    one_pressable is i.start i (subst (λ (o : Option StartInput). IfSome o (HasParent (starts_read is))) start h)
+    one_pressable system is i.start i (subst (λ (o : Option StartInput). IfSome o (HasParent (starts_read is))) start h)
 
-pub tried_pressable : (is : List SessionInput) (trial : List SettledSession) → trial ≡ map trial_of is → AreFitStarts [] (starts_read is) → ArePressable trial
-tried_pressable is trial same fit =
-    subst ArePressable (sym same)
-    (λ place. subst (λ (o : Option SettledSession). IfSome o (λ i. IsPressableBy (map trial_of is) i.start i)) (sym (slice_get-map trial_of is place))
-    (pressable_at is place (slice_get is place) refl (parents [] (starts_read is) fit place)))
+pub tried_pressable : (system : Disk) (is : List SessionInput) (trial : List SettledSession) → trial ≡ map trial_of is → AreFitStarts [] (starts_read is) → ArePressable system trial
+tried_pressable system is trial same fit =
+    subst (ArePressable system) (sym same)
+    (λ place. subst (λ (o : Option SettledSession). IfSome o (λ i. IsPressableBy system (map trial_of is) i.start i)) (sym (slice_get-map trial_of is place))
+    (pressable_at system is place (slice_get is place) refl (parents [] (starts_read is) fit place)))
 
 sessions_from : (is : List SessionInput) → map (λ s. s.session) (map trial_of is) ≡ map (λ i. i.session) is
 sessions_from [] = refl

@@ -14,14 +14,17 @@ use Rattle.cpm_config.specs.declared.config.Config.{Config}
 use Rattle.cpm_config.specs.declared.config.SessionConfig.{SessionConfig}
 use Rattle.cpm_geom.specs.Disk.{Disk}
 use Rattle.cpm_machine.specs.MachineState.{MachineState}
-use Rattle.cpm_play.specs.Live.{IsCutShort}
+use Rattle.cpm_play.specs.Cued.{AreAscii}
+use Rattle.cpm_play.specs.Sitting.{IsPlayCut, sitting}
 use Rattle.cpm_play.specs.declared.live.LiveError.{LiveError}
 use Rattle.cpm_play.specs.declared.live.LiveError.TheVariants as live
 use Rattle.cpm_play.specs.declared.live.LivePlay.{LivePlay}
-use Rattle.cpm_script.specs.Script.{most_keys}
+use Rattle.cpm_script.specs.Cues.{CueText, all_said, cue_text}
+use Rattle.cpm_script.specs.Laws.{KeysAreAscii}
+use Rattle.cpm_script.specs.declared.cue.Cue.{Cue}
 use Rattle.cpm_slots.specs.Host.{new_host}
 use Rattle.cpm_run.specs.Refusals.{run_error_of_live}
-use Rattle.cpm_run.specs.Refusing.{IsForkOrigin, IsForkedSession, IsSettleRefusal, IsTypingCut, IsTypingRefusal}
+use Rattle.cpm_run.specs.Refusing.{IsForkOrigin, IsForkedSession, IsSessionCut, IsSettleRefusal, IsTypingCut, IsTypingRefusal}
 use Rattle.cpm_run.specs.Run.{AllAccepted, starts_read}
 use Rattle.cpm_run.specs.Settled.{IsTypedBy, IsTypedIfAny, Streams, most_steps, opening_of, typed_view}
 use Rattle.cpm_run.specs.Settling.{BeginsAsConfigured, IsOpenable, IsTypedIn, IsTypedPlace, IsTypedPlaceOf}
@@ -78,17 +81,22 @@ module _ (config : Config) (options : RunOptions) (name : Bor (List ℕ)) (place
 
 -- ---- cut short
 
-cut_as : (system : Disk) (start : StartInput) (io : Streams) (now : MachineState) (e : LiveError)
-    → IsCutShort system most_steps most_keys (opening_of start) now io.before io.written io.unrecorded io.record_now io.unread io.left e → IsTypingRefusal system start io (run_error_of_live e)
-cut_as system start io now (live.Unreadable reason) cut = (now, cut)
-cut_as system start io now (live.Unwritable reason) cut = (now, cut)
-cut_as system start io now (live.Unrecorded reason) cut = (now, cut)
-cut_as system start io now live.OutOfMemory cut = inr (now, cut)
+cut_as : (system : Disk) (start : StartInput) (said : List CueText) (io : Streams) (e : LiveError) → IsSessionCut system start said io e → IsTypingRefusal system start said io (run_error_of_live e)
+cut_as system start said io (live.Unreadable reason) cut = cut
+cut_as system start said io (live.Unwritable reason) cut = cut
+cut_as system start said io (live.Unrecorded reason) cut = cut
+cut_as system start said io live.OutOfMemory cut = inr cut
 
-pub typing_cut : (system : Disk) (start : StartInput) (io : Streams) (m now : MachineState) (e : LiveError) → m ≡ opening_of start
-    → IsCutShort system most_steps most_keys m now io.before io.written io.unrecorded io.record_now io.unread io.left e → IsTypingRefusal system start io (run_error_of_live e)
-typing_cut system start io m now e same cut =
-    cut_as system start io now e (subst (λ (x : MachineState). IsCutShort system most_steps most_keys x now io.before io.written io.unrecorded io.record_now io.unread io.left e) same cut)
+pub typing_cut : (system : Disk) (start : StartInput) (said cues : List Cue) (io : Streams) (m now : MachineState) (e : LiveError) → m ≡ opening_of start → cues ≡ said
+    → IsPlayCut (sitting io.unread.is_patient system m most_steps cues) now io.before io.written io.unrecorded io.record_now io.unread io.left e
+    → IsTypingRefusal system start (map cue_text said) io (run_error_of_live e)
+typing_cut system start said cues io m now e same are cut =
+    cut_as system start (map cue_text said) io e (record {
+      cues = cues;
+      says = ap (map cue_text) are;
+      now = now;
+      cut = subst (λ (x : MachineState). IsPlayCut (sitting io.unread.is_patient system x most_steps cues) now io.before io.written io.unrecorded io.record_now io.unread io.left e) same cut;
+    })
 
 -- ---- typing where a session is named
 
@@ -133,6 +141,12 @@ typed_here config options typed name place inputs h asked is sessions begins =
     let same : x.0 ≡ place = cc in
     here_from config name.now place inputs (subst (IsTypedIn config name.now) same x.2) sessions begins
 
+-- its script has keys below 80h, where all have
+pub here_ascii : (config : Config) (name : List ℕ) (place : ℕ) (inputs : List Input) (i : Input) → IsTypedHere config name place inputs → i ≡ get_or inputs place i
+    → All (λ x. KeysAreAscii x.said) (map given inputs) → AreAscii i.cues.items
+here_ascii config name place inputs i here is all =
+    all_there (λ (x : SessionInput). KeysAreAscii x.said) (map given inputs) place (given i) all (given_there inputs place i here.within is)
+
 -- it can be opened where all were accepted
 pub here_openable : (config : Config) (name : List ℕ) (place : ℕ) (inputs : List Input) (i : Input) (system : Disk) → IsTypedHere config name place inputs → i ≡ get_or inputs place i
     → AllAccepted (starts_read (map given inputs)) (new_host system config.frames) (starts_read (map given inputs)) → IsOpenable (start_view i.start)
@@ -144,7 +158,7 @@ here_openable config name place inputs i system here is accepted =
 
 pub heard_at : (system : Disk) (config : Config) (options : RunOptions) (name : Bor (List ℕ)) (place : ℕ) (inputs : List Input) (i : Input) (io : Streams) (heard : LivePlay)
     → options.typed ≡ Some name → IsTypedHere config name.now place inputs → i ≡ get_or inputs place i
-    → IsTypedBy system config.sessions.items name.now (start_view i.start) io heard.keys.items heard.steps
+    → IsTypedBy system config.sessions.items name.now (start_view i.start) (all_said i.cues) io heard.keys.items heard.steps
     → IsTypedIfAny system config.sessions.items (option_map (λ n. n.now) options.typed) (map given inputs) io (typed_view (Some (place, heard)))
 heard_at system config options name place inputs i io heard asked here is typed =
     subst (λ (o : Option (Bor (List ℕ))). IsTypedIfAny system config.sessions.items (option_map (λ n. n.now) o) (map given inputs) io (typed_view (Some (place, heard)))) (sym asked) (
@@ -162,7 +176,7 @@ heard_at system config options name place inputs i io heard asked here is typed 
 module _ (config : Config) (options : RunOptions) (name : Bor (List ℕ)) (place : ℕ) (inputs : List Input) (i : Input) (io : Streams) (system : Disk)
     (accepted : AllAccepted (starts_read (map given inputs)) (new_host system config.frames) (starts_read (map given inputs))) (asked : options.typed ≡ Some name)
     (here : IsTypedHere config name.now place inputs) (is : i ≡ get_or inputs place i) where
-  cut : (e : RunError) → IsTypingRefusal system (start_view i.start) io e → IsTypingCut config options io system (map given inputs) e
+  cut : (e : RunError) → IsTypingRefusal system (start_view i.start) (all_said i.cues) io e → IsTypingCut config options io system (map given inputs) e
   cut e r = record {
     accepted = accepted;
     name = name.now;
@@ -175,7 +189,7 @@ module _ (config : Config) (options : RunOptions) (name : Bor (List ℕ)) (place
     cut = r;
   }
 
-  pub typing_refused : (e : RunError) → IsTypingRefusal system (start_view i.start) io e → IsSettleRefusal config options io system (map given inputs) e
+  pub typing_refused : (e : RunError) → IsTypingRefusal system (start_view i.start) (all_said i.cues) io e → IsSettleRefusal config options io system (map given inputs) e
   typing_refused (refusal.InputUnreadable reason) r = cut (refusal.InputUnreadable reason) r
   typing_refused (refusal.OutputUnwritable reason) r = cut (refusal.OutputUnwritable reason) r
   typing_refused (refusal.RecordUnwritable reason) r = cut (refusal.RecordUnwritable reason) r

@@ -1,17 +1,21 @@
 use Rattle.std.proofs.Common.{◌≡◌, sym, subst, arith, List, length, map}
+use Rattle.cpm_geom.specs.Disk.{Disk}
 use Rattle.cpm_slots.specs.Host.{new_host}
 use Rattle.cpm_play.specs.Players.{AllDiffer, AllReady}
 use Rattle.cpm_play.specs.declared.player.Player.{Player}
 use Rattle.cpm_run.proofs.FinishLemmas.{all_finished, written_back}
 use Rattle.cpm_run.proofs.PlayLemmas.{all_ready, fork_refused, has_room}
+use Rattle.cpm_run.specs.Playing.{ArePressable}
 use Rattle.cpm_run.specs.Settled.{settled_view, starts_of}
 use Rattle.cpm_run.proofs.play.play_all.Goals as goal
 
 pub play-requires-clause-ready : goal.play-requires-clause-ready
 play-requires-clause-ready g c =
     let slots = c.in_ok-host.host.host.slots in
-    let ready = all_ready slots (map settled_view c.args.inputs.items) c.in_ok-host.players.items c.in_ok-host.ensures.prepared c.requires.keys in
-    subst (λ (ps : List Player). AllReady slots ps) (sym c.as_mut_slice.ensures.value) ready
+    let system = c.in_ok-host.host.host.system in
+    let keys = subst (λ (d : Disk). ArePressable d (map settled_view c.args.inputs.items)) (sym c.in_ok-host.ensures.system) c.requires.keys in
+    let ready = all_ready system slots (map settled_view c.args.inputs.items) c.in_ok-host.players.items c.in_ok-host.ensures.prepared keys in
+    subst (λ (ps : List Player). AllReady system slots ps) (sym c.as_mut_slice.ensures.value) ready
 
 pub finish_all-requires : goal.finish_all-requires
 finish_all-requires g c =

@@ -95,7 +95,7 @@ returns-clause-run g c =
       read = c.in_ok-system.ensures.read;
       faultless = sym c.in_default.ensures;
       played = are_parts config c.args.options _ system inputs settled h c.in_ok-report.ensures.accepted;
-      replays = all_give settled c.in_ok-settled.ensures.sound;
+      replays = all_give system settled c.in_ok-settled.ensures.sound;
       written = subst (λ (qs : List NamedBytes). WhereTold (g.S.Store.files c.args.store.now) new (WritesAll qs)) are written;
       reported = c.in_ok-report.ensures.reports;
     }
@@ -116,7 +116,7 @@ returns-clause-log g c =
       parts = parts;
       faultless = sym c.in_default.ensures;
       played = are_parts config c.args.options _ system inputs settled h c.in_ok-report.ensures.accepted;
-      replays = all_give settled c.in_ok-settled.ensures.sound;
+      replays = all_give system settled c.in_ok-settled.ensures.sound;
       calls = ran_then does (AreRead config system inputs) (AreWrites (outputs_by c.args.options parts)) c.args.store.now between end c.in_ok-system.ensures.log
           (subst (λ (qs : List NamedBytes). LogLeadsBy does (AreWrites qs) between end) are c.in_ok-write_files.ensures.log);
       reported = c.in_ok-report.ensures.reports;

@@ -1,6 +1,6 @@
 use Rattle.std.proofs.lemmas.Result.{err_from_is_err_and}
 use Rattle.cpm_run.specs.Settled.{streams}
-use Rattle.cpm_run.proofs.TypedLemmas.{heard_at, here_openable, typed_here, typing_refused}
+use Rattle.cpm_run.proofs.TypedLemmas.{heard_at, here_ascii, here_openable, typed_here, typing_refused}
 use Rattle.cpm_run.proofs.stages.type_if_any.Goals as goal
 
 pub type_at-requires-clause-opened : goal.type_at-requires-clause-opened
@@ -16,9 +16,15 @@ type_at-requires-clause-openable g c =
     here_openable c.args.config.now c.in-Some-Some.name.now c.in-Some-Some.place c.args.inputs.now c.index-inputs-place.result c.args.system.now here c.index-inputs-place.is
     c.requires.accepted
 
+pub type_at-requires-clause-ascii : goal.type_at-requires-clause-ascii
+type_at-requires-clause-ascii g c =
+    let here = typed_here c.args.config.now c.args.options c.args.typed c.in-Some-Some.name c.in-Some-Some.place c.args.inputs.now c.requires.place c.in-Some-Some.is-0 c.in-Some-Some.is-1
+    c.requires.sessions c.requires.starts in
+    here_ascii c.args.config.now c.in-Some-Some.name.now c.in-Some-Some.place c.args.inputs.now c.index-inputs-place.result here c.index-inputs-place.is c.requires.ascii
+
 pub returns-in_err-heard-clause-refusal : goal.returns-in_err-heard-clause-refusal
 returns-in_err-heard-clause-refusal g c =
-    let io = streams (g.I.Read.remaining c.args.input.now) (g.I.Read.remaining c.type_at.new.input) (g.W.Write.contents c.args.out.now) (g.W.Write.contents c.type_at.new.out)
+    let io = streams (g.P.Typist.typing c.args.typist.now) (g.P.Typist.typing c.type_at.new.typist) (g.W.Write.contents c.args.out.now) (g.W.Write.contents c.type_at.new.out)
     (g.R.Write.contents c.args.record.now) (g.R.Write.contents c.type_at.new.record) in
     let here = typed_here c.args.config.now c.args.options c.args.typed c.in-Some-Some.name c.in-Some-Some.place c.args.inputs.now c.requires.place c.in-Some-Some.is-0 c.in-Some-Some.is-1
     c.requires.sessions c.requires.starts in
@@ -28,7 +34,7 @@ returns-in_err-heard-clause-refusal g c =
 
 pub returns-clause-typed : goal.returns-clause-typed
 returns-clause-typed g c =
-    let io = streams (g.I.Read.remaining c.args.input.now) (g.I.Read.remaining c.type_at.new.input) (g.W.Write.contents c.args.out.now) (g.W.Write.contents c.type_at.new.out)
+    let io = streams (g.P.Typist.typing c.args.typist.now) (g.P.Typist.typing c.type_at.new.typist) (g.W.Write.contents c.args.out.now) (g.W.Write.contents c.type_at.new.out)
     (g.R.Write.contents c.args.record.now) (g.R.Write.contents c.type_at.new.record) in
     let here = typed_here c.args.config.now c.args.options c.args.typed c.in-Some-Some.name c.in-Some-Some.place c.args.inputs.now c.requires.place c.in-Some-Some.is-0 c.in-Some-Some.is-1
     c.requires.sessions c.requires.starts in

@@ -12,7 +12,7 @@ use Rattle.cpm_run.proofs.trial.judge_openings.Goals as goal
 pub play_all-requires-clause-keys : goal.play_all-requires-clause-keys
 play_all-requires-clause-keys c =
     let same = c.in_ok-trial.ensures in
-    tried_pressable (map given c.args.inputs.now) (map settled_view c.in_ok-trial.trial.items) same c.requires.fit
+    tried_pressable c.in_ok-copy.field-0 (map given c.args.inputs.now) (map settled_view c.in_ok-trial.trial.items) same c.requires.fit
 
 pub play_all-requires-clause-sessions : goal.play_all-requires-clause-sessions
 play_all-requires-clause-sessions c =
