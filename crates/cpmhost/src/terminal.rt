@@ -193,12 +193,12 @@ impl<'a, R: LockableFiles + StandardInput> TerminalTypist<'a, R> {
         }
     }
 
-    /// The next key, for which it is waited a little where none came.
-    fn await_key(&mut self, now: u64) -> Option<u8>
+    /// The next key. Where one is wanted, and none came, it is waited a little.
+    fn next(&mut self, is_wanted: bool, now: u64) -> Option<u8>
         ensures { IfSome result (λ byte. byte < 128) }
     {
         let key = self.typed.next(now);
-        if key.is_some() {
+        if key.is_some() || !is_wanted {
             return key;
         }
         let then = sleep(self.rt, KEY_PAUSE);
@@ -236,14 +236,12 @@ impl<R: LockableFiles + StandardInput> Typist for TerminalTypist<'_, R> {
         if let Some(why) = self.typed.ended(need.is_wanted(), now) {
             return Ok(Heard::End(why));
         }
-        let key = match need {
-            KeyNeed::Pending => return Ok(Heard::Nothing),
-            KeyNeed::Possible => self.typed.next(now),
-            KeyNeed::Wanted => self.await_key(now),
-        };
-        match key {
-            Some(byte) => Ok(Heard::Key(byte)),
-            None => Ok(Heard::Nothing),
+        match need {
+            KeyNeed::Pending => Ok(Heard::Nothing),
+            KeyNeed::Possible | KeyNeed::Wanted => match self.next(need.is_wanted(), now) {
+                Some(byte) => Ok(Heard::Key(byte)),
+                None => Ok(Heard::Nothing),
+            },
         }
     }
 }
