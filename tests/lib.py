@@ -212,7 +212,7 @@ class Terminal:
 
     SIGNALS = "HUP", "INT", "QUIT", "USR1", "USR2", "PIPE", "ALRM", "TERM"
 
-    def __init__(self, *words, program=CPMHOST):
+    def __init__(self, *words, program=CPMHOST, **how):
         self.program = program
         self.master, slave = pty.openpty()
         self.prepare(slave)
@@ -224,12 +224,16 @@ class Terminal:
             for name in (*self.SIGNALS, "TSTP"):
                 signal.signal(getattr(signal, f"SIG{name}"), signal.SIG_DFL)
 
-        pipes = {"stdout": subprocess.PIPE, "stderr": subprocess.PIPE}
-        self.process = subprocess.Popen([program, *words], stdin=slave, start_new_session=True, preexec_fn=has_terminal, **pipes)
+        streams = {"stdin": slave, "stdout": subprocess.PIPE, "stderr": subprocess.PIPE, **self.screen(slave)}
+        self.process = subprocess.Popen([program, *words], start_new_session=True, preexec_fn=has_terminal, **streams, **how)
         os.close(slave)
 
     def prepare(self, slave):
         tty.setraw(slave)
+
+    def screen(self, slave):
+        """Which other streams are the terminal too."""
+        return {}
 
     def type(self, keys):
         """Types keys, as fast as they are taken."""
@@ -277,6 +281,42 @@ class Window(Terminal):
         os.close(self.slave)
         os.close(self.master)
         return out, error
+
+
+class Watched(Window):
+    """A program at a terminal, of which is seen what it prints while it does."""
+
+    def __init__(self, *words, **how):
+        super().__init__(*words, **how)
+        self.shown = bytearray()
+        self.thread = threading.Thread(target=self.watch, daemon=True)
+        self.thread.start()
+
+    def watch(self):
+        while part := os.read(self.process.stdout.fileno(), 65536):
+            self.shown += part
+
+    def types(self, keys):
+        """Types keys once the terminal gives each."""
+        self.await_raw()
+        self.type(keys).join()
+
+    def sees(self, what, holds):
+        """It has printed a text that holds."""
+        check(until(lambda: holds(self.shown) or self.process.poll() is not None) and holds(self.shown), f"{what}: it shows {bytes(self.shown[-60:])!r}")
+
+    def ends(self, what, status):
+        """It ends so, and the terminal is as it was; what it printed, and what it said."""
+        self.thread.join(timeout=SECONDS)
+        _, error = super().ends(what, status)
+        return bytes(self.shown), error
+
+
+class Screen(Window):
+    """A program that also prints to its terminal."""
+
+    def screen(self, slave):
+        return {"stdout": slave}
 
 
 # ---- a process that is traced (Linux on x86-64)

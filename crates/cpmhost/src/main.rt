@@ -10,6 +10,7 @@ mod bounds;
 mod files;
 mod held;
 mod output;
+mod pace;
 mod patient;
 mod place;
 mod plan;
@@ -20,12 +21,13 @@ mod repeated;
 mod screen;
 mod stream;
 mod task;
+mod terminal;
 mod typing;
 
 use cpm_host::{HostError, Task, VERSION, asks_version, command};
 use held::LockableFiles;
 use output::Outputs;
-use patient::{PatientError, PatientOutput};
+use patient::{PatientError, PatientOutput, StandardInput};
 use refused::CommandRefusal;
 use std::env::Env;
 use std::fs::{File, OpenOptions};
@@ -54,21 +56,45 @@ fn arguments(rt: &(impl Env + AllocGlobal)) -> Result<Vec<String>, HostError>
 
 /// Does what words ask for, which begin with the program's own name.
 fn do_words(
-    rt: &(impl LockableFiles + Input),
+    rt: &(impl LockableFiles + StandardInput),
     outputs: Outputs,
     words: &[&str],
-    terminals: Terminals,
+    terminals: Terminals<'_>,
 ) -> Result<ExitCode, CommandRefusal> {
     if asks_version(words) {
         print(rt, VERSION)?;
         return Ok(ExitCode::SUCCESS);
     }
-    if let [_, "typed-at", line @ ..] = words {
-        return Ok(tell_typed_at(rt, line)?);
+    match words {
+        [_, "typed-at", line @ ..] => Ok(tell_typed_at(rt, line)?),
+        [_, "typed-from", end, line @ ..] => {
+            let words = named_line(rt, line)?;
+            let end = Some(*end);
+            let terminals = Terminals { end, ..terminals };
+            do_command(rt, outputs, words.as_slice(), terminals)
+        }
+        _ => do_command(rt, outputs, words, terminals),
     }
+}
+
+/// Does the command of words, which begin with the program's own name.
+fn do_command(
+    rt: &(impl LockableFiles + StandardInput),
+    outputs: Outputs,
+    words: &[&str],
+    terminals: Terminals<'_>,
+) -> Result<ExitCode, CommandRefusal> {
     let task = command(rt.alloc(), words).map_err(HostError::from)?;
     do_task(rt, outputs, &task, terminals)?;
     Ok(ExitCode::SUCCESS)
+}
+
+/// A line that begins after the program's own name, with that name.
+fn named_line<'a>(rt: &impl AllocGlobal, line: &[&'a str]) -> Result<Vec<&'a str>, HostError> {
+    let mut words = Vec::new(rt.alloc());
+    words.push("cpmhost")?;
+    words.extend_from_slice(line)?;
+    Ok(words)
 }
 
 /// Prints a text of the program's own.
@@ -89,9 +115,7 @@ fn is_typed_at(task: &Task<'_>) -> bool {
 
 /// Says by its status whether a line, which begins after the program's own name, is typed at: 0 where it is. The launcher asks for that.
 fn tell_typed_at(rt: &impl AllocGlobal, line: &[&str]) -> Result<ExitCode, HostError> {
-    let mut words = Vec::new(rt.alloc());
-    words.push("cpmhost")?;
-    words.extend_from_slice(line)?;
+    let words = named_line(rt, line)?;
     match command(rt.alloc(), words.as_slice()) {
         Ok(task) if is_typed_at(&task) => Ok(ExitCode::SUCCESS),
         _ => Ok(ExitCode::from(1)),
@@ -100,9 +124,9 @@ fn tell_typed_at(rt: &impl AllocGlobal, line: &[&str]) -> Result<ExitCode, HostE
 
 /// Does what the words of the command line ask for.
 fn do_line(
-    rt: &(impl LockableFiles + Env + Input),
+    rt: &(impl LockableFiles + Env + StandardInput),
     outputs: Outputs,
-    terminals: Terminals,
+    terminals: Terminals<'_>,
 ) -> Result<ExitCode, CommandRefusal> {
     let words = arguments(rt)?;
     let mut texts = Vec::new(rt.alloc());
@@ -143,6 +167,7 @@ fn main(rt: HostRuntime) -> ExitCode {
     let terminals = Terminals {
         is_output_terminal: rt.stdout().is_terminal(),
         is_error_terminal: rt.stderr().is_terminal(),
+        end: None,
     };
     let outputs = Outputs::draw(&rt, process::id(rt.process()));
     match do_line(&rt, outputs, terminals) {

@@ -4,7 +4,7 @@ ghost use Rattle.std.specs.Prelude.{◌≤◌, IfOk, length};
 
 use arrayvec::ArrayString;
 use std::fmt::Write as _;
-use std::io::{ErrorKind, Read, Write};
+use std::io::{ErrorKind, IsTerminal, Read, Write};
 use std::rt::Clock;
 use std::time::Duration;
 use std::{fmt, io, thread};
@@ -65,6 +65,18 @@ pub trait StandardError: Clock {
 impl StandardError for HostRuntime {
     fn write_error(&self, bytes: &[u8]) -> io::Result<usize> {
         self.stderr().write_some(bytes)
+    }
+}
+
+/// A machine that has a standard input.
+pub trait StandardInput: Input {
+    /// Whether that is a terminal.
+    fn is_input_terminal(&self) -> bool;
+}
+
+impl StandardInput for HostRuntime {
+    fn is_input_terminal(&self) -> bool {
+        self.stdin().is_terminal()
     }
 }
 

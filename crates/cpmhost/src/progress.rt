@@ -5,7 +5,7 @@ ghost use Rattle.std.specs.Prelude.{⊤};
 use crate::held::LockableFiles;
 use crate::patient::{PatientError, PatientOutput};
 use crate::refused::PathLine;
-use crate::typing::{Terminals, tell_full, tell_quit};
+use crate::typing::{Terminals, tell_quit};
 use arrayvec::{ArrayString, ArrayVec};
 use cpm_commands::{Messages, SessionsWatcher};
 use cpm_host::{Config, Progress, RunStage, RunWatcher, Watcher};
@@ -56,7 +56,7 @@ enum Audience {
 pub struct Teller<'a, R: LockableFiles> {
     rt: &'a R,
     form: Form,
-    terminals: Terminals,
+    terminals: Terminals<'a>,
     whom: Audience,
     /// The names of the sessions; none where a program is run.
     names: ArrayVec<ArrayString<MOST_NAME>, MOST_SESSIONS>,
@@ -66,9 +66,8 @@ pub struct Teller<'a, R: LockableFiles> {
     is_typing: bool,
     /// Whether what comes next on standard output begins a line.
     is_at_line_start: &'a Cell<bool>,
-    /// How many keys were typed, and how many are at most.
+    /// How many keys were typed.
     keys: &'a Cell<usize>,
-    most_keys: usize,
 }
 
 impl<'a, R: LockableFiles> Teller<'a, R> {
@@ -76,10 +75,9 @@ impl<'a, R: LockableFiles> Teller<'a, R> {
     pub fn new(
         rt: &'a R,
         form: Form,
-        terminals: Terminals,
+        terminals: Terminals<'a>,
         is_at_line_start: &'a Cell<bool>,
         keys: &'a Cell<usize>,
-        most_keys: usize,
     ) -> Teller<'a, R> {
         Teller {
             rt,
@@ -91,7 +89,6 @@ impl<'a, R: LockableFiles> Teller<'a, R> {
             is_typing: false,
             is_at_line_start,
             keys,
-            most_keys,
         }
     }
 
@@ -130,14 +127,13 @@ impl<'a, R: LockableFiles> Teller<'a, R> {
         }
     }
 
-    /// Ends the line of a session that was typed at, and tells where no more was typed since a script has not more keys.
+    /// Ends the line of a session that was typed at.
     fn end_typing(&self) {
         if self.terminals.is_output_terminal && !self.is_at_line_start.get() {
             // (where this fails, so does the report, which says it)
             let _ = PatientOutput::new(self.rt).write_all(b"\n");
             self.is_at_line_start.set(true);
         }
-        tell_full(self.rt, self.keys.get(), self.most_keys);
     }
 
     /// Tells of so many parts.
@@ -220,7 +216,7 @@ impl<R: LockableFiles> RunWatcher for Teller<'_, R> {
         self.whom = match stage {
             RunStage::Typing => {
                 self.is_typing = true;
-                tell_quit(self.rt);
+                tell_quit(self.rt, self.terminals.end.is_some());
                 Audience::All
             }
             RunStage::Alone(place) => Audience::Alone(place),

@@ -7,54 +7,85 @@ use crate::bounds::FileRules;
 use crate::files::MachineFiles;
 use crate::held::LockableFiles;
 use crate::output::Outputs;
-use crate::patient::{PatientInput, PatientOutput};
+use crate::patient::{PatientInput, PatientOutput, StandardInput};
 use crate::progress::{Form, Teller};
 use crate::record::Record;
 use crate::refused::CommandRefusal;
 use crate::screen::{Lines, Screen};
+use crate::terminal::{TerminalTypist, TypingOutput};
 use crate::typing::Terminals;
-use cpm_commands::most_keys;
-use cpm_host::{HostError, MOST_KEYS, RunTask, Task};
+use cpm_host::{HostError, KeyReader, RunTask, Task, Typist};
 use std::cell::Cell;
 use std::io::{BufReader, BufWriter};
 
 /// Does a task.
 pub fn do_task(
-    rt: &(impl LockableFiles + Input),
+    rt: &(impl LockableFiles + StandardInput),
     outputs: Outputs,
     task: &Task<'_>,
-    terminals: Terminals,
+    terminals: Terminals<'_>,
 ) -> Result<(), CommandRefusal>
     requires { HasUsers task.now }
 {
     let keys = Cell::new(0);
     let mut files = files_of(rt, outputs, task);
     let mut record = Record::new(rt, outputs, record_of(task), &keys);
-    let done = do_over(rt, task, terminals, &mut files, &mut record, &keys);
+    let is_gone = Cell::new(false);
+    let done = match terminals.end {
+        Some(end) => {
+            let mut typist = TerminalTypist::new(rt, end, &is_gone, pace_of(task));
+            let lost = terminals.is_output_terminal.then_some(&is_gone);
+            do_over(
+                rt,
+                task,
+                terminals,
+                lost,
+                &mut files,
+                &mut record,
+                &keys,
+                &mut typist,
+            )
+        }
+        None => {
+            let mut typist = KeyReader::new(PatientInput::new(rt));
+            do_over(
+                rt,
+                task,
+                terminals,
+                None,
+                &mut files,
+                &mut record,
+                &keys,
+                &mut typist,
+            )
+        }
+    };
     record.finish(files.end(done))
 }
 
-/// Does it over these files, and with the standard streams.
+/// Does it over these files, with the standard streams, and by the keys of this typist. Where standard output may be lost, it is noted there that it is.
 #[inline(never)]
-fn do_over<'a, R: LockableFiles + Input>(
+fn do_over<'a, R: LockableFiles + Input, P: Typist>(
     rt: &'a R,
     task: &Task<'_>,
-    terminals: Terminals,
+    terminals: Terminals<'_>,
+    lost: Option<&Cell<bool>>,
     files: &mut MachineFiles<'a, R>,
     record: &mut Record<'_, R>,
     keys: &Cell<usize>,
+    typist: &mut P,
 ) -> Result<(), HostError>
     requires { HasUsers task.now }
 {
     let is_at_line_start = Cell::new(true);
-    let Ok(writer) = BufWriter::new(rt.alloc(), PatientOutput::new(rt)) else {
+    let output = TypingOutput::new(PatientOutput::new(rt), lost);
+    let Ok(writer) = BufWriter::new(rt.alloc(), output) else {
         return Err(HostError::OutOfMemory);
     };
     let screen = Screen::new(writer, terminals.shows_controls(is_raw(task)));
     let mut lines = Lines::new(screen, &is_at_line_start);
     let form = Form::of(has_progress(task), terminals.is_error_terminal);
-    let most = most_keys_of(task);
-    let mut teller = Teller::new(rt, form, terminals, &is_at_line_start, keys, most);
+    let mut teller = Teller::new(rt, form, terminals, &is_at_line_start, keys);
     let Ok(mut input) = BufReader::new(rt.alloc(), PatientInput::new(rt)) else {
         return Err(HostError::OutOfMemory);
     };
@@ -63,6 +94,7 @@ fn do_over<'a, R: LockableFiles + Input>(
         task,
         files,
         &mut input,
+        typist,
         &mut lines,
         record,
         &mut teller,
@@ -128,10 +160,11 @@ fn has_progress(task: &Task<'_>) -> bool {
     }
 }
 
-/// How many keys are typed at most.
-fn most_keys_of(task: &Task<'_>) -> usize {
+/// How many thousand steps pass in a second at most where one types.
+fn pace_of(task: &Task<'_>) -> Option<u64> {
     match task {
-        Task::Com(task) => most_keys(task),
-        _ => MOST_KEYS,
+        Task::Com(task) => task.pace,
+        Task::Run(task) => task.pace,
+        _ => None,
     }
 }

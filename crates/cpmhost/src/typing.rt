@@ -4,14 +4,16 @@ use crate::patient::{PatientError, StandardError};
 
 /// Which of the program's own streams are terminals.
 #[derive(Clone, Copy, Debug, Drop)]
-pub struct Terminals {
+pub struct Terminals<'a> {
     /// Standard output.
     pub is_output_terminal: bool,
     /// Standard error.
     pub is_error_terminal: bool,
+    /// The file whose coming ends typing, where standard input is a terminal that gives each key as it is typed.
+    pub end: Option<&'a str>,
 }
 
-impl Terminals {
+impl Terminals<'_> {
     /// Whether standard output gets control bytes as text.
     pub fn shows_controls(&self, is_raw: bool) -> bool {
         self.is_output_terminal && !is_raw
@@ -23,18 +25,12 @@ impl Terminals {
     }
 }
 
-/// Says how typing ends.
-pub fn tell_quit(rt: &impl StandardError) {
-    let _ = eprintln!(PatientError::new(rt); "cpmhost: keys come from standard input; ^] ends");
-}
-
-/// Says that typing has ended since the record is full, if it is.
-#[cold]
-#[inline(never)]
-pub fn tell_full(rt: &impl StandardError, keys: usize, most_keys: usize) {
-    if keys >= most_keys {
-        let _ = eprintln!(PatientError::new(rt);
-            "cpmhost: the record is full with {keys} keys, so no more is typed; it ends here as by ^], and its record is whole"
-        );
-    }
+/// Says how typing ends: at a terminal that gives each key, or elsewhere.
+pub fn tell_quit(rt: &impl StandardError, is_each_key: bool) {
+    let told = if is_each_key {
+        "^] ends it, ^\\ too; ^^ ^] types a ^]"
+    } else {
+        "keys come from standard input; ^] ends"
+    };
+    let _ = eprintln!(PatientError::new(rt); "cpmhost: {told}");
 }

@@ -1,0 +1,282 @@
+//! Keys that are typed at a terminal which gives each as it comes, and which says at once where none came: as after `stty -icanon min 0 time 0`.
+
+ghost use Rattle.std.specs.Prelude.{◌<◌, IfSome, None, false};
+
+use crate::held::LockableFiles;
+use crate::pace::{Pace, micros, sleep};
+use crate::patient::StandardInput;
+use arrayvec::ArrayVec;
+use cpm_host::{Heard, KeyNeed, TypingEnd, Typist};
+use std::cell::Cell;
+use std::io::{ErrorKind, Read, Write};
+use std::{fs, io};
+
+/// ^], which ends typing.
+const END_KEY: u8 = 0x1D;
+
+/// ^^. The key behind it is given as it is, ^] too.
+const PREFIX: u8 = 0x1E;
+
+/// How many keys are kept here at most. More stay with the terminal.
+const MOST_KEPT_KEYS: usize = 4096;
+
+/// How many bytes are read at once.
+const MOST_READ: usize = 512;
+
+/// After how many microseconds a terminal is asked again for a key that a machine wants.
+const KEY_PAUSE: u64 = 8_000;
+
+/// How often it is looked whether typing has ended otherwise than by a key, in microseconds.
+const LOOK_PAUSE: u64 = 10_000;
+
+/// How many microseconds ^] waits for a machine to take the next of the keys before it.
+const MOST_WAIT: u64 = 40_000;
+
+/// What was typed, and is not given yet.
+#[derive(Drop)]
+struct TypedKeys {
+    keys: ArrayVec<u8, MOST_KEPT_KEYS>,
+    /// Whether ^^ came last.
+    is_prefixed: bool,
+    /// Why no more is typed.
+    end: Option<TypingEnd>,
+    /// When the last key was given, or that end came behind keys that were not.
+    since: u64,
+}
+
+impl TypedKeys {
+    fn new() -> TypedKeys {
+        TypedKeys {
+            keys: ArrayVec::new(),
+            is_prefixed: false,
+            end: None,
+            since: 0,
+        }
+    }
+
+    /// For how many bytes there is room.
+    fn room(&self) -> usize {
+        match self.end {
+            Some(_) => 0,
+            None => MOST_KEPT_KEYS.saturating_sub(self.keys.len()),
+        }
+    }
+
+    /// Takes that no more is typed.
+    fn take_end(&mut self, why: TypingEnd, now: u64) {
+        if self.end.is_none() {
+            self.end = Some(why);
+            if !self.keys.is_empty() {
+                self.since = now;
+            }
+        }
+    }
+
+    /// Takes a byte that came. One of 80h or more is no key, and what comes behind ^] isn't any more.
+    fn take(&mut self, byte: u8, now: u64) {
+        if self.end.is_some() {
+            return;
+        }
+        match (self.is_prefixed, byte) {
+            (false, END_KEY) => self.take_end(TypingEnd::Quit, now),
+            (false, PREFIX) => self.is_prefixed = true,
+            _ => {
+                self.is_prefixed = false;
+                if byte.is_ascii() {
+                    // (there is room, since no more bytes are read)
+                    let _ = self.keys.try_push(byte);
+                }
+            }
+        }
+    }
+
+    /// Why no more is given: at the end, once a machine wants another key than those before it, or has taken none of them for a while.
+    fn ended(&self, is_wanted: bool, now: u64) -> Option<TypingEnd> {
+        let is_last = is_wanted && self.keys.is_empty();
+        if is_last || now.saturating_sub(self.since) >= MOST_WAIT {
+            self.end
+        } else {
+            None
+        }
+    }
+
+    /// The next key.
+    fn next(&mut self, now: u64) -> Option<u8>
+        ensures { IfSome result (λ byte. byte < 128) }
+    {
+        let byte = self.keys.pop_at(0)?;
+        self.since = now;
+        if byte.is_ascii() { Some(byte) } else { None }
+    }
+}
+
+/// Who types at a terminal. A file whose coming ends it is looked for now and then.
+#[derive(Drop)]
+pub struct TerminalTypist<'a, R: LockableFiles + StandardInput> {
+    rt: &'a R,
+    input: R::Reader,
+    typed: TypedKeys,
+    pace: Pace,
+    end: &'a str,
+    /// Whether a terminal is gone to which the program's text goes.
+    is_output_gone: &'a Cell<bool>,
+    /// When that was looked for last, if it was.
+    looked: Option<u64>,
+    /// Whether it has come.
+    is_ended: bool,
+}
+
+impl<'a, R: LockableFiles + StandardInput> TerminalTypist<'a, R> {
+    /// One who types at standard input until a file of a name comes.
+    pub fn new(
+        rt: &'a R,
+        end: &'a str,
+        is_output_gone: &'a Cell<bool>,
+        pace: Option<u64>,
+    ) -> TerminalTypist<'a, R> {
+        TerminalTypist {
+            rt,
+            input: rt.reader(),
+            typed: TypedKeys::new(),
+            pace: Pace::new(pace),
+            end,
+            is_output_gone,
+            looked: None,
+            is_ended: false,
+        }
+    }
+
+    /// Does what comes before a key is given to a machine that has executed so many steps: it keeps the pace, and takes what came. It says what the time is then.
+    fn prepare(&mut self, is_wanted: bool, count: u64) -> u64 {
+        let mut now = micros(self.rt);
+        if !is_wanted {
+            now = self.pace.keep(self.rt, now, count);
+        }
+        self.look(now);
+        self.read(now);
+        now
+    }
+
+    /// Looks whether typing has ended otherwise than by a key.
+    fn look(&mut self, now: u64) {
+        self.is_ended = self.is_ended || self.is_output_gone.get();
+        if let Some(looked) = self.looked
+            && now.saturating_sub(looked) < LOOK_PAUSE
+        {
+            return;
+        }
+        self.looked = Some(now);
+        if let Ok(true) = fs::exists(self.rt, self.end) {
+            self.is_ended = true;
+        }
+        // (one that hangs up says again and again that nothing came)
+        if !self.rt.is_input_terminal() {
+            self.typed.take_end(TypingEnd::InputEnd, now);
+        }
+    }
+
+    /// Reads what came, as far as there is room.
+    fn read(&mut self, now: u64) {
+        let mut bytes = [0u8; MOST_READ];
+        let room = self.typed.room().min(MOST_READ);
+        if room == 0 {
+            return;
+        }
+        match self.input.read(&mut bytes[..room]) {
+            Ok(count) => {
+                for &byte in bytes.iter().take(count) {
+                    self.typed.take(byte, now);
+                }
+            }
+            Err(error) if is_nothing(error.kind()) => {}
+            Err(_) => self.typed.take_end(TypingEnd::InputEnd, now),
+        }
+    }
+
+    /// The next key. Where one is wanted, and none came, it is waited a little.
+    fn next(&mut self, is_wanted: bool, now: u64) -> Option<u8>
+        ensures { IfSome result (λ byte. byte < 128) }
+    {
+        let key = self.typed.next(now);
+        if key.is_some() || !is_wanted {
+            return key;
+        }
+        let then = sleep(self.rt, KEY_PAUSE);
+        self.pace.leave_out(then.saturating_sub(now));
+        self.read(then);
+        self.typed.next(then)
+    }
+}
+
+/// Whether a read that failed says that nothing came.
+fn is_nothing(kind: ErrorKind) -> bool {
+    match kind {
+        ErrorKind::Interrupted | ErrorKind::WouldBlock => true,
+        _ => false,
+    }
+}
+
+impl<R: LockableFiles + StandardInput> Typist for TerminalTypist<'_, R> {
+    // What is typed isn't known.
+    ghost typing = { λ _. record { is_patient = false; unread = None; heard = None } };
+
+    fn is_patient(&self) -> bool {
+        false
+    }
+
+    fn most_steps(&self) -> u64 {
+        self.pace.most_steps()
+    }
+
+    fn hear(&mut self, need: KeyNeed, count: u64) -> io::Result<Heard> {
+        let now = self.prepare(need.is_wanted(), count);
+        if self.is_ended {
+            return Ok(Heard::End(TypingEnd::Signal));
+        }
+        if let Some(why) = self.typed.ended(need.is_wanted(), now) {
+            return Ok(Heard::End(why));
+        }
+        match need {
+            KeyNeed::Pending => Ok(Heard::Nothing),
+            KeyNeed::Possible | KeyNeed::Wanted => match self.next(need.is_wanted(), now) {
+                Some(byte) => Ok(Heard::Key(byte)),
+                None => Ok(Heard::Nothing),
+            },
+        }
+    }
+}
+
+/// A writer of a program's text. Where that goes to the terminal of one who types, and that is gone, the text is dropped and this is noted.
+#[derive(Drop)]
+pub struct TypingOutput<'a, W: Write + Drop> {
+    writer: W,
+    is_gone: Option<&'a Cell<bool>>,
+}
+
+impl<'a, W: Write + Drop> TypingOutput<'a, W> {
+    pub fn new(writer: W, is_gone: Option<&'a Cell<bool>>) -> TypingOutput<'a, W> {
+        TypingOutput { writer, is_gone }
+    }
+}
+
+impl<W: Write + Drop> Write for TypingOutput<'_, W> {
+    fn write(&mut self, buf: &[u8]) -> io::Result<usize> {
+        let Some(is_gone) = self.is_gone else {
+            return self.writer.write(buf);
+        };
+        if is_gone.get() {
+            return Ok(buf.len());
+        }
+        match self.writer.write(buf) {
+            Err(error) if error.kind() != ErrorKind::Interrupted => {
+                is_gone.set(true);
+                Ok(buf.len())
+            }
+            answer => answer,
+        }
+    }
+
+    fn flush(&mut self) -> io::Result<()> {
+        Ok(())
+    }
+}
