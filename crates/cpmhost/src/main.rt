@@ -85,8 +85,8 @@ fn do_command(
     terminals: Terminals<'_>,
 ) -> Result<ExitCode, CommandRefusal> {
     let task = command(rt.alloc(), words).map_err(HostError::from)?;
-    do_task(rt, outputs, &task, terminals)?;
-    Ok(ExitCode::SUCCESS)
+    let status = do_task(rt, outputs, &task, terminals)?;
+    Ok(ExitCode::from(status))
 }
 
 /// A line that begins after the program's own name, with that name.

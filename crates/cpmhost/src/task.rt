@@ -18,13 +18,13 @@ use cpm_host::{HostError, KeyReader, RunTask, Task, Typist};
 use std::cell::Cell;
 use std::io::{BufReader, BufWriter};
 
-/// Does a task.
+/// Does a task, and gives the exit status.
 pub fn do_task(
     rt: &(impl LockableFiles + StandardInput),
     outputs: Outputs,
     task: &Task<'_>,
     terminals: Terminals<'_>,
-) -> Result<(), CommandRefusal>
+) -> Result<u8, CommandRefusal>
     requires { HasUsers task.now }
 {
     let keys = Cell::new(0);
@@ -74,7 +74,7 @@ fn do_over<'a, R: LockableFiles + Input, P: Typist>(
     record: &mut Record<'_, R>,
     keys: &Cell<usize>,
     typist: &mut P,
-) -> Result<(), HostError>
+) -> Result<u8, HostError>
     requires { HasUsers task.now }
 {
     let is_at_line_start = Cell::new(true);
