@@ -46,7 +46,8 @@ AreIllegalTold {M} tells (s ∷ ss) old new = (next : M) × IsIllegalTold tells 
 -- ---- at the end of a command
 
 -- so it was told at last of a program
-pub record HasToldEnd {M : Type 0} (tells : M → List ℕ → M → Type 0) (is_quiet : Bool) (e : Ending) (waits : Bool) (end : Option PlayEnd) (new : M) : Type 0 where
+pub record HasToldEnd {M : Type 0} (tells : M → List ℕ → M → Type 0) (is_quiet : Bool) (e : Ending) (waits : Bool) (end : Option PlayEnd) (new : M)
+    : Type 0 where
   pub before : M
   pub told : IsEndTold tells is_quiet e waits end before new
 

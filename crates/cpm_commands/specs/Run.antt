@@ -155,7 +155,8 @@ pub record IsRunPrepared {F : Type 0} (does : F → StoreAccess → F → Type 0
 -- record of what was typed was ended.
 pub record HasRunSessions {F : Type 0} (does : F → StoreAccess → F → Type 0) (sees_to : F → Plan → Option HostError → F → Type 0)
     (gives_names : F → Option HostError → F → Type 0) (tells_name : F → StoreName → Bool → Type 0) (ended : Option HostError → Type 0)
-    (told : List SessionReport → Type 0) (task : RunTask) (old new : F) (unread left : TypingState) (before printed unrecorded record_now : Option (List ℕ)) : Type 0 where
+    (told : List SessionReport → Type 0) (task : RunTask) (old new : F) (unread left : TypingState)
+    (before printed unrecorded record_now : Option (List ℕ)) : Type 0 where
   pub config : Config
   pub scripts : List (String Global)
   pub seen : F

@@ -278,8 +278,8 @@ fn run_all<F: CommandFiles, P: Typist, W: Write, R: KeyRecord, T: SessionsWatche
     Ok(report)
 }
 
-/// Runs the sessions of the configuration in a file, one of them by the keys that are typed if that is asked; gives what they leave its names, and prints how each
-/// ended.
+/// Runs the sessions of the configuration in a file, one of them by the keys that are typed if that is asked; gives what they leave its names, and prints how
+/// each ended.
 pub fn run_sessions<
     F: CommandFiles,
     P: Typist,

@@ -9,7 +9,8 @@ ghost use Rattle.cpm_machine.specs.Opening.{program_fault, IsRefusal, most_progr
 ghost use Rattle.cpm_play.specs.Playing.{IsFresh};
 ghost use Rattle.cpm_play.specs.Typist.{TypingState};
 ghost use Rattle.cpm_run.specs.Settled.{streams};
-ghost use Rattle.cpm_host.specs.Program.{AreFit, AreRecorded, IsCueRefusal, IsRecordingRefusal, IsCutCued, IsFitSource, IsLiveCut, IsPlayedBy, IsPlayedCued, IsPlayedLive};
+ghost use Rattle.cpm_host.specs.Program.{AreFit, AreRecorded, IsCueRefusal, IsCutCued, IsFitSource, IsLiveCut, IsPlayedBy, IsPlayedCued, IsPlayedLive};
+ghost use Rattle.cpm_host.specs.Program.{IsRecordingRefusal};
 ghost use Rattle.cpm_host.specs.Program.{IsProgramPlayRefusal, IsProgramRefusal, IsScriptTold};
 ghost use Rattle.cpm_host.specs.Program.{drives_or_blank, machine_of, play_of, program_given, with_tail_if_any};
 
@@ -275,12 +276,12 @@ fn play_typed<P: Typist, W: Write, S: Write>(
     Ok(play_of(machine, play.live, Some(play.end)))
 }
 
-/// Runs a program on a machine of its own, with a blank system drive, for at most `steps` steps. Its keys are what its script says, or that and then
-/// what is typed; without typing nobody is asked for a key. It writes what the program shows as it comes, and each key to `record` as a line of a key script. What it sends to its list
-/// device is dropped. Where it goes by a script the watcher is told on the way how far it has come.
+/// Runs a program on a machine of its own, with a blank system drive, for at most `steps` steps. Its keys are what its script says, or that and then what is
+/// typed; without typing nobody is asked for a key. It writes what the program shows as it comes, and each key to `record` as a line of a key script. What it
+/// sends to its list device is dropped. Where it goes by a script alone the watcher is told on the way how far it has come.
 ///
-/// `ProgramTooLong`, `OpeningRefused` for more than four drives, and `OutOfMemory` for the machine come before anything is read or written.
-/// `InputUnreadable`, `OutputUnwritable` and `RecordUnwritable` have the errors of the three.
+/// `ProgramTooLong`, `OpeningRefused` for more than four drives, and `OutOfMemory` for the machine come before anybody is heard, or anything written.
+/// `InputUnreadable`, `OutputUnwritable` and `RecordUnwritable` have the errors of the typist and the two writers.
 pub fn run_program<P: Typist, W: Write, S: Write, T: Watcher>(
     alloc: Global,
     start: ProgramStart,

@@ -23,7 +23,7 @@ use Rattle.cpm_play.specs.Pacing.{without_list, without_text}
 use Rattle.cpm_play.specs.Playing.{HasText, IsQuiet, last_count, runs_at, screen_at, waits_at}
 use Rattle.cpm_play.specs.Sitting.{HasHeardOneMore, HasListened, HasPaused, IsCutShort, IsTypedPlay, IsWantedByPatient, Sitting, sitting}
 use Rattle.cpm_play.specs.Typing.{HasReadKeys}
-use Rattle.cpm_play.specs.Typist.{AreOften, HasHeard, HasHeardNothing, Hearing, IsHeard, IsHeardPatiently, IsReadAs, TypingState, hearing, is_wanted, key_heard, keys_heard}
+use Rattle.cpm_play.specs.Typist.{AreOften, HasHeard, HasHeardNothing, Hearing, IsHeard, IsHeardPatiently, IsReadAs, TypingState, hearing, wants_key, key_heard, keys_heard}
 use Rattle.cpm_play.specs.declared.typist.Heard.{Heard}
 use Rattle.cpm_play.specs.declared.typist.Heard.TheVariants as heard
 use Rattle.cpm_play.specs.declared.typist.KeyNeed.{KeyNeed}
@@ -133,13 +133,13 @@ patient-wanted Wanted said other is = refl
 patient-wanted Pending said other is = absurd (other is)
 patient-wanted Possible said other is = absurd (other is)
 
-pub is-wanted : (need : KeyNeed) → is_wanted need ≡ true → need ≡ Wanted
+pub is-wanted : (need : KeyNeed) → wants_key need ≡ true → need ≡ Wanted
 is-wanted Wanted e = refl
 is-wanted Pending e = absurd (let bad : ⊥ = cc in bad)
 is-wanted Possible e = absurd (let bad : ⊥ = cc in bad)
 
-pub not-wanted : (need : KeyNeed) → is_wanted need ≡ false → need ≡ Wanted → ⊥
-not-wanted need e wanted = absurd (true≢false (sym (ap is_wanted wanted) ∙ e))
+pub not-wanted : (need : KeyNeed) → wants_key need ≡ false → need ≡ Wanted → ⊥
+not-wanted need e wanted = absurd (true≢false (sym (ap wants_key wanted) ∙ e))
 
 -- ---- the session
 

@@ -18,8 +18,8 @@ pub record Hearing : Type 0 where
 abbrev pub hearing : ℕ → Heard → Hearing
 hearing count said = record { count = count; heard = said }
 
--- What is known of a typist: whether it is patient, the bytes that are still to be read of it, and all that was heard of it. A patient one waits for a key where
--- one is wanted, and gives none elsewhere. One that isn't answers at once, also that there is none so far.
+-- What is known of a typist: whether it is patient, the bytes that are still to be read of it, and all that was heard of it. A patient one waits for a key
+-- where one is wanted, and gives none elsewhere. One that isn't answers at once, also that there is none so far.
 pub record TypingState : Type 0 where
   pub is_patient : Bool
   pub unread : Option (List ℕ)
@@ -31,9 +31,9 @@ nobody = record { is_patient = true; unread = None; heard = None }
 
 -- ---- an answer
 
-abbrev pub is_wanted : KeyNeed → Bool
-is_wanted Wanted = true
-is_wanted need = false
+abbrev pub wants_key : KeyNeed → Bool
+wants_key Wanted = true
+wants_key need = false
 
 -- what is known to have been heard grows by this
 abbrev pub HasHeard : Option (List Hearing) → Option (List Hearing) → List Hearing → Type 0

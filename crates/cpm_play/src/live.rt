@@ -263,7 +263,7 @@ pub fn play_live<T: Typist, W: Write, S: Write>(
                 live.give(machine, byte, record)?;
                 watch.give();
             }
-            Heard::Nothing if need.is_wanted() => {
+            Heard::Nothing if need.wants_key() => {
                 if asks == 0 {
                     return Err(unheard());
                 }

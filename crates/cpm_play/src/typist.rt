@@ -1,7 +1,7 @@
 //! Who types at a machine that is played live, and what is heard of it.
 
 ghost use Rattle.std.specs.Prelude.{◌≡◌, ◌<◌, true, IfOk, None, OnErr};
-ghost use Rattle.cpm_play.specs.Typist.{CanBeHeard, HasHeardNothing, IsHeard, IsHeardPatiently, TypingState, is_wanted};
+ghost use Rattle.cpm_play.specs.Typist.{CanBeHeard, HasHeardNothing, IsHeard, IsHeardPatiently, TypingState, wants_key};
 ghost use Rattle.cpm_play.specs.declared.typist.KeyNeed.TheVariants.{Wanted};
 
 use crate::typing::next_key;
@@ -21,8 +21,8 @@ pub enum KeyNeed {
 
 impl KeyNeed {
     /// Whether a key is wanted.
-    pub fn is_wanted(self) -> bool
-        ensures { result ≡ is_wanted self }
+    pub fn wants_key(self) -> bool
+        ensures { result ≡ wants_key self }
     {
         match self {
             KeyNeed::Wanted => true,

@@ -2,7 +2,8 @@
 use Rattle.std.specs.Prelude.{ℕ, List, ◌++◌, codes}
 use Rattle.std.specs.Fmt.{decimal}
 use Rattle.cpm_refusals.specs.declared.code.RefusalCode.{RefusalCode}
-use Rattle.cpm_refusals.specs.declared.code.RefusalCode.TheVariants.{Usage, Configuration, Script, Unreadable, Unwritable, Image, Source, OutOfMemory, Machine, CutOff}
+use Rattle.cpm_refusals.specs.declared.code.RefusalCode.TheVariants.{Usage, Configuration, Script, Unreadable, Unwritable, Image, Source}
+use Rattle.cpm_refusals.specs.declared.code.RefusalCode.TheVariants.{OutOfMemory, Machine, CutOff}
 
 -- the exit status
 abbrev pub status_of_code : RefusalCode → ℕ

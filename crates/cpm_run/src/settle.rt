@@ -4,8 +4,8 @@ ghost use Rattle.std.specs.Prelude.{◌≡◌, ◌++◌, [], drop, IfErr, IfOk, 
 ghost use Rattle.cpm_batch.specs.Inputs.{IsOpened, given, start_view, timed_keys};
 ghost use Rattle.cpm_script.specs.Cues.{all_said};
 ghost use Rattle.cpm_run.specs.Settled.{AreSettled, HasPlayedKeys, HasSettledBy, IsSettled, opened_by, part_of, said_at, settled_view, starts_of, typed_view};
-ghost use Rattle.cpm_run.specs.Settling.{AreFitInputs, AreReady, AreSound, AreSoundKeys, IsFitInput, IsFitPart, IsOpenable, IsPartReady, IsPartRefusal, IsSessionReady};
-ghost use Rattle.cpm_run.specs.Settling.{IsSettlingRefusal, IsSoundAfter, part_view};
+ghost use Rattle.cpm_run.specs.Settling.{AreFitInputs, AreReady, AreSound, AreSoundKeys, IsFitInput, IsFitPart, IsOpenable, IsPartReady, IsPartRefusal};
+ghost use Rattle.cpm_run.specs.Settling.{IsSessionReady, IsSettlingRefusal, IsSoundAfter, part_view};
 ghost use Rattle.std.specs.Prelude.{Some, ◌+◌, length, nat_le};
 ghost use Rattle.cpm_script.specs.Script.{most_keys};
 

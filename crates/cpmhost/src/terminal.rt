@@ -229,16 +229,16 @@ impl<R: LockableFiles + StandardInput> Typist for TerminalTypist<'_, R> {
     }
 
     fn hear(&mut self, need: KeyNeed, count: u64) -> io::Result<Heard> {
-        let now = self.prepare(need.is_wanted(), count);
+        let now = self.prepare(need.wants_key(), count);
         if self.is_ended {
             return Ok(Heard::End(TypingEnd::Signal));
         }
-        if let Some(why) = self.typed.ended(need.is_wanted(), now) {
+        if let Some(why) = self.typed.ended(need.wants_key(), now) {
             return Ok(Heard::End(why));
         }
         match need {
             KeyNeed::Pending => Ok(Heard::Nothing),
-            KeyNeed::Possible | KeyNeed::Wanted => match self.next(need.is_wanted(), now) {
+            KeyNeed::Possible | KeyNeed::Wanted => match self.next(need.wants_key(), now) {
                 Some(byte) => Ok(Heard::Key(byte)),
                 None => Ok(Heard::Nothing),
             },

@@ -73,15 +73,15 @@ returns-then-asks-eq0-clause-refused g c =
     let live = c.loop-live.invariant.0 in
     let is : IsHeard c.loop-live.live.steps (g.T.Typist.typing c.loop-live.typist) (g.T.Typist.typing c.hear.new.typist) heard.Nothing = rw c.in-Nothing.is at c.in_ok-end.ensures.heard in
     inr (live-unheard live (g.T.Typist.typing c.hear.new.typist) c.unheard.result c.unheard.ensures (listened-still live.listened (g.T.Typist.typing c.hear.new.typist) is)
-    (λ patient. wanted-here live.going (live-watched live) c.look.result c.look.ensures c.need-need.result c.need-need.ensures (is-wanted c.need-need.result (sym c.is_wanted.ensures ∙ c.if-is_wanted.true))))
+    (λ patient. wanted-here live.going (live-watched live) c.look.result c.look.ensures c.need-need.result c.need-need.ensures (is-wanted c.need-need.result (sym c.wants_key.ensures ∙ c.if-wants_key.true))))
 
-pub loop-live-smaller-then-is_wanted : goal.loop-live-smaller-then-is_wanted
-loop-live-smaller-then-is_wanted g c =
+pub loop-live-smaller-then-wants_key : goal.loop-live-smaller-then-wants_key
+loop-live-smaller-then-wants_key g c =
     let some = c.if-asks-eq0.false in
     fewer-asks c.loop-live.asks _ (omega (arith, some))
 
-pub loop-live-preserved-then-is_wanted : goal.loop-live-preserved-then-is_wanted
-loop-live-preserved-then-is_wanted g c =
+pub loop-live-preserved-then-wants_key : goal.loop-live-preserved-then-wants_key
+loop-live-preserved-then-wants_key g c =
     let live = c.loop-live.invariant.0 in
     let is : IsHeard c.loop-live.live.steps (g.T.Typist.typing c.loop-live.typist) (g.T.Typist.typing c.hear.new.typist) heard.Nothing = rw c.in-Nothing.is at c.in_ok-end.ensures.heard in
     (live-still live (g.T.Typist.typing c.hear.new.typist) is, c.hear.ensures.nature ∙ c.loop-live.invariant.1)
@@ -89,7 +89,7 @@ loop-live-preserved-then-is_wanted g c =
 pub turn-executed-requires-clause-busy : goal.turn-executed-requires-clause-busy
 turn-executed-requires-clause-busy g c =
     let live = c.loop-live.invariant.0 in
-    idle-here live.going (live-watched live) c.look.result c.look.ensures c.need-need.result c.need-need.ensures (not-wanted c.need-need.result (sym c.is_wanted.ensures ∙ c.if-is_wanted.false))
+    idle-here live.going (live-watched live) c.look.result c.look.ensures c.need-need.result c.need-need.ensures (not-wanted c.need-need.result (sym c.wants_key.ensures ∙ c.if-wants_key.false))
 
 pub returns-then-executed-eq0-clause-played : goal.returns-then-executed-eq0-clause-played
 returns-then-executed-eq0-clause-played g c =
@@ -102,7 +102,7 @@ loop-live-preserved g c =
     let live = c.loop-live.invariant.0 in
     let is : IsHeard c.loop-live.live.steps (g.T.Typist.typing c.loop-live.typist) (g.T.Typist.typing c.hear.new.typist) heard.Nothing = rw c.in-Nothing-2.is at c.in_ok-end.ensures.heard in
     let some : 0 < c.turn-executed.result = let more = c.if-executed-eq0.false in omega (arith, more) in
-    let busy = busy-here live.going (live-watched live) c.look.result c.look.ensures c.need-need.result c.need-need.ensures (not-wanted c.need-need.result (sym c.is_wanted.ensures ∙ c.if-is_wanted.false)) in (
+    let busy = busy-here live.going (live-watched live) c.look.result c.look.ensures c.need-need.result c.need-need.ensures (not-wanted c.need-need.result (sym c.wants_key.ensures ∙ c.if-wants_key.false)) in (
       live-turn live (g.T.Typist.typing c.hear.new.typist) c.turn-executed.result c.turn-executed.new.machine c.show.new.machine (g.W.Write.contents c.show.new.out) c.turn-executed.new.watch is
           some (let least = c.min-most.ensures in let few = c.turn-executed.ensures.within in omega arith) c.turn-executed.ensures.few busy c.turn-executed.ensures.state c.turn-executed.ensures.watched c.in_ok-show-in-Nothing-2.ensures.state c.in_ok-show-in-Nothing-2.ensures.text,
       c.hear.ensures.nature ∙ c.loop-live.invariant.1,
