@@ -26,7 +26,8 @@ IsLastTold {M} tells true line old new = new ≡ old
 IsLastTold {M} tells false line old new = tells old line new
 
 -- where it ended at bytes that are no instruction, these are told; and then how it ended, unless that is not to be told
-pub record IsEndTold {M : Type 0} (tells : M → List ℕ → M → Type 0) (is_quiet : Bool) (e : Ending) (waits : Bool) (end : Option PlayEnd) (old new : M) : Type 0 where
+pub record IsEndTold {M : Type 0} (tells : M → List ℕ → M → Type 0) (is_quiet : Bool) (e : Ending) (waits : Bool) (end : Option PlayEnd) (old new : M)
+    : Type 0 where
   pub between : M
   pub illegal : MatchOption (illegal_of e.ended e.pc e.at_pc) (between ≡ old) (λ i. tells old (illegal_text i) between)
   pub last : IsLastTold tells is_quiet (end_line e waits end) between new

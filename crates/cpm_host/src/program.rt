@@ -3,7 +3,9 @@ ghost use Rattle.std.specs.Prelude.{◌≡◌, ◌≢◌, ◌↔◌, ◌<◌, �
 ghost use Rattle.cpm_script.specs.declared.cue.Cue.TheVariants.{Key as Timed};
 ghost use Rattle.cpm_geom.specs.Disk.{blank_disk};
 ghost use Rattle.cpm_geom.specs.declared.format.Format.TheVariants.{Ibm3740};
+ghost use Rattle.cpm_play.specs.Cued.{key_count};
 ghost use Rattle.cpm_script.specs.Cues.{all_said, cues};
+ghost use Rattle.cpm_script.specs.Script.{most_keys};
 ghost use Rattle.cpm_machine.specs.MachineState.{opened_with};
 ghost use Rattle.cpm_machine.specs.Opening.{program_fault, IsRefusal, most_program};
 ghost use Rattle.cpm_play.specs.Playing.{IsFresh};
@@ -53,6 +55,7 @@ fn script_refused(name: &str, error: ScriptError) -> HostError
 pub fn cues_of(alloc: Global, name: &str, text: &[u8]) -> Result<Vec<Cue>, HostError>
     ensures cues { IfOk result (λ v. cues text.now ≡ Ok (all_said v)) }
     ensures fit { IfOk result (λ v. AreFit v.items) }
+    ensures few { IfOk result (λ v. key_count v.items ≤ most_keys) }
     ensures refusal { IfErr result (IsCueRefusal name.now text.now) }
 {
     cues_in_order();
