@@ -10,7 +10,6 @@ mod bounds;
 mod files;
 mod held;
 mod output;
-mod pace;
 mod patient;
 mod place;
 mod plan;
@@ -21,6 +20,7 @@ mod repeated;
 mod screen;
 mod stream;
 mod task;
+mod tempo;
 mod terminal;
 mod typing;
 

@@ -3,8 +3,8 @@
 ghost use Rattle.std.specs.Prelude.{◌<◌, IfSome, None, false};
 
 use crate::held::LockableFiles;
-use crate::pace::{Pace, micros, sleep};
 use crate::patient::StandardInput;
+use crate::tempo::{Tempo, micros, sleep};
 use arrayvec::ArrayVec;
 use cpm_host::{Heard, KeyNeed, TypingEnd, Typist};
 use std::cell::Cell;
@@ -116,7 +116,7 @@ pub struct TerminalTypist<'a, R: LockableFiles + StandardInput> {
     rt: &'a R,
     input: R::Reader,
     typed: TypedKeys,
-    pace: Pace,
+    tempo: Tempo,
     end: &'a str,
     /// Whether a terminal is gone to which the program's text goes.
     is_output_gone: &'a Cell<bool>,
@@ -138,7 +138,7 @@ impl<'a, R: LockableFiles + StandardInput> TerminalTypist<'a, R> {
             rt,
             input: rt.reader(),
             typed: TypedKeys::new(),
-            pace: Pace::new(pace),
+            tempo: Tempo::new(pace),
             end,
             is_output_gone,
             looked: None,
@@ -146,11 +146,11 @@ impl<'a, R: LockableFiles + StandardInput> TerminalTypist<'a, R> {
         }
     }
 
-    /// Does what comes before a key is given to a machine that has executed so many steps: it keeps the pace, and takes what came. It says what the time is then.
+    /// Does what comes before a key is given to a machine that has executed so many steps: it keeps the pace, and takes what came. It says what the time is.
     fn prepare(&mut self, is_wanted: bool, count: u64) -> u64 {
         let mut now = micros(self.rt);
         if !is_wanted {
-            now = self.pace.keep(self.rt, now, count);
+            now = self.tempo.keep(self.rt, now, count);
         }
         self.look(now);
         self.read(now);
@@ -202,7 +202,7 @@ impl<'a, R: LockableFiles + StandardInput> TerminalTypist<'a, R> {
             return key;
         }
         let then = sleep(self.rt, KEY_PAUSE);
-        self.pace.leave_out(then.saturating_sub(now));
+        self.tempo.leave_out(then.saturating_sub(now));
         self.read(then);
         self.typed.next(then)
     }
@@ -225,7 +225,7 @@ impl<R: LockableFiles + StandardInput> Typist for TerminalTypist<'_, R> {
     }
 
     fn most_steps(&self) -> u64 {
-        self.pace.most_steps()
+        self.tempo.most_steps()
     }
 
     fn hear(&mut self, need: KeyNeed, count: u64) -> io::Result<Heard> {

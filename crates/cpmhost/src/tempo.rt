@@ -31,16 +31,16 @@ pub fn sleep(clock: &impl Clock, time: u64) -> u64 {
 
 /// The pace of a machine, or none: so many thousand steps in a second, and so many in a millisecond.
 #[derive(Clone, Copy, Debug, Drop)]
-pub struct Pace {
+pub struct Tempo {
     steps: Option<u64>,
     /// From which time and count on it is reckoned.
     from: Option<(u64, u64)>,
 }
 
-impl Pace {
+impl Tempo {
     /// A pace that begins when the machine does.
-    pub fn new(steps: Option<u64>) -> Pace {
-        Pace { steps, from: None }
+    pub fn new(steps: Option<u64>) -> Tempo {
+        Tempo { steps, from: None }
     }
 
     /// How many steps a turn has at most.
