@@ -7,8 +7,8 @@ use crate::texts::{CONFIG, KEYS, SOURCE};
 use cpm_flags::Cpu;
 use cpm_geom::{Format, Image};
 use cpm_host::{
-    Config, DebugError, HostError, MemoryStore, NoWatcher, ProgramStart, RunError, RunOptions,
-    Source, Tail, run_asm, run_debug, run_host, run_list, run_program, tail_of,
+    Config, DebugError, HostError, KeyReader, MemoryStore, NoWatcher, ProgramStart, RunError,
+    RunOptions, Source, Tail, run_asm, run_debug, run_host, run_list, run_program, tail_of,
 };
 use std::alloc::{AllocError, Global};
 use std::io;
@@ -56,8 +56,8 @@ pub fn tail(alloc: Global) -> CallOutcome {
 
 pub fn typed(alloc: Global) -> Result<CallOutcome, AllocError> {
     let start = start(alloc)?;
-    let source = Source::Typed { most_keys: 10 };
-    let mut input: &[u8] = b"a";
+    let source = Source::Typed { cues: &[] };
+    let keys: &[u8] = b"a";
     let mut out = Counter { count: 0 };
     let mut record = Counter { count: 0 };
     let played = run_program(
@@ -65,7 +65,7 @@ pub fn typed(alloc: Global) -> Result<CallOutcome, AllocError> {
         start,
         100,
         source,
-        &mut input,
+        &mut KeyReader::new(keys),
         &mut out,
         &mut record,
         &mut NoWatcher,
@@ -140,7 +140,7 @@ fn run_over(alloc: Global, config: &Config, store: &mut MemoryStore, blank: &[u8
         stops_idle: false,
         records: &[],
     };
-    let mut input: &[u8] = &[];
+    let nothing: &[u8] = &[];
     let mut out = Counter { count: 0 };
     let mut lines = Counter { count: 0 };
     let answer = run_host(
@@ -148,7 +148,7 @@ fn run_over(alloc: Global, config: &Config, store: &mut MemoryStore, blank: &[u8
         config,
         options,
         store,
-        &mut input,
+        &mut KeyReader::new(nothing),
         &mut out,
         &mut lines,
         &mut NoWatcher,

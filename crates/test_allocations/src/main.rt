@@ -61,7 +61,7 @@ impl CallOutcome {
 }
 
 /// The calls, as they are named on the command line.
-const NAMES: [&str; 42] = [
+const NAMES: [&str; 44] = [
     "command",
     "FlatMemory::new",
     "FrameStore::new",
@@ -78,6 +78,7 @@ const NAMES: [&str; 42] = [
     "assemble",
     "Config::read",
     "read_keys",
+    "read_recording",
     "Store::read",
     "Store::write",
     "run_host",
@@ -103,6 +104,7 @@ const NAMES: [&str; 42] = [
     "cues_of",
     "run_program by a script",
     "run_program by typed keys",
+    "run_program by a script and typed keys",
     "run_asm_listed",
 ];
 
@@ -125,6 +127,7 @@ fn make(alloc: Global, name: &str) -> Result<CallOutcome, AllocError> {
         "assemble" => Ok(texts::source(alloc)),
         "Config::read" => Ok(texts::configuration(alloc)),
         "read_keys" => Ok(texts::key_script(alloc)),
+        "read_recording" => Ok(texts::recording(alloc)),
         "Store::read" => stores::read(alloc),
         "Store::write" => stores::write(alloc),
         _ => make_command(alloc, name),
@@ -153,6 +156,7 @@ fn make_command(alloc: Global, name: &str) -> Result<CallOutcome, AllocError> {
         "cues_of" => Ok(waiting::cues(alloc)),
         "run_program by a script" => waiting::program(alloc),
         "run_program by typed keys" => commands::typed(alloc),
+        "run_program by a script and typed keys" => waiting::program_typed_at(alloc),
         "run_asm_listed" => Ok(waiting::listed_source(alloc)),
         _ => Ok(CallOutcome::Wrong),
     }

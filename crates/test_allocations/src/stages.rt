@@ -1,11 +1,13 @@
-//! A run in stages, over a store in memory: a session that is typed at, one that waits, and one that is forked from that. They stop idle, and the keys of each
-//! are recorded.
+//! A run in stages, over a store in memory: a session that is typed at behind its script, one that waits, and one that is forked from that. They stop idle, and
+//! the keys of each are recorded.
 
 use crate::CallOutcome;
 use crate::commands::Counter;
 use crate::stores::{are_in_order, holds, put};
 use cpm_geom::{Format, Image};
-use cpm_host::{Config, MemoryStore, NoWatcher, RecordFile, RunError, RunOptions, run_host};
+use cpm_host::{
+    Config, KeyReader, MemoryStore, NoWatcher, RecordFile, RunError, RunOptions, run_host,
+};
 use std::alloc::{AllocError, Global};
 
 const CONFIG: &str = "frames = 64
@@ -19,6 +21,7 @@ quota = 16
 steps = 50
 drives = [\"a.img\"]
 console = \"typed.txt\"
+keys = \"typed.keys\"
 
 [[session]]
 name = \"waits\"
@@ -38,12 +41,14 @@ console = \"forked.txt\"
 keys = \"forked.keys\"
 ";
 
+const FIRST: &[u8] = b"wait DI\n";
+
 const WAITS: &[u8] = b"wait DIR^M\n";
 
 const FORKED: &[u8] = b"expect \"NO FILE\" X^M\n";
 
-/// What is typed.
-const KEYS: &[u8] = b"DIR\r";
+/// What is typed behind the first keys.
+const KEYS: &[u8] = b"R\r";
 
 /// The files for the keys of the sessions.
 const RECORDS: [RecordFile<'static>; 3] = [
@@ -64,8 +69,8 @@ const RECORDS: [RecordFile<'static>; 3] = [
 /// What a session shows that lists an empty drive.
 const SHOWN: &[u8] = b"\r\nA>DIR\r\r\nNO FILE\r\nA>";
 
-/// The keys that are typed, each at the count at which it is read.
-const TYPED: &[u8] = b"100 D\n200 I\n300 R\n400 ^M\n";
+/// The keys of the script and those that are typed, each at the count at which it comes.
+const TYPED: &[u8] = b"1 D\n1 I\n101 R\n201 ^M\n";
 
 /// What the sessions leave, in the order in which it is written.
 const LEFT: [(&str, &[u8]); 6] = [
@@ -87,6 +92,7 @@ fn filled(alloc: Global, blank: &[u8]) -> Result<MemoryStore, AllocError> {
 fn fill(store: &mut MemoryStore, blank: &[u8]) -> Result<(), AllocError> {
     put(store, "p.img", blank)?;
     put(store, "a.img", blank)?;
+    put(store, "typed.keys", FIRST)?;
     put(store, "waits.keys", WAITS)?;
     put(store, "forked.keys", FORKED)
 }
@@ -95,6 +101,7 @@ fn fill(store: &mut MemoryStore, blank: &[u8]) -> Result<(), AllocError> {
 fn are_as_filled(store: &MemoryStore, blank: &[u8]) -> bool {
     holds(store, "p.img", blank)
         && holds(store, "a.img", blank)
+        && holds(store, "typed.keys", FIRST)
         && holds(store, "waits.keys", WAITS)
         && holds(store, "forked.keys", FORKED)
 }
@@ -105,7 +112,7 @@ fn run_over(alloc: Global, config: &Config, store: &mut MemoryStore, blank: &[u8
         stops_idle: true,
         records: &RECORDS,
     };
-    let mut input: &[u8] = KEYS;
+    let mut typed = KeyReader::new(KEYS);
     let mut out = Counter { count: 0 };
     let mut lines = Counter { count: 0 };
     let answer = run_host(
@@ -113,14 +120,16 @@ fn run_over(alloc: Global, config: &Config, store: &mut MemoryStore, blank: &[u8
         config,
         options,
         store,
-        &mut input,
+        &mut typed,
         &mut out,
         &mut lines,
         &mut NoWatcher,
     );
     let is_right = are_in_order(store, &LEFT) && are_as_filled(store, blank);
     let is_whole = store.file("forked.rec").is_some();
-    let is_typed = out.count == SHOWN.len() && lines.count == TYPED.len() && input.is_empty();
+    let is_typed = out.count == SHOWN.len()
+        && lines.count == TYPED.len()
+        && typed.into_input().is_empty();
     match answer {
         Ok(_) => CallOutcome::made_if(is_right && is_whole && is_typed),
         Err(RunError::OutOfMemory) => CallOutcome::refused_if(is_right && !is_whole),

@@ -2,7 +2,7 @@
 
 use crate::CallOutcome;
 use cpm_asm::{AsmErrorKind, assemble};
-use cpm_host::{Config, ConfigError, ScriptError, UsageError, command, read_keys};
+use cpm_host::{Config, ConfigError, ScriptError, UsageError, command, read_keys, read_recording};
 use std::alloc::Global;
 
 /// A program that prints a letter and returns.
@@ -37,6 +37,9 @@ console = \"two.txt\"
 /// What is typed at the first session.
 pub const KEYS: &[u8] = b"# a comment\n0 DIR^M\n";
 
+/// What was recorded of a session.
+const LINES: &[u8] = b"100 D\n200 I\n300 R\n400 ^M\n500 D\n600 I\n700 R\n800 ^M\n";
+
 pub fn command_line(alloc: Global) -> CallOutcome {
     let words = [
         "cpmhost", "com", "a.com", "--z80", "--steps", "7", "--keys", "a.keys",
@@ -66,6 +69,14 @@ pub fn configuration(alloc: Global) -> CallOutcome {
 pub fn key_script(alloc: Global) -> CallOutcome {
     match read_keys(alloc, KEYS) {
         Ok(_) => CallOutcome::Made,
+        Err(ScriptError::OutOfMemory) => CallOutcome::Refused,
+        Err(_) => CallOutcome::Wrong,
+    }
+}
+
+pub fn recording(alloc: Global) -> CallOutcome {
+    match read_recording(alloc, LINES) {
+        Ok(keys) => CallOutcome::made_if(keys.len() == 8),
         Err(ScriptError::OutOfMemory) => CallOutcome::Refused,
         Err(_) => CallOutcome::Wrong,
     }

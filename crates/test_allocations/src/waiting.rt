@@ -3,11 +3,26 @@
 use crate::CallOutcome;
 use crate::commands::{Counter, start};
 use crate::texts::SOURCE;
-use cpm_host::{CuedKeys, HostError, NoWatcher, Source, cues_of, run_asm_listed, run_program};
+use cpm_host::{
+    CuedKeys, HostError, KeyReader, NoWatcher, PlayEnd, ProgramStart, Source, cues_of,
+    run_asm_listed, run_program,
+};
 use std::alloc::{AllocError, Global};
 
 /// A line of the command processor, and a key once its prompt is shown again.
 const WAITS: &[u8] = b"wait DIR^M\nexpect \"A>\" B\n";
+
+/// Reads keys up to a return.
+const READS: &[u8] = &[
+    0x0E, 0x01, 0xCD, 0x05, 0x00, 0xFE, 0x0D, 0xC2, 0x00, 0x01, 0xC9,
+];
+
+/// The first key of that program, the others, which are typed, and how many bytes are recorded of the first of them all.
+const FIRST: &[u8] = b"wait A\n";
+
+const OTHERS: &[u8] = b"bcdef\r";
+
+const RECORDED: [usize; 8] = [0, 4, 8, 13, 18, 23, 28, 34];
 
 /// A key before the program ends, and one once a text is shown that the program doesn't show.
 const EXPECTS: &[u8] = b"2 A\nexpect \"B\" C\n";
@@ -30,7 +45,7 @@ pub fn program(alloc: Global) -> Result<CallOutcome, AllocError> {
         waits_from: 0,
         stops_idle: true,
     });
-    let mut input: &[u8] = &[];
+    let nothing: &[u8] = &[];
     let mut out = Counter { count: 0 };
     let mut record = Counter { count: 0 };
     let played = run_program(
@@ -38,7 +53,7 @@ pub fn program(alloc: Global) -> Result<CallOutcome, AllocError> {
         start,
         100,
         source,
-        &mut input,
+        &mut KeyReader::new(nothing),
         &mut out,
         &mut record,
         &mut NoWatcher,
@@ -51,6 +66,40 @@ pub fn program(alloc: Global) -> Result<CallOutcome, AllocError> {
         Err(HostError::OutOfMemory) => {
             CallOutcome::refused_if((record.count > 0) == (out.count > 0))
         }
+        _ => CallOutcome::Wrong,
+    })
+}
+
+/// A program that is typed at behind its script. It echoes each key before the next one is read.
+pub fn program_typed_at(alloc: Global) -> Result<CallOutcome, AllocError> {
+    let start = ProgramStart {
+        program: Vec::from_slice(alloc, READS)?,
+        ..start(alloc)?
+    };
+    let Ok(cues) = cues_of(alloc, "first.keys", FIRST) else {
+        return Err(AllocError);
+    };
+    let source = Source::Typed {
+        cues: cues.as_slice(),
+    };
+    let mut out = Counter { count: 0 };
+    let mut record = Counter { count: 0 };
+    let played = run_program(
+        alloc,
+        start,
+        100,
+        source,
+        &mut KeyReader::new(OTHERS),
+        &mut out,
+        &mut record,
+        &mut NoWatcher,
+    );
+    let is_right = RECORDED.get(out.count) == Some(&record.count);
+    Ok(match played {
+        Ok(played) if played.ending.count == 44 && out.count == 7 => {
+            CallOutcome::made_if(is_right && played.end == Some(PlayEnd::Ended))
+        }
+        Err(HostError::OutOfMemory) => CallOutcome::refused_if(is_right && out.count < 7),
         _ => CallOutcome::Wrong,
     })
 }

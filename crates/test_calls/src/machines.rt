@@ -8,7 +8,7 @@ use cpm_flags::Cpu;
 use cpm_geom::{Format, Image};
 use cpm_machine::{Machine, OpenError, Opening, Tail};
 use cpm_memory::FrameStore;
-use cpm_play::{LiveError, play_live};
+use cpm_play::{KeyReader, LiveError, Typist, play_live};
 use cpm_slots::{ForkError, Host, SlotId};
 use std::alloc::Global;
 use std::io;
@@ -207,16 +207,16 @@ fn reading(alloc: Global) -> Result<Machine, Fail>
 }
 
 /// The kind of the error with which a session of two keys ends, and whose it is.
-fn fault<I: Read, W: Write, S: Write>(
+fn fault<T: Typist, W: Write, S: Write>(
     alloc: Global,
-    input: &mut I,
+    typist: &mut T,
     out: &mut W,
     record: &mut S,
 ) -> Result<(&'static str, Option<ErrorKind>), Fail> {
     let system = blank(alloc)?;
     let mut machine = reading(alloc)?;
     Ok(
-        match play_live(alloc, &system, &mut machine, 100, 10, input, out, record) {
+        match play_live(alloc, &system, &mut machine, 100, &[], typist, out, record) {
             Ok(_) => ("played", None),
             Err(LiveError::Unreadable(error)) => ("unreadable", Some(error.kind())),
             Err(LiveError::Unwritable(error)) => ("unwritable", Some(error.kind())),
@@ -230,8 +230,10 @@ fn fault<I: Read, W: Write, S: Write>(
 fn a_live_session_names_what_failed(rt: HostRuntime) -> Result<(), Fail> {
     let mut text = Vec::new(rt.alloc());
     let mut lines = Vec::new(rt.alloc());
-    let mut typed: &[u8] = b"ab";
-    let found = fault(rt.alloc(), &mut FailingConsole, &mut text, &mut lines)?;
+    let keys: &[u8] = b"ab";
+    let mut typed = KeyReader::new(keys);
+    let mut dead = KeyReader::new(FailingConsole);
+    let found = fault(rt.alloc(), &mut dead, &mut text, &mut lines)?;
     same(&rt, found, ("unreadable", Some(ErrorKind::BrokenPipe)));
     same(&rt, text.len(), 0);
     same(&rt, lines.len(), 0);

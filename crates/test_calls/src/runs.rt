@@ -5,8 +5,9 @@ use cpm_asm::AsmErrorKind;
 use cpm_flags::Cpu;
 use cpm_geom::{Format, Image};
 use cpm_host::{
-    Config, DebugError, HostError, MOST_FILE, MemoryStore, NoWatcher, Origin, Page, RunOptions,
-    Store, UsageError, UsageFault, UsageRefusal, read_whole, run_debug, run_host, shown,
+    Config, DebugError, HostError, KeyReader, MOST_FILE, MemoryStore, NoWatcher, Origin, Page,
+    RunOptions, Store, UsageError, UsageFault, UsageRefusal, read_whole, run_debug, run_host,
+    shown,
 };
 use cpm_machine::OpenError;
 use std::io;
@@ -245,7 +246,8 @@ fn is_refused(rt: &(impl Abort + AllocGlobal), config: &Config) {
         stops_idle: false,
         records: &[],
     };
-    let mut input: &[u8] = b"DIR\r";
+    let keys: &[u8] = b"DIR\r";
+    let mut typed = KeyReader::new(keys);
     let mut out: Vec<u8> = Vec::new(rt.alloc());
     let mut lines: Vec<u8> = Vec::new(rt.alloc());
     match run_host(
@@ -253,7 +255,7 @@ fn is_refused(rt: &(impl Abort + AllocGlobal), config: &Config) {
         config,
         options,
         &mut store,
-        &mut input,
+        &mut typed,
         &mut out,
         &mut lines,
         &mut NoWatcher,
@@ -261,7 +263,7 @@ fn is_refused(rt: &(impl Abort + AllocGlobal), config: &Config) {
         Ok(_) => panic!(rt; "run"),
         Err(error) => same(rt, error.code().status(), 2),
     }
-    same(rt, input.len(), 4);
+    same(rt, typed.into_input().len(), 4);
     same(rt, out.len(), 0);
     assert!(rt; store.file("one.txt").is_none());
 }

@@ -3,8 +3,8 @@
 use crate::same::same;
 use cpm_geom::{Format, Image};
 use cpm_host::{
-    Config, MemoryStore, NoWatcher, Progress, RunOptions, RunStage, RunWatcher, Store, Watcher,
-    run_host,
+    Config, KeyReader, MemoryStore, NoWatcher, Progress, RunOptions, RunStage, RunWatcher, Store,
+    Typist, Watcher, run_host,
 };
 use std::io;
 use std::io::{Read, Write};
@@ -90,9 +90,9 @@ fn config(rt: &(impl Abort + AllocGlobal)) -> Config {
 }
 
 /// Fails unless a run at which one types is refused so, before it writes a file.
-fn is_refused<I: Read, W: Write, R: Write>(
+fn is_refused<P: Typist, W: Write, R: Write>(
     rt: &(impl Abort + AllocGlobal),
-    input: &mut I,
+    typist: &mut P,
     out: &mut W,
     lines: &mut R,
     status: u8,
@@ -112,7 +112,7 @@ fn is_refused<I: Read, W: Write, R: Write>(
         &config,
         options,
         &mut store,
-        input,
+        typist,
         out,
         lines,
         &mut NoWatcher,
@@ -134,17 +134,20 @@ fn a_run_names_the_stream_that_failed(rt: HostRuntime) {
     let mut text: Vec<u8> = Vec::new(rt.alloc());
     let mut lines: Vec<u8> = Vec::new(rt.alloc());
     let wanted = "HO4 can't read standard input: the line is dead";
-    is_refused(&rt, &mut DeadLine, &mut text, &mut lines, 4, wanted);
+    let mut dead = KeyReader::new(DeadLine);
+    is_refused(&rt, &mut dead, &mut text, &mut lines, 4, wanted);
     same(&rt, text.as_slice(), b"\r\nA>".as_slice());
     same(&rt, lines.len(), 0);
-    let mut typed: &[u8] = b"ab";
+    let keys: &[u8] = b"ab";
+    let mut typed = KeyReader::new(keys);
     let wanted = "HO5 can't write to standard output: the line is dead";
     is_refused(&rt, &mut typed, &mut DeadLine, &mut lines, 5, wanted);
     same(&rt, lines.len(), 0);
-    same(&rt, typed.len(), 2);
+    same(&rt, typed.into_input().len(), 2);
+    let mut typed = KeyReader::new(keys);
     let wanted = "HO5 can't write the record of the keys: the line is dead";
     is_refused(&rt, &mut typed, &mut text, &mut DeadLine, 5, wanted);
-    same(&rt, typed.len(), 1);
+    same(&rt, typed.into_input().len(), 1);
 }
 
 /// The session that is typed at is played first, then each that waits, and at last all.
@@ -154,7 +157,8 @@ fn a_watcher_is_told_what_begins(rt: HostRuntime) {
     let mut store = filled(&rt);
     let mut text: Vec<u8> = Vec::new(rt.alloc());
     let mut lines: Vec<u8> = Vec::new(rt.alloc());
-    let mut typed: &[u8] = b"a";
+    let keys: &[u8] = b"a";
+    let mut typed = KeyReader::new(keys);
     let mut stages = Stages {
         begun: Vec::new(rt.alloc()),
     };

@@ -6,6 +6,7 @@ mod look;
 mod machines;
 mod playing;
 mod shown;
+mod timed_typist;
 
 pub use hosts::Hosts;
 pub use machines::Machines;

@@ -8,6 +8,7 @@ use crate::shown::{TakenBytes, room};
 use cpm_flags::Cpu;
 use cpm_geom::{Format, Image};
 use cpm_machine::{Machine, OpenError, Opening, Tail};
+use cpm_play::PlayEnd;
 use std::alloc::{AllocError, Global};
 use test_images::Images;
 use test_language::{RowAnswer, RowFault, RowLine, Scene, Word, address, bytes_of, count, number};
@@ -41,10 +42,14 @@ pub struct Machines {
 pub struct Play {
     pub waits_from: u64,
     pub stops_idle: bool,
+    /// What is played before who types.
+    pub script: Vec<u8>,
     pub steps: u64,
     pub text: Vec<u8>,
     pub record: Vec<u8>,
     pub left: Vec<u8>,
+    /// Why it ended, where one typed.
+    pub end: Option<PlayEnd>,
 }
 
 impl Play {
@@ -53,10 +58,12 @@ impl Play {
         Play {
             waits_from: 0,
             stops_idle: false,
+            script: Vec::new(alloc),
             steps: 0,
             text: Vec::new(alloc),
             record: Vec::new(alloc),
             left: Vec::new(alloc),
+            end: None,
         }
     }
 }
@@ -112,12 +119,20 @@ impl Scene for Machines {
     fn is_alone(verb: &str) -> bool {
         matches!(
             verb,
-            "step" | "finish" | "alike" | "shown" | "recorded" | "left" | "replay" | "stops-idle"
+            "step"
+                | "finish"
+                | "alike"
+                | "shown"
+                | "recorded"
+                | "left"
+                | "replay"
+                | "stops-idle"
+                | "live-end"
         )
     }
 
     fn takes_text(verb: &str) -> bool {
-        matches!(verb, "live" | "play")
+        matches!(verb, "live" | "play" | "script")
     }
 
     fn act(&mut self, alloc: Global, line: &RowLine<'_>) -> Result<RowAnswer, RowFault> {

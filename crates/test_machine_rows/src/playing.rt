@@ -1,21 +1,26 @@
 //! Machines that are played: by keys that are typed, by a script that may wait, and by what was recorded.
 
 use crate::machines::{MachineParts, Machines};
+use crate::timed_typist::TimedTypist;
 use cpm_geom::Image;
 use cpm_machine::Machine;
-use cpm_play::{CuedKeys, LivePlay, NoWatcher, play_cues, play_live};
+use cpm_play::{
+    CuedKeys, KeyReader, LivePlay, NoWatcher, PlayEnd, TypedPlay, TypingEnd, Typist, play_cues,
+    play_live,
+};
 use cpm_script::laws::cues_in_order;
 use cpm_script::read_cues;
 use std::alloc::Global;
-use test_language::{RowAnswer, RowFault, RowLine, Word, count, number};
+use test_language::{RowAnswer, RowFault, RowLine, Word, number};
 
-/// A machine that was played, what it showed and the record of its keys.
+/// A machine that was played, what it showed and the record of its keys, and why that ended where one typed.
 #[derive(Drop)]
 struct PlayedMachine {
     machine: Machine,
     text: Vec<u8>,
     record: Vec<u8>,
     steps: u64,
+    end: Option<PlayEnd>,
 }
 
 impl Machines {
@@ -23,7 +28,17 @@ impl Machines {
     pub fn is_of_play(&self, verb: &str) -> bool {
         matches!(
             verb,
-            "waits-from" | "stops-idle" | "play" | "live" | "replay" | "shown" | "recorded" | "left"
+            "waits-from"
+                | "stops-idle"
+                | "script"
+                | "play"
+                | "live"
+                | "listen"
+                | "live-end"
+                | "replay"
+                | "shown"
+                | "recorded"
+                | "left"
         )
     }
 
@@ -42,7 +57,13 @@ impl Machines {
                 let script = line.given(alloc, script)?;
                 self.play(alloc, number(*steps)?, script.as_slice())
             }
+            ("script", script) => {
+                self.play.script = line.given(alloc, script)?;
+                Ok(RowAnswer::Done)
+            }
             ("live", arguments) => self.live(alloc, line, arguments),
+            ("listen", arguments) => self.listen(alloc, arguments),
+            ("live-end", []) => self.live_end(alloc),
             ("replay", []) => self.replay(alloc),
             ("shown", []) => RowAnswer::bytes(alloc, self.play.text.as_slice()),
             ("recorded", []) => RowAnswer::bytes(alloc, self.play.record.as_slice()),
@@ -58,11 +79,13 @@ impl Machines {
             text,
             record,
             steps,
+            end,
         } = played;
         self.put(machine);
         self.play.text = text;
         self.play.record = record;
         self.play.steps = steps;
+        self.play.end = end;
         RowAnswer::words(alloc, steps)
     }
 
@@ -83,31 +106,60 @@ impl Machines {
         self.keep(alloc, played?)
     }
 
-    /// `live STEPS KEYS BYTES`.
+    /// `live STEPS BYTES`: by the script, if there is one, and then by these bytes, which are read where a key is wanted.
     fn live(
         &mut self,
         alloc: Global,
         line: &RowLine<'_>,
         arguments: &[Word<'_>],
     ) -> Result<RowAnswer, RowFault> {
-        let [steps, keys, typed @ ..] = arguments else {
+        let [steps, typed @ ..] = arguments else {
             return Err(RowFault::Words);
         };
-        let Some(start) = &self.start else {
-            return Err(RowFault::Absent);
-        };
         let typed = line.given(alloc, typed)?;
-        let mut input = typed.as_slice();
-        let played = by_keys(
-            alloc,
-            &self.system,
-            start,
-            number(*steps)?,
-            count(*keys)?,
-            &mut input,
-        )?;
-        self.play.left = Vec::from_slice(alloc, input)?;
+        let mut reader = KeyReader::new(typed.as_slice());
+        let played = self.by_typist(alloc, number(*steps)?, &mut reader)?;
+        self.play.left = Vec::from_slice(alloc, reader.into_input())?;
         self.keep(alloc, played)
+    }
+
+    /// `listen STEPS HEARING..`: by the script, if there is one, and then by one who types at these counts.
+    fn listen(&mut self, alloc: Global, arguments: &[Word<'_>]) -> Result<RowAnswer, RowFault> {
+        let [steps, hearings @ ..] = arguments else {
+            return Err(RowFault::Words);
+        };
+        let mut typist = TimedTypist::of(alloc, hearings)?;
+        let played = self.by_typist(alloc, number(*steps)?, &mut typist)?;
+        self.play.left = typist.left(alloc)?;
+        self.keep(alloc, played)
+    }
+
+    /// `live-end`: why the last play ended at which one typed.
+    fn live_end(&self, alloc: Global) -> Result<RowAnswer, RowFault> {
+        match self.play.end {
+            Some(end) => RowAnswer::words(alloc, end_word(end)),
+            None => Err(RowFault::Absent),
+        }
+    }
+
+    /// Plays a machine by the script and then by a typist.
+    fn by_typist<T: Typist>(
+        &self,
+        alloc: Global,
+        steps: u64,
+        typist: &mut T,
+    ) -> Result<PlayedMachine, RowFault> {
+        match &self.start {
+            Some(start) => typed_at(
+                alloc,
+                &self.system,
+                start,
+                steps,
+                self.play.script.as_slice(),
+                typist,
+            ),
+            None => Err(RowFault::Absent),
+        }
     }
 
     /// `replay`: the machine from its beginning by what was recorded. What it shows.
@@ -166,38 +218,56 @@ fn by_script(
         text,
         record,
         steps,
+        end: None,
     })
 }
 
-/// Plays a machine by keys that are typed.
-fn by_keys(
+/// Plays a machine by a script and then by a typist.
+fn typed_at<T: Typist>(
     alloc: Global,
     system: &Image,
     start: &MachineParts,
     steps: u64,
-    most_keys: usize,
-    input: &mut &[u8],
+    script: &[u8],
+    typist: &mut T,
 ) -> Result<PlayedMachine, RowFault> {
+    let Ok(cues) = read_cues(alloc, script) else {
+        return Err(RowFault::Unready);
+    };
     let Ok(mut machine) = start.machine(alloc)? else {
         return Err(RowFault::Unready);
     };
+    cues_in_order();
+    let cues = cues.as_slice();
     let (mut text, mut record) = (Vec::new(alloc), Vec::new(alloc));
     match play_live(
         alloc,
         system,
         &mut machine,
         steps,
-        most_keys,
-        input,
+        cues,
+        typist,
         &mut text,
         &mut record,
     ) {
-        Ok(LivePlay { steps, .. }) => Ok(PlayedMachine {
+        Ok(TypedPlay { live, end }) => Ok(PlayedMachine {
             machine,
             text,
             record,
-            steps,
+            steps: live.steps,
+            end: Some(end),
         }),
         Err(_) => Err(RowFault::OutOfMemory),
+    }
+}
+
+/// Why a play ended, as a word.
+fn end_word(end: PlayEnd) -> &'static str {
+    match end {
+        PlayEnd::Steps => "steps",
+        PlayEnd::Ended => "ended",
+        PlayEnd::Typing(TypingEnd::Quit) => "quit",
+        PlayEnd::Typing(TypingEnd::InputEnd) => "input-end",
+        PlayEnd::Typing(TypingEnd::Signal) => "signal",
     }
 }

@@ -21,7 +21,7 @@ pub(crate) struct Asked {
 
 /// What a run showed of the session that was typed at, the record of its keys, and what was typed and not read.
 #[derive(Drop)]
-pub(crate) struct Heard {
+pub(crate) struct TypingOutcome {
     pub(crate) shown: Vec<u8>,
     pub(crate) recorded: Vec<u8>,
     pub(crate) left: Vec<u8>,
@@ -45,10 +45,10 @@ pub(crate) fn stops_idle(words: &[Word<'_>]) -> Result<bool, RowFault> {
     }
 }
 
-impl Heard {
+impl TypingOutcome {
     /// Before a run, while nothing of what is typed was read.
-    pub(crate) fn before(alloc: Global, keys: &[u8]) -> Result<Heard, AllocError> {
-        Ok(Heard {
+    pub(crate) fn before(alloc: Global, keys: &[u8]) -> Result<TypingOutcome, AllocError> {
+        Ok(TypingOutcome {
             shown: Vec::new(alloc),
             recorded: Vec::new(alloc),
             left: Vec::from_slice(alloc, keys)?,

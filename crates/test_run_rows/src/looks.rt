@@ -2,7 +2,7 @@
 
 use crate::programs::Programs;
 use cpm_geom::Image;
-use cpm_host::ProgramPlay;
+use cpm_host::{PlayEnd, ProgramPlay, TypingEnd};
 use std::alloc::Global;
 use test_language::{RowAnswer, RowFault, RowLine, Word, count};
 
@@ -17,6 +17,7 @@ impl Programs {
             "at-pc" => RowAnswer::bytes(alloc, self.played()?.ending.at_pc.as_slice()),
             "pressed" => self.pressed(alloc, arguments),
             "ended" => RowAnswer::name(alloc, self.played()?.ending.ended),
+            "live-end" => self.live_end(alloc),
             "early" => RowAnswer::truth(alloc, self.played()?.steps < self.steps),
             _ => RowAnswer::truth(alloc, self.played()?.waits),
         }
@@ -49,6 +50,21 @@ impl Programs {
             Some(bytes) => RowAnswer::words(alloc, bytes),
             None => RowAnswer::words(alloc, "none"),
         }
+    }
+
+    /// `live-end`: why the last program ended at which one typed.
+    fn live_end(&self, alloc: Global) -> Result<RowAnswer, RowFault> {
+        let Some(end) = self.played()?.end else {
+            return Err(RowFault::Absent);
+        };
+        let word = match end {
+            PlayEnd::Steps => "steps",
+            PlayEnd::Ended => "ended",
+            PlayEnd::Typing(TypingEnd::Quit) => "quit",
+            PlayEnd::Typing(TypingEnd::InputEnd) => "input-end",
+            PlayEnd::Typing(TypingEnd::Signal) => "signal",
+        };
+        RowAnswer::words(alloc, word)
     }
 
     /// `pressed`: the keys that were pressed. `pressed N`: at which count the Nth was.

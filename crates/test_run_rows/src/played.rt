@@ -3,7 +3,7 @@
 use crate::programs::Programs;
 use cpm_geom::Image;
 use cpm_host::{
-    CuedKeys, HostError, MOST_KEYS, NoWatcher, ProgramPlay, ProgramStart, Source, cues_of,
+    CuedKeys, HostError, KeyReader, NoWatcher, ProgramPlay, ProgramStart, Source, cues_of,
     run_program,
 };
 use std::alloc::Global;
@@ -86,25 +86,20 @@ impl Programs {
         self.keep(alloc, outcome)
     }
 
-    /// `type BYTES`: these keys are typed at the program. How it ended.
+    /// `type BYTES`: the script is played, if there is one, and then these keys are typed at the program. How it ended.
     fn type_keys(&mut self, alloc: Global, line: &RowLine<'_>) -> Result<RowAnswer, RowFault> {
         let keys = line.given(alloc, line.arguments())?;
         let start = self.start(alloc)?;
         self.out.bytes.clear();
         self.record.clear();
-        let source = Source::Typed {
-            most_keys: MOST_KEYS,
-        };
-        let mut input = keys.as_slice();
-        let outcome = run_program(
+        let outcome = by_keys(
             alloc,
             start,
             self.steps,
-            source,
-            &mut input,
+            self.keys.as_slice(),
+            keys.as_slice(),
             &mut self.out,
             &mut self.record,
-            &mut NoWatcher,
         );
         self.keep(alloc, outcome)
     }
@@ -153,13 +148,41 @@ fn by_script<W: Write>(
         waits_from: 0,
         stops_idle,
     });
-    let mut nothing: &[u8] = &[];
+    let nothing: &[u8] = &[];
     run_program(
         alloc,
         start,
         steps,
         source,
-        &mut nothing,
+        &mut KeyReader::new(nothing),
+        out,
+        record,
+        &mut NoWatcher,
+    )
+}
+
+/// Runs a program by this script and then by the keys that are typed.
+fn by_keys<W: Write>(
+    alloc: Global,
+    start: ProgramStart,
+    steps: u64,
+    script: &[u8],
+    typed: &[u8],
+    out: &mut W,
+    record: &mut Vec<u8>,
+) -> Result<ProgramPlay, HostError> {
+    // (a program is judged before its script)
+    start.check()?;
+    let cues = cues_of(alloc, KEYS, script)?;
+    let source = Source::Typed {
+        cues: cues.as_slice(),
+    };
+    run_program(
+        alloc,
+        start,
+        steps,
+        source,
+        &mut KeyReader::new(typed),
         out,
         record,
         &mut NoWatcher,

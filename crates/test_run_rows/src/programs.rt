@@ -67,6 +67,7 @@ impl Scene for Programs {
                 | "early"
                 | "replay"
                 | "waits"
+                | "live-end"
         )
     }
 
@@ -90,9 +91,15 @@ impl Scene for Programs {
             | "steps"
             | "room"
             | "chunk" => self.give(alloc, line),
-            "shown" | "status" | "ended" | "illegal" | "at-pc" | "pressed" | "waits" | "early" => {
-                self.look(alloc, line)
-            }
+            "shown"
+            | "status"
+            | "ended"
+            | "illegal"
+            | "at-pc"
+            | "pressed"
+            | "waits"
+            | "early"
+            | "live-end" => self.look(alloc, line),
             "left" => self.left(alloc, line.arguments()),
             "asm" | "asm-listed" | "list" | "check" | "debug" => self.write(alloc, line),
             "com" | "type" | "replay" => self.play(alloc, line),

@@ -1,10 +1,10 @@
 //! The rows of runs: sessions of a configuration over files in memory.
 
-use crate::asked::{Asked, Heard, stops_idle};
+use crate::asked::{Asked, TypingOutcome, stops_idle};
 use crate::config::changed;
 use crate::given::{bytes_given, count_of};
 use cpm_geom::Image;
-use cpm_host::{Config, HostError, MemoryStore, NoWatcher, Report, Store, run_host};
+use cpm_host::{Config, HostError, KeyReader, MemoryStore, NoWatcher, Report, Store, run_host};
 use std::alloc::{AllocError, Global};
 use test_images::Images;
 use test_language::{RowAnswer, RowFault, RowLine, Scene, Word, number};
@@ -19,7 +19,7 @@ pub struct Runs {
     store: MemoryStore,
     config: String,
     asked: Asked,
-    heard: Heard,
+    heard: TypingOutcome,
     report: Report,
     status: u8,
 }
@@ -31,7 +31,7 @@ impl Scene for Runs {
             store: MemoryStore::new(alloc),
             config: String::new(alloc),
             asked: Asked::new(alloc),
-            heard: Heard::before(alloc, &[])?,
+            heard: TypingOutcome::before(alloc, &[])?,
             report: Report {
                 sessions: Vec::new(alloc),
                 idle: Vec::new(alloc),
@@ -82,24 +82,24 @@ fn run(
     asked: &Asked,
     stops_idle: bool,
     store: &mut MemoryStore,
-    heard: &mut Heard,
+    heard: &mut TypingOutcome,
 ) -> Result<Report, HostError> {
     let config = Config::read(alloc, config)?;
     let records = asked.records(alloc)?;
     let options = asked.options(records.as_slice(), stops_idle);
-    let mut input = asked.keys.as_slice();
+    let mut reader = KeyReader::new(asked.keys.as_slice());
     let (out, record) = (&mut heard.shown, &mut heard.recorded);
     let ran = run_host(
         alloc,
         &config,
         options,
         store,
-        &mut input,
+        &mut reader,
         out,
         record,
         &mut NoWatcher,
     );
-    heard.left = Vec::from_slice(alloc, input)?;
+    heard.left = Vec::from_slice(alloc, reader.into_input())?;
     Ok(ran?)
 }
 
@@ -227,7 +227,7 @@ impl Runs {
         length: usize,
         stops_idle: bool,
     ) -> Result<Result<Report, HostError>, RowFault> {
-        self.heard = Heard::before(alloc, self.asked.keys.as_slice())?;
+        self.heard = TypingOutcome::before(alloc, self.asked.keys.as_slice())?;
         let bytes = self.config.as_bytes();
         let config = &bytes[..length.min(bytes.len())];
         let (store, heard) = (&mut self.store, &mut self.heard);
