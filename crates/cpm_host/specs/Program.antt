@@ -22,7 +22,7 @@ use Rattle.cpm_machine.specs.Serve.{look_of}
 use Rattle.cpm_machine.specs.declared.opening.OpenError.TheVariants.{BadDrives}
 use Rattle.cpm_play.specs.Cued.{AreAscii, HasEndedCued, IsCued, IsCutOff, key_count}
 use Rattle.cpm_play.specs.Live.{AreGiven}
-use Rattle.cpm_play.specs.Playing.{alone_by, waits_at}
+use Rattle.cpm_play.specs.Playing.{IsFresh, alone_by, waits_at}
 use Rattle.cpm_play.specs.Sitting.{IsPlayCut, IsTypedPlay, sitting}
 use Rattle.cpm_play.specs.declared.cued.CuedKeys.{CuedKeys}
 use Rattle.cpm_play.specs.declared.live.LiveError.{LiveError}
@@ -134,6 +134,7 @@ pub record GivesKeysAgain (keys : List Key) : Type 0 where
 -- A machine was played by a script that may wait: the keys that came are those that the script gives to the machine run alone; what it left is that of the
 -- machine run alone by these keys, for so many steps; it ended as a script has it end; and their lines are a recording that gives them again.
 pub record IsRehearsed (system : Disk) (start : MachineState) (steps : ℕ) (c : CuedKeys) (t : ProgramPlay) : Type 0 where
+  pub fresh : IsFresh start
   pub within : t.steps ≤ steps
   pub keys : IsCued system start steps c.waits_from c.cues.now t.keys.items
   pub given : AreGiven (key_count c.cues.now) t.steps t.keys.items

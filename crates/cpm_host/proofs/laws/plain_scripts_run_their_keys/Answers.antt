@@ -20,7 +20,8 @@ returns c system start steps text keys cued t io reads says goes played =
     let said : map cue_text cued.cues.now ≡ map Counted keys = cc in
     let ends = subst (λ (b : Bool). HasEndedCued system start steps cued.waits_from b t.keys.items t.steps (alone_by system t.keys.items t.steps start)) goes rehearsed.ends in
     let same : IsSameRun (alone_by system keys steps start) (alone_by system t.keys.items t.steps start) =
-    c.plain_cues_do_as_their_keys.ensures system start steps cued.waits_from t.steps keys t.keys.items cued.cues.now said order.0 rehearsed.keys rehearsed.within ends in
+    c.plain_cues_do_as_their_keys.ensures system start steps cued.waits_from t.steps keys t.keys.items cued.cues.now said order.0
+    (c.few_keys_have_room.ensures system start keys rehearsed.fresh order.1) rehearsed.keys rehearsed.within ends in
     let now = same.ending in
     record {
       text = subst (λ (xs : List ℕ). Appends io.before io.written xs) same.screen played.text;

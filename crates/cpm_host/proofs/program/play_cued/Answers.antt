@@ -19,6 +19,7 @@ returns-clause-played g c =
     let given = c.in_ok-live.ensures.given in
     rw c.play_of.ensures (λ typing. record {
       rehearsed = record {
+        fresh = c.requires.fresh;
         within = c.in_ok-live.ensures.within;
         keys = c.in_ok-live.ensures.keys;
         given = given;
