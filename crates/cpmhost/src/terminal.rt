@@ -1,6 +1,7 @@
 //! Keys that are typed at a terminal which gives each as it comes, and which says at once where none came: as after `stty -icanon min 0 time 0`.
 
-ghost use Rattle.std.specs.Prelude.{◌<◌, IfSome, None, false};
+ghost use Rattle.std.specs.Prelude.{◌<◌, ◌≢◌, IfSome, None, false};
+ghost use Rattle.cpm_play.specs.Typing.{end_key};
 
 use crate::held::LockableFiles;
 use crate::patient::StandardInput;
@@ -13,9 +14,6 @@ use std::{fs, io};
 
 /// ^], which ends typing.
 const END_KEY: u8 = 0x1D;
-
-/// ^^. The key behind it is given as it is, ^] too.
-const PREFIX: u8 = 0x1E;
 
 /// How many keys are kept here at most. More stay with the terminal.
 const MOST_KEPT_KEYS: usize = 4096;
@@ -36,8 +34,6 @@ const MOST_WAIT: u64 = 40_000;
 #[derive(Drop)]
 struct TypedKeys {
     keys: ArrayVec<u8, MOST_KEPT_KEYS>,
-    /// Whether ^^ came last.
-    is_prefixed: bool,
     /// Why no more is typed.
     end: Option<TypingEnd>,
     /// When the last key was given, or that end came behind keys that were not.
@@ -48,7 +44,6 @@ impl TypedKeys {
     fn new() -> TypedKeys {
         TypedKeys {
             keys: ArrayVec::new(),
-            is_prefixed: false,
             end: None,
             since: 0,
         }
@@ -77,16 +72,11 @@ impl TypedKeys {
         if self.end.is_some() {
             return;
         }
-        match (self.is_prefixed, byte) {
-            (false, END_KEY) => self.take_end(TypingEnd::Quit, now),
-            (false, PREFIX) => self.is_prefixed = true,
-            _ => {
-                self.is_prefixed = false;
-                if byte.is_ascii() {
-                    // (there is room, since no more bytes are read)
-                    let _ = self.keys.try_push(byte);
-                }
-            }
+        if byte == END_KEY {
+            self.take_end(TypingEnd::Quit, now);
+        } else if byte.is_ascii() {
+            // (there is room, since no more bytes are read)
+            let _ = self.keys.try_push(byte);
         }
     }
 
@@ -102,11 +92,15 @@ impl TypedKeys {
 
     /// The next key.
     fn next(&mut self, now: u64) -> Option<u8>
-        ensures { IfSome result (λ byte. byte < 128) }
+        ensures { IfSome result (λ byte. (byte < 128) × (byte ≢ end_key)) }
     {
         let byte = self.keys.pop_at(0)?;
         self.since = now;
-        if byte.is_ascii() { Some(byte) } else { None }
+        if byte.is_ascii() && byte != END_KEY {
+            Some(byte)
+        } else {
+            None
+        }
     }
 }
 
@@ -146,7 +140,7 @@ impl<'a, R: LockableFiles + StandardInput> TerminalTypist<'a, R> {
         }
     }
 
-    /// Does what comes before a key is given to a machine that has executed so many steps: it keeps the pace, and takes what came. It says what the time is.
+    /// Does what comes before a key is given to a machine that has executed so many steps: keeps the pace, and takes what came. It says what the time is.
     fn prepare(&mut self, is_wanted: bool, count: u64) -> u64 {
         let mut now = micros(self.rt);
         if !is_wanted {
@@ -195,7 +189,7 @@ impl<'a, R: LockableFiles + StandardInput> TerminalTypist<'a, R> {
 
     /// The next key. Where one is wanted, and none came, it is waited a little.
     fn next(&mut self, is_wanted: bool, now: u64) -> Option<u8>
-        ensures { IfSome result (λ byte. byte < 128) }
+        ensures { IfSome result (λ byte. (byte < 128) × (byte ≢ end_key)) }
     {
         let key = self.typed.next(now);
         if key.is_some() || !is_wanted {
