@@ -1,7 +1,13 @@
-use Rattle.std.proofs.Common.{rules, ◌<◌, ◌≢◌, IfSome, None, false, ◌≡◌, ℕ, ◌+◌, ◌-◌, ◌*◌, ◌≤◌, length, ◌/◌, ◌%◌, Bool, true, nat_eq, nat_lt, List, [], ◌∷◌, ◌++◌, slice_index_or, slice_set, bit_and, bit_or, Fits, w8, w32, w64, Bor, MutBor}
-use Rattle.cpm_play.specs.Typing.{end_key}
+use Rattle.std.proofs.Common.{true≢false, refl, sym}
+use Rattle.cpmhost.proofs.TerminalLemmas.{terminal_fits, terminal_key}
 use Rattle.cpmhost.proofs.terminal.TerminalTypistTypist.hear.Goals as goal
 
--- src/terminal.rt:225:5
 pub returns-in-Some-next : goal.returns-in-Some-next
-returns-in-Some-next g c = ?
+returns-in-Some-next g c = record {
+  heard = terminal_key c.args.count c.in-Some-next.byte c.in-Some-next.ensures;
+  fits = terminal_fits c.args.need c.in-Some-next.byte c.in-Possible.is;
+  patient = λ e. absurd (true≢false (sym e));
+  nature = refl;
+  none = tt;
+  early = λ e. tt;
+}
