@@ -27,13 +27,15 @@ use Rattle.cpm_store.proofs.LogLemmas.{ran_more, ran_one}
 use Rattle.cpm_store.specs.Files.{StoreName}
 use Rattle.cpm_store.specs.Log.{StoreAccess, Gave, LogLeadsBy, Wrote, writes_of}
 use Rattle.cpm_store.specs.Writes.{NamedBytes}
-use Rattle.cpm_commands.specs.Com.{AreCuesRead, AreDrivesRead, com_outputs, drive_outputs, plan_of_com}
+use Rattle.cpm_commands.specs.Com.{AreCuesRead, AreDrivesRead, AreKeysReadBy, AreRecordedRead, com_outputs, drive_outputs, plan_of_com}
 use Rattle.cpm_commands.specs.Laws.{IsAsPlanned, IsPlanned, ProgramsFollowPlans, RunsFollowPlans}
 use Rattle.cpm_commands.specs.Plan.{Plan, PlannedName, all_planned, planned_if_any}
+use Rattle.cpm_play.specs.Typist.{TypingState}
+use Rattle.cpm_play.specs.declared.live.PlayEnd.{PlayEnd}
 use Rattle.cpm_run.specs.declared.ending.Ending.{Ending}
 use Rattle.cpm_run.specs.declared.report.SessionReport.{SessionReport}
 use Rattle.cpm_commands.specs.Run.{HasRunAll, drives_named, images_named, plan_by, record_mark, record_marks, session_inputs, session_outputs}
-use Rattle.cpm_commands.specs.Typed.{is_typed_at, without_script}
+use Rattle.cpm_commands.specs.Typed.{is_typed_at}
 use Rattle.cpm_commands.specs.declared.plan.FileRole.{FileRole}
 use Rattle.cpm_commands.specs.declared.plan.FileRole.TheVariants.{Image, Plain, Script}
 
@@ -144,32 +146,6 @@ module _ (P : StoreName → Type 0) where
   drives_such role (name ∷ names) (d ∷ drives) such =
       files_joined (named_image (Some name) d) (drive_outputs names drives) (image_such role (Some name) d (such.0, tt)) (drives_such role names drives such.1)
 
-  -- ---- without the script of the session that is typed at
-
-  heard_input : (b : Bool) (s : SessionConfig) → AreSuch (session_inputs s) → AreSuch (session_inputs (if b then record s { keys = None } else s))
-  heard_input false s such = such
-  heard_input true s such =
-      let drives = all_planned Image (drives_named s.origin) in
-      such_both drives [] (such_left drives (planned_if_any Plain (option_map string_bytes s.keys)) such) tt
-
-  pub heard_inputs : (typed : Option StoreName) (ss : List SessionConfig) → AreSuch (flat_map session_inputs ss) → AreSuch (flat_map session_inputs (map (without_script typed) ss))
-  heard_inputs typed [] such = tt
-  heard_inputs typed (s ∷ ss) such =
-      let rest = flat_map session_inputs ss in
-      such_both (session_inputs (without_script typed s)) _ (heard_input (is_typed_at typed s) s (such_left (session_inputs s) rest such))
-      (heard_inputs typed ss (such_right (session_inputs s) rest such))
-
-  heard_output : (b : Bool) (s : SessionConfig) → AreSuch (session_outputs s) → AreSuch (session_outputs (if b then record s { keys = None } else s))
-  heard_output false s such = such
-  heard_output true s such = such
-
-  pub heard_outputs : (typed : Option StoreName) (ss : List SessionConfig) → AreSuch (flat_map session_outputs ss) → AreSuch (flat_map session_outputs (map (without_script typed) ss))
-  heard_outputs typed [] such = tt
-  heard_outputs typed (s ∷ ss) such =
-      let rest = flat_map session_outputs ss in
-      such_both (session_outputs (without_script typed s)) _ (heard_output (is_typed_at typed s) s (such_left (session_outputs s) rest such))
-      (heard_outputs typed ss (such_right (session_outputs s) rest such))
-
 -- what is planned is among what is planned
 such_itself : (ps : List PlannedName) → AreSuch (IsPlanned ps) ps
 such_itself ps = such_names (IsPlanned ps) ps (All-contains_itself (map (λ p. p.name) ps))
@@ -251,15 +227,13 @@ run_calls does tells_name task config scripts report io old new h =
     let kind = calls.1 in
     let ins = such_itself plan.inputs in
     let outs = such_itself plan.outputs in
-    let drive = subst (λ (name : String Global). I (string_bytes name)) (sym h.hears.system) ins.1.0 in
-    let inputs = subst (λ (ss : List SessionConfig). AreSuch I (flat_map session_inputs ss)) (sym h.hears.sessions) (heard_inputs I typed config.sessions.items ins.1.1) in
-    let read = all_read plan h.heard parts.system parts.inputs kind.first kind.begins drive inputs in
-    let sessions = settled_sessions parts.system h.options.stops_idle parts.typed h.heard.sessions.items [] parts.inputs parts.settled h.accessed.played.keys ∙ kind.begins.sessions in
+    let read = all_read plan config parts.system parts.inputs kind.first kind.begins ins.1.0 ins.1.1 in
+    let sessions = settled_sessions parts.system h.options.stops_idle parts.typed config.sessions.items [] parts.inputs parts.settled h.accessed.played.keys ∙ kind.begins.sessions in
     let all = flat_map session_outputs config.sessions.items in
     let recorded_to = planned_if_any Plain (option_map (λ n. n.now) task.record) in
     let named = all_planned Script (map string_bytes scripts) in
-    let outputs = subst (λ (ss : List SessionConfig). AreSuch O (flat_map session_outputs ss)) (sym (sessions ∙ h.hears.sessions))
-    (heard_outputs O typed config.sessions.items (such_left O all (recorded_to ++ named) outs)) in
+    let outputs = subst (λ (ss : List SessionConfig). AreSuch O (flat_map session_outputs ss)) (sym sessions)
+    (such_left O all (recorded_to ++ named) outs) in
     let files = left_such O (run_of parts.system parts.settled) parts.settled outputs in
     let records = records_such O (is_some h.asked.kept) typed h.options.records.now parts.settled config.sessions.items scripts h.asked.records
     (such_right O recorded_to named (such_right O all (recorded_to ++ named) outs)) in
@@ -307,22 +281,35 @@ module _ {F : Type 0} (does : F → StoreAccess → F → Type 0) (plan : Plan) 
   cues_led None said s t h such = ([], All-nil (IsAsPlanned plan), sym h.1)
   cues_led (Some name) said s t h such = led_by name h.0 s t such.0 h.1
 
+  recorded_led : (name : Option StoreName) (said : List Cue) (s t : F) → AreRecordedRead does name s t said → AreInputs plan (planned_if_any Plain name) → IsLed s t
+  recorded_led None said s t h such = ([], All-nil (IsAsPlanned plan), sym h.1)
+  recorded_led (Some name) said s t h such = led_by name h.0 s t such.0 h.1
+
+  keys_led : (keys replay : Option StoreName) (said : List Cue) (s t : F) → AreKeysReadBy does keys replay s t said
+      → AreInputs plan (planned_if_any Plain keys ++ planned_if_any Plain replay) → IsLed s t
+  keys_led None replay said s t h such = recorded_led replay said s t h such
+  keys_led (Some name) replay said s t h such = cues_led (Some name) said s t h (such.0, tt)
+
 pub programs_follow : {F : Type 0} (does : F → StoreAccess → F → Type 0) (sees_to : F → Plan → Option HostError → F → Type 0) (gives_names : F → Option HostError → F → Type 0)
-    (ended : Option HostError → Type 0) (told : Ending → (waits : Bool) → Type 0) → ProgramsFollowPlans does sees_to gives_names ended told
-programs_follow does sees_to gives_names ended told task io old new h =
+    (ended : Option HostError → Type 0) (told : Ending → (waits : Bool) → Option PlayEnd → Type 0) → ProgramsFollowPlans does sees_to gives_names ended told
+programs_follow does sees_to gives_names ended told task io old new status h =
     let plan = plan_of_com task in
     let I = IsPlanned plan.inputs in
     let O = IsPlanned plan.outputs in
     let ins = such_itself plan.inputs in
     let names = map (λ n. n.now) task.drives.items in
     let keys = option_map (λ n. n.now) task.keys in
+    let replay = option_map (λ n. n.now) task.replay in
     let outs = map (λ n. n.now) task.outs.items in
-    let r = h.reads in
+    let r = h.played.reads in
     let drives = all_planned Image names in
     let script = planned_if_any Plain keys in
-    let start = led_by does plan task.file.now h.g.program r.seen r.start.between ins.0 r.start.read in
-    let disks = drives_led does plan names h.g.drives r.start.between r.started r.start.drives (such_left I drives script ins.1) in
-    let said = cues_led does plan keys h.said r.started h.read r.script (such_right I drives script ins.1) in
+    let recording = planned_if_any Plain replay in
+    let first = such_left I (drives ++ script) recording ins.1 in
+    let start = led_by does plan task.file.now h.played.g.program r.seen r.start.between ins.0 r.start.read in
+    let disks = drives_led does plan names h.played.g.drives r.start.between r.started r.start.drives (such_left I drives script first) in
+    let said = keys_led does plan keys replay h.played.said r.started h.read r.keys
+    (such_both I script recording (such_right I drives script first) (such_right I (drives ++ script) recording ins.1)) in
     let recorded_to = planned_if_any Plain (option_map (λ n. n.now) task.record) in
     let files = drives_such O Image outs h.play.drives (such_left O (all_planned Image outs) recorded_to (such_itself plan.outputs)) in
     let wrote : IsLed does plan h.read h.written = (h.wrote.0, all_written plan (com_outputs task h.play) h.wrote.0 h.wrote.1 files, h.wrote.2) in

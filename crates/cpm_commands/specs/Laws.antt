@@ -5,6 +5,8 @@ use Rattle.cpm_command_line.specs.declared.task.ComTask.{ComTask}
 use Rattle.cpm_command_line.specs.declared.task.RunTask.{RunTask}
 use Rattle.cpm_config.specs.declared.config.Config.{Config}
 use Rattle.cpm_host.specs.declared.error.HostError.{HostError}
+use Rattle.cpm_play.specs.Typist.{TypingState}
+use Rattle.cpm_play.specs.declared.live.PlayEnd.{PlayEnd}
 use Rattle.cpm_run.specs.Settled.{Streams}
 use Rattle.cpm_run.specs.declared.ending.Ending.{Ending}
 use Rattle.cpm_run.specs.declared.report.SessionReport.{SessionReport}
@@ -37,13 +39,13 @@ pub record FollowsPlan {F : Type 0} (does : F → StoreAccess → F → Type 0) 
 abbrev pub RunsFollowPlans : {F : Type 0} → (F → StoreAccess → F → Type 0) → (F → Plan → Option HostError → F → Type 0)
     → (F → Option HostError → F → Type 0) → (F → StoreName → Bool → Type 0) → (Option HostError → Type 0) → (List SessionReport → Type 0) → Type 0
 RunsFollowPlans {F} does sees_to gives_names tells_name ended told =
-    (task : RunTask) (old new : F) (unread left before printed unrecorded record_now : Option (List ℕ))
+    (task : RunTask) (old new : F) (unread left : TypingState) (before printed unrecorded record_now : Option (List ℕ))
     → HasRunSessions does sees_to gives_names tells_name ended told task old new unread left before printed unrecorded record_now
     → (config : Config) × (scripts : List (String Global)) × (known : F) × IsConfigRead does task.config.now old known config
     × AreScripts task config scripts × FollowsPlan does sees_to gives_names (plan_by task config scripts) known new
 
 -- a program that has run has followed its plan
 abbrev pub ProgramsFollowPlans : {F : Type 0} → (F → StoreAccess → F → Type 0) → (F → Plan → Option HostError → F → Type 0)
-    → (F → Option HostError → F → Type 0) → (Option HostError → Type 0) → (Ending → (waits : Bool) → Type 0) → Type 0
-ProgramsFollowPlans {F} does sees_to gives_names ended told = (task : ComTask) (io : Streams) (old new : F)
-    → HasRunProgram does sees_to gives_names ended told task io old new → FollowsPlan does sees_to gives_names (plan_of_com task) old new
+    → (F → Option HostError → F → Type 0) → (Option HostError → Type 0) → (Ending → (waits : Bool) → Option PlayEnd → Type 0) → Type 0
+ProgramsFollowPlans {F} does sees_to gives_names ended told = (task : ComTask) (io : Streams) (old new : F) (status : ℕ)
+    → HasRunProgram does sees_to gives_names ended told task io old new status → FollowsPlan does sees_to gives_names (plan_of_com task) old new

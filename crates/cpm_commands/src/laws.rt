@@ -17,5 +17,5 @@ pub fn runs_follow_plans<F: CommandFiles, R: KeyRecord, T: Messages>()
 /// The same of a program that has run, quiet or not.
 pub fn programs_follow_plans<F: CommandFiles, R: KeyRecord, T: Messages>()
     ensures { (typed : R) → (told : T) → (is_quiet : Bool) → ProgramsFollowPlans F.does F.sees_to F.gives_names
-        (HasEndedRecord R.ends R.contents (R.contents typed) typed) (λ ending waits. HasToldEnd T.tells is_quiet ending waits told) }
+        (HasEndedRecord R.ends R.contents (R.contents typed) typed) (λ ending waits end. HasToldEnd T.tells is_quiet ending waits end told) }
 {}
