@@ -125,15 +125,15 @@ impl TimedTypist {
     /// Whether what comes next comes now. Where a machine waits it has waited for once more.
     fn is_due(&mut self, need: KeyNeed, count: u64) -> bool {
         let Some(next) = self.hearings.get(self.done) else {
-            return need.is_wanted();
+            return need.wants_key();
         };
         if next.count <= count {
             return true;
         }
-        if need.is_wanted() {
+        if need.wants_key() {
             self.waited = self.waited.saturating_add(1);
         }
-        need.is_wanted() && self.waited > WAITS
+        need.wants_key() && self.waited > WAITS
     }
 
     /// Why no more is typed, if that comes next.
