@@ -16,10 +16,10 @@ use std::{fs, io};
 const END_KEY: u8 = 0x1D;
 
 /// How many keys are kept here at most. More stay with the terminal.
-const MOST_KEPT_KEYS: usize = 4096;
+const MOST_KEPT_KEYS: usize = 256;
 
 /// How many bytes are read at once.
-const MOST_READ: usize = 512;
+const MOST_READ: usize = 128;
 
 /// After how many microseconds a terminal is asked again for a key that a machine wants.
 const KEY_PAUSE: u64 = 8_000;
