@@ -17,7 +17,7 @@ use Rattle.cpm_command_line.specs.declared.fault.UsageError.TheVariants.{Usage, 
 use Rattle.cpm_command_line.specs.declared.fault.UsageFault.{UsageFault}
 use Rattle.cpm_command_line.specs.declared.task.DiskTask.{DiskTask}
 use Rattle.cpm_command_line.specs.declared.task.Task.{Task}
-use Rattle.cpm_command_line.specs.declared.task.Task.TheVariants.{Asm, Check, Com, Debug, Disk, Help, List as Listing, Run}
+use Rattle.cpm_command_line.specs.declared.task.Task.TheVariants.{Asm, Boot, Check, Com, Debug, Disk, Help, List as Listing, Run}
 use Rattle.cpm_command_line.specs.declared.usage.Page.{Page}
 use Rattle.cpm_command_line.specs.declared.usage.Page.TheVariants as page
 use Rattle.cpm_command_line.proofs.FilledRows.{same_bytes}
@@ -29,6 +29,7 @@ pub page_asks : (p : Page) → asked_page (line_of_page p) ≡ Some p
 unfolding clap_on_literals
 page_asks page.Overview = refl
 page_asks page.Com = refl
+page_asks page.Boot = refl
 page_asks page.Asm = refl
 page_asks page.List = refl
 page_asks page.Check = refl
@@ -53,6 +54,7 @@ no_entries (Some x) h = h
 pub host_task_of : (p : Page) (words : List Text) (t : Task) → fault_of host_app words ≡ [] → IsSomeAnd (subcommand_of host_app words) (λ given. HasEntriesOf given t)
     → IsHostTask p words t
 host_task_of p words (Com task) e h = (e, h)
+host_task_of p words (Boot task) e h = (e, h)
 host_task_of p words (Asm source out list) e h = (e, h)
 host_task_of p words (Listing file cpu) e h = (e, h)
 host_task_of p words (Check image) e h = (e, h)
@@ -119,6 +121,7 @@ module _ (words : List Text) (no_help : is_help_line words ≡ false) where
   -- the task of the program's command is the line's
   pub host_line : names_disk words ≡ false → (t : Task) → IsHostTask (page_of_line words) words t → IsTaskOf words t × IsFaultless words t
   host_line is (Com task) h = ((is, h.1), (no_help, faultless_line false is h.0))
+  host_line is (Boot task) h = ((is, h.1), (no_help, faultless_line false is h.0))
   host_line is (Asm source out list) h = ((is, h.1), (no_help, faultless_line false is h.0))
   host_line is (Listing file cpu) h = ((is, h.1), (no_help, faultless_line false is h.0))
   host_line is (Check image) h = ((is, h.1), (no_help, faultless_line false is h.0))
@@ -130,6 +133,7 @@ module _ (words : List Text) (no_help : is_help_line words ≡ false) where
   -- and so is that of `disk`
   pub disk_line : names_disk words ≡ true → (t : Task) → IsDiskTask (page_of_line words) (drop 1 words) t → IsTaskOf words t × IsFaultless words t
   disk_line is (Com task) h = absurd h
+  disk_line is (Boot task) h = absurd h
   disk_line is (Asm source out list) h = absurd h
   disk_line is (Listing file cpu) h = absurd h
   disk_line is (Check image) h = absurd h
@@ -160,6 +164,7 @@ module _ (words : List Text) (no_help : is_help_line words ≡ false) where
 -- a task with a fault of its own is no page
 pub faultless_of : (words : List Text) (t : Task) (f : UsageFault) → task_fault t ≡ Some f → IsFaultless words t → fault_of_line words ≡ []
 faultless_of words (Com task) f is h = h.1
+faultless_of words (Boot task) f is h = h.1
 faultless_of words (Asm source out list) f is h = h.1
 faultless_of words (Listing file cpu) f is h = h.1
 faultless_of words (Check image) f is h = h.1

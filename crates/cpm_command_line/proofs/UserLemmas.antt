@@ -6,7 +6,7 @@ use Rattle.cpm_command_line.specs.Line.{HasUsers, IsTaskOf}
 use Rattle.cpm_command_line.specs.declared.task.DiskTask.{DiskTask}
 use Rattle.cpm_command_line.specs.declared.task.DiskTask.TheVariants.{Get, List as Listing, New, Put, Remove, Rename}
 use Rattle.cpm_command_line.specs.declared.task.Task.{Task}
-use Rattle.cpm_command_line.specs.declared.task.Task.TheVariants.{Asm, Check, Com, Debug, Disk, Help, List as Listed, Run}
+use Rattle.cpm_command_line.specs.declared.task.Task.TheVariants.{Asm, Boot, Check, Com, Debug, Disk, Help, List as Listed, Run}
 
 user_of : (given : Text × List Row) (task : DiskTask) → HasDiskEntriesOf given task → HasUser task
 user_of given (New image is_large) has = tt
@@ -25,6 +25,7 @@ user_within (Some given) task has = user_of given task has
 pub users_of : (words : List Text) (task : Task) → IsTaskOf words task → HasUsers task
 users_of words (Disk task) has = user_within (subcommand_of disk_app (drop 1 words)) task has.1
 users_of words (Com task) has = tt
+users_of words (Boot task) has = tt
 users_of words (Asm source out listing) has = tt
 users_of words (Listed file cpu) has = tt
 users_of words (Check image) has = tt

@@ -1,21 +1,21 @@
 -- Words with no fault give the whole entries of a subcommand.
-use Rattle.std.proofs.Common.{◌≡◌, ◌⊎◌, ◌∙◌, ◌||◌, ℕ, ap, sym, refl, inl, inr, Bool, true, false, cond, true≢false, List, [], Option, Some, None, option_map, is_some, codes}
+use Rattle.std.proofs.Common.{◌≡◌, ◌⊎◌, ◌∙◌, ◌||◌, ℕ, ap, sym, refl, inl, inr, Bool, true, false, cond, true≢false, List, [], ◌∷◌, Option, Some, None, option_map, is_some, codes}
 use Rattle.std.specs.Option.{option_map_or}
 use Rattle.std.specs.Str.{bytes_eq}
 use Rattle.clap.specs.Walk.{Row, Rule, Text, finished, nothing_held, one_of, rows_after, walk}
-use Rattle.clap.specs.Simple.{App, Shape, argument_words, built, built_leaf, entered, filled, inherited, label_of, marked_built, names_of, rows_at, subcommand_of, with_index, with_leaf_noted}
+use Rattle.clap.specs.Simple.{App, Shape, argument_words, built, built_leaf, entered, filled, help_rule, inherited, label_of, marked_built, names_of, rows_at, subcommand_of, with_index, with_leaf_noted}
 use Rattle.clap.specs.Takes.{is_given}
 use Rattle.clap.specs.Walk.{answers_to}
 use Rattle.clap.specs.Faults.{check_fault, entered_fault, fault_of, level_fault}
 use Rattle.clap.specs.declared.builder.value_parser.ValueParser.TheVariants as parser
 use Rattle.clap.proofs.ValueTestLemmas.{accepts-Accepts}
-use Rattle.cpm_command_line.specs.CommandLine.{IsCountIfAny, IsPick, IsWhole, IsWholeAsm, IsWholeCheck, IsWholeCom, IsWholeDebug, IsWholeList, IsWholeRun, asm_app, check_app, com_app, count_option, debug_app, host_app, list_app, operand, repeated_option, run_app, value_option, words_left_out}
+use Rattle.cpm_command_line.specs.CommandLine.{IsCountIfAny, IsFlag, IsPick, IsWhole, IsWholeAsm, IsWholeCheck, IsWholeCom, IsWholeDebug, IsWholeList, IsWholePlay, IsWholeRun, asm_app, boot_app, check_app, com_app, count_option, debug_app, host_app, list_app, operand, repeated_option, run_app, value_option, words_left_out}
 use Rattle.cpm_flags.specs.declared.regs.Cpu.TheVariants.{I8080, Z80}
-use Rattle.cpm_command_line.proofs.FilledRows.{HasText, IsPlain, IsSetting, plain_by_ids, same_bytes}
+use Rattle.cpm_command_line.proofs.FilledRows.{HasText, IsIn, IsPlain, IsSetting, plain_by_ids, same_bytes}
 use Rattle.cpm_command_line.proofs.LeafRows.{both_given, default_text, flag_in, flag_rule, flag_word, given_first, help_found, help_word, leaf_checked, one_given, text_or_none}
 use Rattle.cpm_command_line.proofs.WalkRows.{HasHelpShorts, level_checked}
 
--- ---- the subcommand `com` as clap builds it
+-- ---- the subcommands as clap builds them
 
 abbrev host_built : App
 host_built = built host_app
@@ -25,6 +25,9 @@ leaf s = built_leaf (inherited (with_leaf_noted (marked_built host_app.top)) s)
 
 abbrev com_built : Shape
 com_built = leaf com_app.top
+
+abbrev boot_built : Shape
+boot_built = leaf boot_app.top
 
 abbrev asm_built : Shape
 asm_built = leaf asm_app.top
@@ -44,8 +47,8 @@ debug_built = leaf debug_app.top
 operand_word : (index : ℕ) (id : Text) → IsSetting (with_index index (filled (operand id)))
 operand_word index id = record { action = inl refl; values = inl refl }
 
-tail_words : IsSetting (with_index 2 (filled (words_left_out (codes "tail"))))
-tail_words = record { action = inr (inr (inl refl)); values = inl refl }
+free_words : (index : ℕ) (id : Text) → IsSetting (with_index index (filled (words_left_out id)))
+free_words index id = record { action = inr (inr (inl refl)); values = inl refl }
 
 value_word : (name : Text) → IsSetting (filled (value_option name))
 value_word name = record { action = inl refl; values = inl refl }
@@ -58,12 +61,19 @@ repeated_words name = record { action = inr (inr (inl refl)); values = inl refl 
 
 com_plain : IsPlain com_built.rules
 com_plain = plain_by_ids com_built.rules refl
-    (operand_word _ _, (tail_words, (flag_word _, (count_word _, (value_word _, (repeated_words _, (repeated_words _, (flag_word _, (value_word _, (flag_word _, (flag_word _, (flag_word _, (flag_word _, (flag_word _, (flag_word _, (value_word _, (count_word _, (help_word, tt))))))))))))))))))
+    (operand_word _ _, (free_words _ _, (flag_word _, (count_word _, (value_word _, (repeated_words _, (repeated_words _, (flag_word _, (value_word _, (flag_word _, (flag_word _, (flag_word _, (flag_word _, (flag_word _, (flag_word _, (value_word _, (count_word _, (value_word _, (help_word, tt)))))))))))))))))))
 
 com_shorts : HasHelpShorts com_built.rules
 com_shorts x a is = help_found x a is
 
--- ---- the entries of `com`
+boot_plain : IsPlain boot_built.rules
+boot_plain = plain_by_ids boot_built.rules refl
+    (free_words _ _, (flag_word _, (count_word _, (value_word _, (repeated_words _, (flag_word _, (value_word _, (flag_word _, (flag_word _, (flag_word _, (flag_word _, (flag_word _, (flag_word _, (value_word _, (count_word _, (value_word _, (help_word, tt)))))))))))))))))
+
+boot_shorts : HasHelpShorts boot_built.rules
+boot_shorts x a is = help_found x a is
+
+-- ---- the entries of `com` and of `boot`
 
 abbrev file_rule : Rule
 file_rule = with_index 1 (filled (operand (codes "file")))
@@ -87,37 +97,47 @@ count_of name rows (inr has) =
     let taken = accepts-Accepts false (parser.Unsigned 0 18446744073709551615) has.text has.passes in
     inr (record { digits = has.text; given = has.one; numeral = taken.0; fits = taken.1 })
 
+-- the arguments from `--out-disk` on, which `com` and `boot` have last
+abbrev last_rules : List Rule
+last_rules =
+    filled (repeated_option (codes "out-disk")) ∷ flag_rule (codes "keyboard") ∷ filled (value_option (codes "record")) ∷ flag_rule (codes "progress")
+    ∷ flag_rule (codes "stop-idle") ∷ flag_rule (codes "raw") ∷ flag_rule (codes "quiet") ∷ flag_rule (codes "partial") ∷ flag_rule (codes "status")
+    ∷ filled (value_option (codes "replay")) ∷ count_rule (codes "pace") ∷ filled (value_option (codes "system")) ∷ filled help_rule ∷ []
+
+-- words with no fault give a command with these arguments the whole entries of them
+play_whole : (s : Shape) → IsPlain s.rules → HasHelpShorts s.rules → IsIn s.rules z80_rule → IsIn s.rules (count_rule (codes "steps"))
+    → ((a : Rule) → IsIn last_rules a → IsIn s.rules a) → (words : List Text) → level_fault s [] nothing_held words false [] ≡ []
+    → IsWholePlay (rows_after s.rules [] words)
+play_whole s plain shorts z80 steps last words e =
+    let rows = rows_after s.rules [] words in
+    record {
+      z80 = pick_of rows (default_text s plain shorts words e z80_rule z80 tt);
+      steps = count_of (codes "steps") rows (text_or_none s plain shorts words e (count_rule (codes "steps")) steps);
+      keyboard = given (codes "keyboard") (inr (inl refl));
+      progress = given (codes "progress") (inr (inr (inr (inl refl))));
+      idle = given (codes "stop-idle") (inr (inr (inr (inr (inl refl)))));
+      raw = given (codes "raw") (inr (inr (inr (inr (inr (inl refl))))));
+      quiet = given (codes "quiet") (inr (inr (inr (inr (inr (inr (inl refl)))))));
+      partial = given (codes "partial") (inr (inr (inr (inr (inr (inr (inr (inl refl))))))));
+      status = given (codes "status") (inr (inr (inr (inr (inr (inr (inr (inr (inl refl)))))))));
+      pace = count_of (codes "pace") rows (text_or_none s plain shorts words e (count_rule (codes "pace"))
+          (last (count_rule (codes "pace")) (inr (inr (inr (inr (inr (inr (inr (inr (inr (inr (inl refl)))))))))))));
+    }
+  where
+    given : (name : Text) → IsIn last_rules (flag_rule name) → IsFlag (one_of name (rows_after s.rules [] words))
+    given name among = flag_in name (rows_after s.rules [] words) (default_text s plain shorts words e (flag_rule name) (last (flag_rule name) among) tt)
+
 com_whole : (words : List Text) → level_fault com_built [] nothing_held words false [] ≡ [] → IsWholeCom (rows_after com_built.rules [] words)
 com_whole words e =
-    let rows = rows_after com_built.rules [] words in
-    let file = one_given (is_given (codes "file") rows) (leaf_checked com_built com_plain com_shorts words e) in
+    let file = one_given (is_given (codes "file") (rows_after com_built.rules [] words)) (leaf_checked com_built com_plain com_shorts words e) in
     record {
       file = given_first com_built com_plain com_shorts words e file_rule (inl refl) file;
-      z80 = pick_of rows (default_text com_built com_plain com_shorts words e z80_rule (inr (inr (inl refl))) tt);
-      steps = count_of (codes "steps") rows (text_or_none com_built com_plain com_shorts words e (count_rule (codes "steps")) (inr (inr (inr (inl refl)))));
-      keyboard = flag_in (codes "keyboard") rows
-          (default_text com_built com_plain com_shorts words e (flag_rule (codes "keyboard")) (inr (inr (inr (inr (inr (inr (inr (inl refl)))))))) tt);
-      progress = flag_in (codes "progress") rows
-          (default_text com_built com_plain com_shorts words e (flag_rule (codes "progress")) (inr (inr (inr (inr (inr (inr (inr (inr (inr (inl refl)))))))))) tt);
-      idle = flag_in (codes "stop-idle") rows
-          (default_text com_built com_plain com_shorts words e (flag_rule (codes "stop-idle"))
-          (inr (inr (inr (inr (inr (inr (inr (inr (inr (inr (inl refl))))))))))) tt);
-      raw = flag_in (codes "raw") rows
-          (default_text com_built com_plain com_shorts words e (flag_rule (codes "raw"))
-          (inr (inr (inr (inr (inr (inr (inr (inr (inr (inr (inr (inl refl)))))))))))) tt);
-      quiet = flag_in (codes "quiet") rows
-          (default_text com_built com_plain com_shorts words e (flag_rule (codes "quiet"))
-          (inr (inr (inr (inr (inr (inr (inr (inr (inr (inr (inr (inr (inl refl))))))))))))) tt);
-      partial = flag_in (codes "partial") rows
-          (default_text com_built com_plain com_shorts words e (flag_rule (codes "partial"))
-          (inr (inr (inr (inr (inr (inr (inr (inr (inr (inr (inr (inr (inr (inl refl)))))))))))))) tt);
-      status = flag_in (codes "status") rows
-          (default_text com_built com_plain com_shorts words e (flag_rule (codes "status"))
-          (inr (inr (inr (inr (inr (inr (inr (inr (inr (inr (inr (inr (inr (inr (inl refl))))))))))))))) tt);
-      pace = count_of (codes "pace") rows
-          (text_or_none com_built com_plain com_shorts words e (count_rule (codes "pace"))
-          (inr (inr (inr (inr (inr (inr (inr (inr (inr (inr (inr (inr (inr (inr (inr (inr (inl refl))))))))))))))))));
+      play = play_whole com_built com_plain com_shorts (inr (inr (inl refl))) (inr (inr (inr (inl refl))))
+          (λ a among. inr (inr (inr (inr (inr (inr among)))))) words e;
     }
+
+boot_whole : (words : List Text) → level_fault boot_built [] nothing_held words false [] ≡ [] → IsWholePlay (rows_after boot_built.rules [] words)
+boot_whole words e = play_whole boot_built boot_plain boot_shorts (inr (inl refl)) (inr (inr (inl refl))) (λ a among. inr (inr (inr (inr among)))) words e
 
 -- ---- the other subcommands
 
@@ -220,9 +240,9 @@ debug_whole words e =
 -- ---- the whole command line
 
 -- the subcommand that a word names, by whether it is the name of each
-abbrev found : Bool → Bool → Bool → Bool → Bool → Bool → Option Shape
-found a b d k r g = cond a (Some com_built) (cond b (Some asm_built) (cond d (Some list_built)
-    (cond k (Some check_built) (cond r (Some run_built) (cond g (Some debug_built) None)))))
+abbrev found : Bool → Bool → Bool → Bool → Bool → Bool → Bool → Option Shape
+found a t b d k r g = cond a (Some com_built) (cond t (Some boot_built) (cond b (Some asm_built) (cond d (Some list_built)
+    (cond k (Some check_built) (cond r (Some run_built) (cond g (Some debug_built) None))))))
 
 -- words with no fault name a subcommand, and give it whole entries
 pub faultless_whole : (words : List Text) → fault_of host_app words ≡ [] → IsWhole (subcommand_of host_app words)
@@ -236,18 +256,19 @@ faultless_whole words e =
     has true h = refl
     has false h = absurd (let bad : ⊥ = cc in bad)
 
-    named : (p : Text × List Text) (a b d k r g : Bool) → is_some (option_map (λ s. rows_at s p.1) (found a b d k r g)) ≡ true
-        → option_map_or (λ s. level_fault s [] nothing_held p.1 false []) (found a b d k r g) [] ≡ []
-        → IsWhole (option_map (λ s. rows_at s p.1) (found a b d k r g))
-    named p true b d k r g some h = inl (refl, com_whole p.1 h)
-    named p false true d k r g some h = inr (inl (refl, asm_whole p.1 h))
-    named p false false true k r g some h = inr (inr (inl (refl, list_whole p.1 h)))
-    named p false false false true r g some h = inr (inr (inr (inl (refl, check_whole p.1 h))))
-    named p false false false false true g some h = inr (inr (inr (inr (inl (refl, run_whole p.1 h)))))
-    named p false false false false false true some h = inr (inr (inr (inr (inr (refl, debug_whole p.1 h)))))
-    named p false false false false false false some h = absurd (true≢false (sym some))
+    named : (p : Text × List Text) (a t b d k r g : Bool) → is_some (option_map (λ s. rows_at s p.1) (found a t b d k r g)) ≡ true
+        → option_map_or (λ s. level_fault s [] nothing_held p.1 false []) (found a t b d k r g) [] ≡ []
+        → IsWhole (option_map (λ s. rows_at s p.1) (found a t b d k r g))
+    named p true t b d k r g some h = inl (refl, com_whole p.1 h)
+    named p false true b d k r g some h = inr (inl (refl, boot_whole p.1 h))
+    named p false false true d k r g some h = inr (inr (inl (refl, asm_whole p.1 h)))
+    named p false false false true k r g some h = inr (inr (inr (inl (refl, list_whole p.1 h))))
+    named p false false false false true r g some h = inr (inr (inr (inr (inl (refl, check_whole p.1 h)))))
+    named p false false false false false true g some h = inr (inr (inr (inr (inr (inl (refl, run_whole p.1 h))))))
+    named p false false false false false false true some h = inr (inr (inr (inr (inr (inr (refl, debug_whole p.1 h))))))
+    named p false false false false false false false some h = absurd (true≢false (sym some))
 
     go : (at : Option (Text × List Text)) → is_some (entered host_built at) ≡ true → entered_fault host_built at ≡ [] → IsWhole (entered host_built at)
     go None some h = absurd (true≢false (sym some))
-    go (Some p) some h = named p (answers_to p.0 (label_of com_built)) (answers_to p.0 (label_of asm_built)) (answers_to p.0 (label_of list_built))
-        (answers_to p.0 (label_of check_built)) (answers_to p.0 (label_of run_built)) (answers_to p.0 (label_of debug_built)) some h
+    go (Some p) some h = named p (answers_to p.0 (label_of com_built)) (answers_to p.0 (label_of boot_built)) (answers_to p.0 (label_of asm_built))
+        (answers_to p.0 (label_of list_built)) (answers_to p.0 (label_of check_built)) (answers_to p.0 (label_of run_built)) (answers_to p.0 (label_of debug_built)) some h

@@ -1,5 +1,6 @@
 -- The program's subcommands, and the task that a subcommand's entries give.
-use Rattle.std.specs.Prelude.{◌≡◌, ◌⊎◌, [], ◌^◌, ◌<◌, Bool, IsSome, IsSomeAnd, ℕ, List, Option, Some, None, map, option_map, unwrap_or, true, false, codes}
+use Rattle.std.specs.Prelude.{◌≡◌, ◌⊎◌, ◌||◌, [], ◌^◌, ◌<◌, Bool, IsSome, IsSomeAnd, ℕ, List, Option, Some, None, is_some, map, not, option_map, unwrap_or}
+use Rattle.std.specs.Prelude.{true, false, codes}
 use Rattle.std.specs.Borrow.{Bor}
 use Rattle.std.specs.Str.Parse.{IsNumeral, digits_value, without_leading_plus}
 use Rattle.clap.specs.Lexer.{usize_max}
@@ -12,8 +13,9 @@ use Rattle.clap.specs.declared.builder.command.Command.TheViews.{out-Command}
 use Rattle.clap.specs.declared.builder.value_parser.ValueParser.TheVariants as parser
 use Rattle.cpm_flags.specs.declared.regs.Cpu.{Cpu}
 use Rattle.cpm_flags.specs.declared.regs.Cpu.TheVariants.{I8080, Z80}
+use Rattle.cpm_command_line.specs.declared.task.PlayTask.{PlayTask}
 use Rattle.cpm_command_line.specs.declared.task.Task.{Task}
-use Rattle.cpm_command_line.specs.declared.task.Task.TheVariants.{Asm, Check, Com, Debug, Disk, Help, List as Listing, Run}
+use Rattle.cpm_command_line.specs.declared.task.Task.TheVariants.{Asm, Boot, Check, Com, Debug, Disk, Help, List as Listing, Run}
 
 -- a word that has to be there, with a name in usage
 abbrev pub operand : List ℕ → Rule
@@ -42,23 +44,31 @@ count_option name = record (value_option name) { parser = Some (parser.Unsigned 
 
 -- ---- the subcommands
 
--- own: `com FILE [TAIL..] [--z80] [--steps N] [--keys SCRIPT]`: the program and what it runs with
-abbrev pub program_app : App
-program_app = with_rule (with_rule (with_rule (with_rule (with_rule (new_app (codes "com"))
-    (operand (codes "file"))) (words_left_out (codes "tail"))) (flag (codes "z80"))) (count_option (codes "steps")))
-    (value_option (codes "keys"))
+-- own: `[--z80] [--steps N] [--keys SCRIPT]` after these: the processor, its steps and the keys
+abbrev pub with_processor : App → App
+with_processor a = with_rule (with_rule (with_rule a
+    (flag (codes "z80"))) (count_option (codes "steps"))) (value_option (codes "keys"))
 
--- own: `com`, with `[--disk IMAGE].. [--out-disk IMAGE].. [--keyboard] [--record SCRIPT] [--progress] [--stop-idle] [--raw]
--- [--quiet]` after these
-abbrev pub played_app : App
-played_app = with_rule (with_rule (with_rule (with_rule (with_rule (with_rule (with_rule (with_rule program_app
-    (repeated_option (codes "disk"))) (repeated_option (codes "out-disk"))) (flag (codes "keyboard"))) (value_option (codes "record")))
+-- own: `[--out-disk IMAGE].. [--keyboard] [--record SCRIPT] [--progress] [--stop-idle] [--raw] [--quiet]` after these
+abbrev pub with_playing : App → App
+with_playing a = with_rule (with_rule (with_rule (with_rule (with_rule (with_rule (with_rule a
+    (repeated_option (codes "out-disk"))) (flag (codes "keyboard"))) (value_option (codes "record")))
     (flag (codes "progress"))) (flag (codes "stop-idle"))) (flag (codes "raw"))) (flag (codes "quiet"))
 
--- own: `com`, with `[--partial] [--status] [--replay RECORDING] [--pace N]` after these
+-- own: `[--partial] [--status] [--replay RECORDING] [--pace N] [--system IMAGE]` after these
+abbrev pub with_ending : App → App
+with_ending a = with_rule (with_rule (with_rule (with_rule (with_rule a
+    (flag (codes "partial"))) (flag (codes "status"))) (value_option (codes "replay"))) (count_option (codes "pace")))
+    (value_option (codes "system"))
+
+-- own: `com FILE [TAIL..] [--z80] [--steps N] [--keys SCRIPT] [--disk IMAGE]..` and the options after these
 abbrev pub com_app : App
-com_app = with_rule (with_rule (with_rule (with_rule played_app
-    (flag (codes "partial"))) (flag (codes "status"))) (value_option (codes "replay"))) (count_option (codes "pace"))
+com_app = with_ending (with_playing (with_rule (with_processor (with_rule (with_rule (new_app (codes "com"))
+    (operand (codes "file"))) (words_left_out (codes "tail")))) (repeated_option (codes "disk"))))
+
+-- own: `boot [PLACE..] [--z80] [--steps N] [--keys SCRIPT]` and the options after these
+abbrev pub boot_app : App
+boot_app = with_ending (with_playing (with_processor (with_rule (new_app (codes "boot")) (words_left_out (codes "place")))))
 
 -- own: `asm SOURCE OUT [--list FILE]`
 abbrev pub asm_app : App
@@ -97,8 +107,8 @@ top_app name = record (new_app name) {
 
 -- the program's command, but for `disk`, which has commands of its own
 abbrev pub host_app : App
-host_app = with_subcommand (with_subcommand (with_subcommand (with_subcommand (with_subcommand (with_subcommand
-    (top_app (codes "cpmhost")) com_app.top) asm_app.top) list_app.top) check_app.top) run_app.top) debug_app.top
+host_app = with_subcommand (with_subcommand (with_subcommand (with_subcommand (with_subcommand (with_subcommand (with_subcommand
+    (top_app (codes "cpmhost")) com_app.top) boot_app.top) asm_app.top) list_app.top) check_app.top) run_app.top) debug_app.top
 
 -- an argument of clap with this rule, which is the command's own
 pub record IsArgumentOf (r : Rule) (a : Arg) : Type 0 where
@@ -133,26 +143,43 @@ abbrev pub flag_text : Cpu → Text
 flag_text I8080 = codes "false"
 flag_text Z80 = codes "true"
 
+-- own: the task has what the entries that `com` and `boot` have in common give
+abbrev pub HasPlayEntries : List Row → PlayTask → Type 0
+HasPlayEntries rows task =
+    (one_of (codes "z80") rows ≡ Some (flag_text task.cpu))
+    × ReadsCountIfAny (one_of (codes "steps") rows) task.steps
+    × (first_of (codes "keys") rows ≡ option_map (λ t. t.now) task.keys)
+    × ReadsWordsIfAny (all_of (codes "out-disk") rows) task.outs.items
+    × (first_of (codes "record") rows ≡ option_map (λ t. t.now) task.«record»)
+    × (one_of (codes "progress") rows ≡ Some (bool_text task.has_progress))
+    × (one_of (codes "stop-idle") rows ≡ Some (bool_text task.stops_idle))
+    × (one_of (codes "raw") rows ≡ Some (bool_text task.is_raw))
+    × (one_of (codes "quiet") rows ≡ Some (bool_text task.is_quiet))
+    × (one_of (codes "partial") rows ≡ Some (bool_text task.is_partial))
+    × (one_of (codes "status") rows ≡ Some (bool_text task.has_status))
+    × (first_of (codes "replay") rows ≡ option_map (λ t. t.now) task.replay)
+    × ReadsCountIfAny (one_of (codes "pace") rows) task.pace
+    × (first_of (codes "system") rows ≡ option_map (λ t. t.now) task.system)
+
+-- own: the keys of `boot` are typed where `--keyboard` is given, and where neither `--keys` nor `--replay` is
+pub record IsTyped (rows : List Row) (is_live : Bool) : Type 0 where
+  pub asked : Bool
+  pub given : one_of (codes "keyboard") rows ≡ Some (bool_text asked)
+  pub live : is_live ≡ (asked || not (is_some (first_of (codes "keys") rows) || is_some (first_of (codes "replay") rows)))
+
 -- the task has what the entries of the subcommand of this name give
 abbrev pub HasEntriesOf : Text × List Row → Task → Type 0
 HasEntriesOf given (Com task) =
-    (given.0 ≡ codes "com") × (first_of (codes "file") given.1 ≡ Some task.file.now)
+    (given.0 ≡ codes "com") × IsSomeAnd task.file (λ file. first_of (codes "file") given.1 ≡ Some file.now)
     × ReadsWordsIfAny (all_of (codes "tail") given.1) task.tail.items
-    × (one_of (codes "z80") given.1 ≡ Some (flag_text task.cpu))
-    × ReadsCountIfAny (one_of (codes "steps") given.1) task.steps
-    × (first_of (codes "keys") given.1 ≡ option_map (λ t. t.now) task.keys)
     × ReadsWordsIfAny (all_of (codes "disk") given.1) task.drives.items
-    × ReadsWordsIfAny (all_of (codes "out-disk") given.1) task.outs.items
     × (one_of (codes "keyboard") given.1 ≡ Some (bool_text task.is_live))
-    × (first_of (codes "record") given.1 ≡ option_map (λ t. t.now) task.«record»)
-    × (one_of (codes "progress") given.1 ≡ Some (bool_text task.has_progress))
-    × (one_of (codes "stop-idle") given.1 ≡ Some (bool_text task.stops_idle))
-    × (one_of (codes "raw") given.1 ≡ Some (bool_text task.is_raw))
-    × (one_of (codes "quiet") given.1 ≡ Some (bool_text task.is_quiet))
-    × (one_of (codes "partial") given.1 ≡ Some (bool_text task.is_partial))
-    × (one_of (codes "status") given.1 ≡ Some (bool_text task.has_status))
-    × (first_of (codes "replay") given.1 ≡ option_map (λ t. t.now) task.replay)
-    × ReadsCountIfAny (one_of (codes "pace") given.1) task.pace
+    × HasPlayEntries given.1 task
+HasEntriesOf given (Boot task) =
+    (given.0 ≡ codes "boot") × (task.file ≡ None) × (task.tail.items ≡ [])
+    × ReadsWordsIfAny (all_of (codes "place") given.1) task.drives.items
+    × IsTyped given.1 task.is_live
+    × HasPlayEntries given.1 task
 HasEntriesOf given (Asm source out list) =
     (given.0 ≡ codes "asm") × (first_of (codes "source") given.1 ≡ Some source.now)
     × (first_of (codes "out") given.1 ≡ Some out.now)
@@ -203,9 +230,8 @@ pub record IsCount (text : Option Text) : Type 0 where
 abbrev pub IsCountIfAny : Option Text → Type 0
 IsCountIfAny text = (text ≡ None) ⊎ IsCount text
 
--- the entries of `com` are whole
-pub record IsWholeCom (rows : List Row) : Type 0 where
-  pub file : IsSome (first_of (codes "file") rows)
+-- own: the entries that `com` and `boot` have in common are whole
+pub record IsWholePlay (rows : List Row) : Type 0 where
   pub z80 : IsPick (one_of (codes "z80") rows)
   pub steps : IsCountIfAny (one_of (codes "steps") rows)
   pub keyboard : IsFlag (one_of (codes "keyboard") rows)
@@ -216,6 +242,11 @@ pub record IsWholeCom (rows : List Row) : Type 0 where
   pub partial : IsFlag (one_of (codes "partial") rows)
   pub status : IsFlag (one_of (codes "status") rows)
   pub pace : IsCountIfAny (one_of (codes "pace") rows)
+
+-- the entries of `com` are whole
+pub record IsWholeCom (rows : List Row) : Type 0 where
+  pub file : IsSome (first_of (codes "file") rows)
+  pub play : IsWholePlay rows
 
 -- the entries of `asm` are whole
 pub record IsWholeAsm (rows : List Row) : Type 0 where
@@ -247,7 +278,7 @@ pub record IsWholeDebug (rows : List Row) : Type 0 where
 
 -- the entries are whole as those of the subcommand of this name
 abbrev pub IsWholeOf : Text × List Row → Type 0
-IsWholeOf p = ((p.0 ≡ codes "com") × IsWholeCom p.1) ⊎ ((p.0 ≡ codes "asm") × IsWholeAsm p.1)
+IsWholeOf p = ((p.0 ≡ codes "com") × IsWholeCom p.1) ⊎ ((p.0 ≡ codes "boot") × IsWholePlay p.1) ⊎ ((p.0 ≡ codes "asm") × IsWholeAsm p.1)
     ⊎ ((p.0 ≡ codes "list") × IsWholeList p.1) ⊎ ((p.0 ≡ codes "check") × IsWholeCheck p.1)
     ⊎ ((p.0 ≡ codes "run") × IsWholeRun p.1) ⊎ ((p.0 ≡ codes "debug") × IsWholeDebug p.1)
 

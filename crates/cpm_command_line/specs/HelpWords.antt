@@ -7,6 +7,7 @@ use Rattle.cpm_command_line.specs.Shown.{shown_of}
 use Rattle.cpm_command_line.specs.declared.fault.UsageFault.{UsageFault}
 use Rattle.cpm_command_line.specs.declared.fault.UsageFault.TheVariants as fault
 use Rattle.cpm_command_line.specs.declared.fault.UsageRefusal.{UsageRefusal}
+use Rattle.cpm_command_line.specs.declared.boot_page.TheConstants as boot_text
 use Rattle.cpm_command_line.specs.declared.disk_pages.TheConstants as disk_text
 use Rattle.cpm_command_line.specs.declared.pages.TheConstants as text
 use Rattle.cpm_command_line.specs.declared.usage.Page.{Page}
@@ -15,8 +16,8 @@ use Rattle.cpm_command_line.specs.declared.usage.Page.TheVariants as page
 -- own: the names of the commands but for `disk`, with their pages
 abbrev pub command_pages : List (Text × Page)
 command_pages =
-    (codes "com", page.Com) ∷ (codes "asm", page.Asm) ∷ (codes "list", page.List) ∷ (codes "check", page.Check)
-    ∷ (codes "run", page.Run) ∷ (codes "debug", page.Debug) ∷ []
+    (codes "com", page.Com) ∷ (codes "boot", page.Boot) ∷ (codes "asm", page.Asm) ∷ (codes "list", page.List)
+    ∷ (codes "check", page.Check) ∷ (codes "run", page.Run) ∷ (codes "debug", page.Debug) ∷ []
 
 -- own: the names of the commands of `disk`, with their pages
 abbrev pub disk_pages : List (Text × Page)
@@ -132,6 +133,7 @@ page_of_line _ = page.Overview
 abbrev pub text_of_page : Page → Text
 text_of_page page.Overview = text.OVERVIEW_PAGE.now
 text_of_page page.Com = text.COM_PAGE.now
+text_of_page page.Boot = boot_text.BOOT_PAGE.now
 text_of_page page.Asm = text.ASM_PAGE.now
 text_of_page page.List = text.LIST_PAGE.now
 text_of_page page.Check = text.CHECK_PAGE.now
@@ -150,6 +152,7 @@ text_of_page page.Status = text.STATUS_PAGE.now
 abbrev pub line_of_page : Page → List Text
 line_of_page page.Overview = codes "cpmhost" ∷ codes "--help" ∷ []
 line_of_page page.Com = codes "cpmhost" ∷ codes "help" ∷ codes "com" ∷ []
+line_of_page page.Boot = codes "cpmhost" ∷ codes "help" ∷ codes "boot" ∷ []
 line_of_page page.Asm = codes "cpmhost" ∷ codes "help" ∷ codes "asm" ∷ []
 line_of_page page.List = codes "cpmhost" ∷ codes "help" ∷ codes "list" ∷ []
 line_of_page page.Check = codes "cpmhost" ∷ codes "help" ∷ codes "check" ∷ []

@@ -1,30 +1,43 @@
 -- Options that don't go together. Clap's rules take them; what is wrong with them comes after what clap finds.
-use Rattle.std.specs.Prelude.{◌&&◌, ◌||◌, ◌==◌, Bool, ℕ, false, if◌then◌else◌, nat_lt, not, Option, Some, None, is_some, length}
+use Rattle.std.specs.Prelude.{◌&&◌, ◌||◌, ◌==◌, Bool, ℕ, false, if◌then◌else◌, max, nat_lt, not, Option, Some, None, is_some, length}
 use Rattle.cpm_command_line.specs.declared.fault.UsageFault.{UsageFault}
-use Rattle.cpm_command_line.specs.declared.fault.UsageFault.TheVariants.{OutWithoutDisk, PaceZero, PartialWithoutOut}
+use Rattle.cpm_command_line.specs.declared.fault.UsageFault.TheVariants.{OutWithoutDisk, OutWithoutDrive, PaceZero, PartialWithoutOut}
 use Rattle.cpm_command_line.specs.declared.fault.UsageFault.TheVariants.{ProgressAtKeyboard, RecordAlone, RecordUntyped}
-use Rattle.cpm_command_line.specs.declared.fault.UsageFault.TheVariants.{TooManyDisks, TwoScripts}
-use Rattle.cpm_command_line.specs.declared.task.ComTask.{ComTask}
+use Rattle.cpm_command_line.specs.declared.fault.UsageFault.TheVariants.{TooManyDisks, TooManyPlaces, TwoScripts}
+use Rattle.cpm_command_line.specs.declared.task.PlayTask.{PlayTask}
 use Rattle.cpm_command_line.specs.declared.task.RunTask.{RunTask}
 use Rattle.cpm_command_line.specs.declared.task.Task.{Task}
-use Rattle.cpm_command_line.specs.declared.task.Task.TheVariants.{Com, Run}
+use Rattle.cpm_command_line.specs.declared.task.Task.TheVariants.{Boot, Com, Run}
 
 -- own: a pace of no steps in a second
 abbrev pub is_zero_pace : Option ℕ → Bool
 is_zero_pace None = false
 is_zero_pace (Some n) = n == 0
 
+-- own: what is wrong first with the options that `com` and `boot` have in common
+abbrev pub fault_of_play : PlayTask → Option UsageFault
+fault_of_play task =
+    if task.is_partial && (length task.outs.items == 0) then Some PartialWithoutOut
+    else (if task.has_progress && task.is_live then Some ProgressAtKeyboard
+    else (if is_zero_pace task.pace then Some PaceZero
+    else None))
+
 -- own: what is wrong first with the options of `com`. Four drives, A to D, can have an image
-abbrev pub fault_of_com : ComTask → Option UsageFault
+abbrev pub fault_of_com : PlayTask → Option UsageFault
 fault_of_com task =
     if is_some task.«record» && not (task.is_live || (is_some task.keys || is_some task.replay)) then Some RecordAlone
     else (if is_some task.keys && is_some task.replay then Some TwoScripts
     else (if nat_lt 4 (length task.drives.items) then Some TooManyDisks
     else (if nat_lt (length task.drives.items) (length task.outs.items) then Some OutWithoutDisk
-    else (if task.is_partial && (length task.outs.items == 0) then Some PartialWithoutOut
-    else (if task.has_progress && task.is_live then Some ProgressAtKeyboard
-    else (if is_zero_pace task.pace then Some PaceZero
-    else None))))))
+    else fault_of_play task)))
+
+-- own: what is wrong first with the places and the options of `boot`. Where no place is given, drive A is there all the same
+abbrev pub fault_of_boot : PlayTask → Option UsageFault
+fault_of_boot task =
+    if is_some task.keys && is_some task.replay then Some TwoScripts
+    else (if nat_lt 4 (length task.drives.items) then Some TooManyPlaces
+    else (if nat_lt (max 1 (length task.drives.items)) (length task.outs.items) then Some OutWithoutDrive
+    else fault_of_play task))
 
 -- own: what is wrong first with the options of `run`
 abbrev pub fault_of_run : RunTask → Option UsageFault
@@ -37,5 +50,6 @@ fault_of_run task =
 -- own: what is wrong first with the options of a task
 abbrev pub task_fault : Task → Option UsageFault
 task_fault (Com task) = fault_of_com task
+task_fault (Boot task) = fault_of_boot task
 task_fault (Run task) = fault_of_run task
 task_fault _ = None

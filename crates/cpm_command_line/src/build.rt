@@ -36,7 +36,7 @@ pub(crate) enum Argument {
 type NamedCommand = (&'static str, &'static [Argument]);
 
 /// The program's commands, but for `disk`.
-const HOST_COMMANDS: [NamedCommand; 6] = [
+const HOST_COMMANDS: [NamedCommand; 7] = [
     (
         "com",
         &[
@@ -57,6 +57,28 @@ const HOST_COMMANDS: [NamedCommand; 6] = [
             Argument::Flag("status"),
             Argument::Value("replay", "RECORDING"),
             Argument::Count("pace"),
+            Argument::Value("system", "IMAGE"),
+        ],
+    ),
+    (
+        "boot",
+        &[
+            Argument::WordsIfAny("place", "PLACE"),
+            Argument::Flag("z80"),
+            Argument::Count("steps"),
+            Argument::Value("keys", "SCRIPT"),
+            Argument::Values("out-disk", "IMAGE"),
+            Argument::Flag("keyboard"),
+            Argument::Value("record", "SCRIPT"),
+            Argument::Flag("progress"),
+            Argument::Flag("stop-idle"),
+            Argument::Flag("raw"),
+            Argument::Flag("quiet"),
+            Argument::Flag("partial"),
+            Argument::Flag("status"),
+            Argument::Value("replay", "RECORDING"),
+            Argument::Count("pace"),
+            Argument::Value("system", "IMAGE"),
         ],
     ),
     (

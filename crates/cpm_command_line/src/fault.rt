@@ -66,6 +66,12 @@ pub enum UsageFault {
     /// A drive is to be written, and has no image.
     #[error("'--out-disk' was given more often than '--disk'; give a '--disk' for each")]
     OutWithoutDisk,
+    /// There are more places than drives.
+    #[error("more than 4 disks or folders were given; give them for the drives A to D")]
+    TooManyPlaces,
+    /// More drives are to be written than there are.
+    #[error("'--out-disk' was given more often than there are drives")]
+    OutWithoutDrive,
     /// Drives are to be written even where the program is cut off, and none is to be written at all.
     #[error("'--partial' needs '--out-disk'")]
     PartialWithoutOut,

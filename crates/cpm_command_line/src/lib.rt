@@ -1,6 +1,7 @@
 //! The command line of `cpmhost`: its words, the task that they name, the help and the version.
 #![tactic(auto)]
 
+mod boot_page;
 mod build;
 mod disk;
 mod disk_pages;
@@ -15,5 +16,5 @@ mod usage;
 pub use fault::{ShownWord, UsageError, UsageFault, UsageRefusal, shown, shown_line};
 pub use pages::{page_line, page_text};
 pub use read::command;
-pub use task::{ComTask, DiskTask, RunTask, Task};
+pub use task::{DiskTask, PlayTask, RunTask, Task};
 pub use usage::{Page, VERSION, asks_version};

@@ -1,9 +1,10 @@
 //! Options that don't go together, in a task that the reader of command lines takes.
 ghost use Rattle.std.specs.Prelude.{◌≡◌};
-ghost use Rattle.cpm_command_line.specs.Options.{fault_of_com, fault_of_run, is_zero_pace, task_fault};
+ghost use Rattle.cpm_command_line.specs.Options.{fault_of_boot, fault_of_com, fault_of_play, fault_of_run};
+ghost use Rattle.cpm_command_line.specs.Options.{is_zero_pace, task_fault};
 
 use crate::fault::UsageFault;
-use crate::task::{ComTask, RunTask, Task};
+use crate::task::{PlayTask, RunTask, Task};
 
 /// How many drives can have an image: A to D.
 const DRIVES: usize = 4;
@@ -18,8 +19,23 @@ fn is_zero_pace(pace: Option<u64>) -> bool
     }
 }
 
+/// What is wrong first with the options that `com` and `boot` have in common.
+fn play_fault(task: &PlayTask<'_>) -> Option<UsageFault>
+    ensures { result ≡ fault_of_play task.now }
+{
+    if task.is_partial && task.outs.is_empty() {
+        Some(UsageFault::PartialWithoutOut)
+    } else if task.has_progress && task.is_live {
+        Some(UsageFault::ProgressAtKeyboard)
+    } else if is_zero_pace(task.pace) {
+        Some(UsageFault::PaceZero)
+    } else {
+        None
+    }
+}
+
 /// What is wrong first with the options of `com`.
-fn com_fault(task: &ComTask<'_>) -> Option<UsageFault>
+fn com_fault(task: &PlayTask<'_>) -> Option<UsageFault>
     ensures { result ≡ fault_of_com task.now }
 {
     let has_script = task.keys.is_some() || task.replay.is_some();
@@ -31,14 +47,23 @@ fn com_fault(task: &ComTask<'_>) -> Option<UsageFault>
         Some(UsageFault::TooManyDisks)
     } else if task.outs.len() > task.drives.len() {
         Some(UsageFault::OutWithoutDisk)
-    } else if task.is_partial && task.outs.is_empty() {
-        Some(UsageFault::PartialWithoutOut)
-    } else if task.has_progress && task.is_live {
-        Some(UsageFault::ProgressAtKeyboard)
-    } else if is_zero_pace(task.pace) {
-        Some(UsageFault::PaceZero)
     } else {
-        None
+        play_fault(task)
+    }
+}
+
+/// What is wrong first with the words and the options of `boot`. Without a place there is still drive A.
+fn boot_fault(task: &PlayTask<'_>) -> Option<UsageFault>
+    ensures { result ≡ fault_of_boot task.now }
+{
+    if task.keys.is_some() && task.replay.is_some() {
+        Some(UsageFault::TwoScripts)
+    } else if task.drives.len() > DRIVES {
+        Some(UsageFault::TooManyPlaces)
+    } else if task.outs.len() > task.drives.len().max(1) {
+        Some(UsageFault::OutWithoutDrive)
+    } else {
+        play_fault(task)
     }
 }
 
@@ -63,6 +88,7 @@ pub(crate) fn options_fault(task: &Task<'_>) -> Option<UsageFault>
 {
     match task {
         Task::Com(com) => com_fault(com),
+        Task::Boot(boot) => boot_fault(boot),
         Task::Run(run) => run_fault(run),
         _ => None,
     }

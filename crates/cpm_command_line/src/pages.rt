@@ -3,6 +3,7 @@ ghost use Rattle.std.specs.Prelude.{◌≡◌, Some};
 ghost use Rattle.cpm_command_line.specs.HelpWords.{line_of_page, joined_by_spaces, text_of_page};
 ghost use Rattle.cpm_command_line.specs.Line.{asked_page};
 
+use crate::boot_page::BOOT_PAGE;
 use crate::disk_pages::{
     DISK_GET_PAGE, DISK_LIST_PAGE, DISK_NEW_PAGE, DISK_PAGE, DISK_PUT_PAGE, DISK_REMOVE_PAGE,
     DISK_RENAME_PAGE,
@@ -18,6 +19,7 @@ Usage: cpmhost COMMAND [WORDS..] [OPTIONS..]
 Commands:
   run         run the sessions of a configuration by turns
   com         run a CP/M program, such as a .COM file
+  boot        start CP/M at its prompt, with images and folders as drives
   asm         assemble 8080 source to a program
   list        list a program as instructions
   check       check the directory in the image of a drive
@@ -37,7 +39,7 @@ pub const COM_PAGE: &str = "\
 Usage: cpmhost com FILE [TAIL..] [--z80] [--steps N] [--keys SCRIPT]
        [--disk IMAGE].. [--out-disk IMAGE].. [--keyboard] [--record SCRIPT]
        [--progress] [--stop-idle] [--raw] [--quiet] [--partial] [--status]
-       [--replay RECORDING] [--pace N]
+       [--replay RECORDING] [--pace N] [--system IMAGE]
 
 Run the CP/M program in FILE, such as a .COM file, with the words TAIL..
 after its name on the command line of CP/M, and print what it writes to its
@@ -61,7 +63,12 @@ Options:
               --keys
   --disk IMAGE
               the image of the disk in drive A; given again, of those in B, C
-              and D; a blank disk is in A where none is given
+              and D; a blank disk is in A where none is given. In place of an
+              image a folder may stand, whose files are copied to a disk in
+              memory
+  --system IMAGE
+              the image of the disk in the system drive P, which no program can
+              write; a blank disk is in P unless this is given
   --out-disk IMAGE
               write the disk in drive A, as the program left it, to this file;
               given again, those in B, C and D; where the limit of --steps cut
@@ -227,7 +234,7 @@ Lines that debug reads, where HHHH is an address of four hexadecimal digits:
 pub const STATUS_PAGE: &str = "\
 Exit status:
   0   nothing was refused, however the program or the sessions ended; with
-      --status of com its end was Exited or Halted
+      --status its end was Exited or Halted
   1   the command line is wrong, or a name on it: of a session that isn't in
       the configuration or is forked, or one that no file of CP/M can have
   2   the configuration is wrong; nothing is written
@@ -245,10 +252,10 @@ Exit status:
       sessions exceed the frames of the configuration
   10  a program was cut off by its limit of steps, so that its drives were not
       written
-  11  with --status of com: the program still runs, its end was Running
-  12  with --status of com: its end was Illegal
-  13  with --status of com: its end was Quota
-  14  with --status of com: its end was CountEnd
+  11  with --status: the program still runs, its end was Running
+  12  with --status: its end was Illegal
+  13  with --status: its end was Quota
+  14  with --status: its end was CountEnd
 
 The launcher has two more: 70 where this machine can't run the program, and 71
 where 'cpmhost --version --check' finds another program than the released one.
@@ -261,6 +268,7 @@ pub fn page_text(page: Page) -> &'static str
     match page {
         Page::Overview => OVERVIEW_PAGE,
         Page::Com => COM_PAGE,
+        Page::Boot => BOOT_PAGE,
         Page::Asm => ASM_PAGE,
         Page::List => LIST_PAGE,
         Page::Check => CHECK_PAGE,
@@ -285,6 +293,7 @@ pub fn page_line(page: Page) -> &'static str
     match page {
         Page::Overview => "cpmhost --help",
         Page::Com => "cpmhost help com",
+        Page::Boot => "cpmhost help boot",
         Page::Asm => "cpmhost help asm",
         Page::List => "cpmhost help list",
         Page::Check => "cpmhost help check",

@@ -1,8 +1,9 @@
 //! Reading the entries that a command line gave.
 ghost use Rattle.std.specs.Prelude.{◌≡◌, IfOk, IfErr, IsSomeAnd, None, Some, codes, map, true, false};
-ghost use Rattle.clap.specs.Words.{all_of, fault_of, found_of, rows_of, subcommand_rows_of, takes};
-ghost use Rattle.cpm_command_line.specs.CommandLine.{HasEntriesOf, IsWhole, IsWholeAsm, IsWholeCheck, IsWholeCom};
-ghost use Rattle.cpm_command_line.specs.CommandLine.{IsWholeDebug, IsWholeList, IsWholeOf, IsWholeRun, ReadsWordsIfAny, host_app};
+ghost use Rattle.clap.specs.Words.{all_of, fault_of, found_of, one_of, rows_of, subcommand_rows_of, takes};
+ghost use Rattle.cpm_command_line.specs.CommandLine.{HasEntriesOf, HasPlayEntries, IsFlag, IsTyped, IsWhole, IsWholeAsm};
+ghost use Rattle.cpm_command_line.specs.CommandLine.{IsWholeCheck, IsWholeCom, IsWholeDebug, IsWholeList, IsWholeOf, IsWholePlay};
+ghost use Rattle.cpm_command_line.specs.CommandLine.{IsWholeRun, ReadsWordsIfAny, host_app};
 ghost use Rattle.cpm_command_line.specs.HelpWords.{is_help_line, named_by, page_of_line};
 ghost use Rattle.cpm_command_line.specs.Line.{HasUsers, IsFaultless, IsHostTask, IsPageOrMemory, IsTaskOf};
 ghost use Rattle.cpm_command_line.specs.Line.{app_of_line, asked_page, asks_by_flag, names_disk, words_of_line};
@@ -14,33 +15,34 @@ use crate::disk::disk_task;
 use crate::entries::{count_if_any, cpu_of, flag_of, text_if_any, text_of, texts_if_any};
 use crate::fault::{UsageError, UsageRefusal, answer};
 use crate::options::options_fault;
-use crate::task::{ComTask, RunTask, Task};
+use crate::task::{PlayTask, RunTask, Task};
 use crate::usage::{Page, is_help_line, page_of_help_line, page_of_line};
 use clap::ArgMatches;
 use std::alloc::{AllocError, Global};
 
-/// The task of `com` with its tail, the images of its drives, and the files that these go to.
-fn com_task_with<'a>(
+/// The task of a machine that is played, with what `com` and `boot` take from entries of their own.
+fn play_task<'a>(
     matches: &ArgMatches<'a>,
+    file: Option<&'a str>,
     tail: Vec<&'a str>,
     drives: Vec<&'a str>,
     outs: Vec<&'a str>,
-) -> Task<'a>
-    requires whole { IsWholeCom (rows_of (found_of matches.now)) }
-    requires tail { ReadsWordsIfAny (all_of (codes "tail") (rows_of (found_of matches.now))) tail.items }
-    requires drives { ReadsWordsIfAny (all_of (codes "disk") (rows_of (found_of matches.now))) drives.items }
+    is_live: bool,
+) -> PlayTask<'a>
+    requires whole { IsWholePlay (rows_of (found_of matches.now)) }
     requires outs { ReadsWordsIfAny (all_of (codes "out-disk") (rows_of (found_of matches.now))) outs.items }
-    ensures { HasEntriesOf (codes "com", rows_of (found_of matches.now)) result }
+    ensures entries { HasPlayEntries (rows_of (found_of matches.now)) result }
+    ensures own { (result.file ≡ file.entry) × (result.tail ≡ tail.entry) × (result.drives ≡ drives.entry) × (result.is_live ≡ is_live) }
 {
-    Task::Com(ComTask {
-        file: text_of(matches, "file"),
+    PlayTask {
+        file,
         tail,
         cpu: cpu_of(matches),
         steps: count_if_any(matches, "steps"),
         keys: text_if_any(matches, "keys"),
         drives,
         outs,
-        is_live: flag_of(matches, "keyboard"),
+        is_live,
         record: text_if_any(matches, "record"),
         has_progress: flag_of(matches, "progress"),
         stops_idle: flag_of(matches, "stop-idle"),
@@ -50,7 +52,8 @@ fn com_task_with<'a>(
         has_status: flag_of(matches, "status"),
         replay: text_if_any(matches, "replay"),
         pace: count_if_any(matches, "pace"),
-    })
+        system: text_if_any(matches, "system"),
+    }
 }
 
 /// The task of `com`. What it owns is made here, where memory may be refused.
@@ -61,7 +64,33 @@ fn com_task<'a>(alloc: Global, matches: &ArgMatches<'a>) -> Result<Task<'a>, All
     let tail = texts_if_any(alloc, matches, "tail")?;
     let drives = texts_if_any(alloc, matches, "disk")?;
     let outs = texts_if_any(alloc, matches, "out-disk")?;
-    Ok(com_task_with(matches, tail, drives, outs))
+    let file = Some(text_of(matches, "file"));
+    let is_live = flag_of(matches, "keyboard");
+    let task = play_task(matches, file, tail, drives, outs, is_live);
+    Ok(Task::Com(task))
+}
+
+/// Whether the keys of `boot` are typed.
+fn is_typed(matches: &ArgMatches<'_>) -> bool
+    requires { IsFlag (one_of (codes "keyboard") (rows_of (found_of matches.now))) }
+    ensures { IsTyped (rows_of (found_of matches.now)) result }
+{
+    let is_asked = flag_of(matches, "keyboard");
+    let keys = text_if_any(matches, "keys");
+    let replay = text_if_any(matches, "replay");
+    is_asked || (keys.is_none() && replay.is_none())
+}
+
+/// The task of `boot`.
+fn boot_task<'a>(alloc: Global, matches: &ArgMatches<'a>) -> Result<Task<'a>, AllocError>
+    requires { IsWholePlay (rows_of (found_of matches.now)) }
+    ensures { IfOk result (HasEntriesOf (codes "boot", rows_of (found_of matches.now))) }
+{
+    let drives = texts_if_any(alloc, matches, "place")?;
+    let outs = texts_if_any(alloc, matches, "out-disk")?;
+    let is_live = is_typed(matches);
+    let task = play_task(matches, None, Vec::new(alloc), drives, outs, is_live);
+    Ok(Task::Boot(task))
 }
 
 /// The task of `asm`.
@@ -142,6 +171,7 @@ fn task_named<'a>(
 {
     match name {
         "com" => com_task(alloc, matches),
+        "boot" => boot_task(alloc, matches),
         "asm" => Ok(asm_task(matches)),
         "list" => Ok(list_task(matches)),
         "check" => Ok(check_task(matches)),

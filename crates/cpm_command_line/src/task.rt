@@ -7,7 +7,9 @@ use cpm_flags::Cpu;
 #[derive(Debug, PartialEq, Eq, Drop)]
 pub enum Task<'a> {
     /// `com ..`: run a program.
-    Com(ComTask<'a>),
+    Com(PlayTask<'a>),
+    /// `boot ..`: start CP/M at its prompt.
+    Boot(PlayTask<'a>),
     /// `asm SOURCE OUT [--list FILE]`: assemble SOURCE, and write its image to OUT. `list` is the file that
     /// a listing is written to.
     Asm {
@@ -39,14 +41,20 @@ pub enum Task<'a> {
     Help(Page),
 }
 
+/// A machine that is played: by `com` with a program, or by `boot` from the prompt of CP/M.
+///
 /// `com FILE [TAIL..] [--z80] [--steps N] [--keys SCRIPT] [--disk IMAGE].. [--out-disk IMAGE]..
 /// [--keyboard] [--record SCRIPT] [--progress] [--stop-idle] [--raw] [--quiet] [--partial] [--status]
-/// [--replay RECORDING] [--pace N]`: run the program in FILE.
+/// [--replay RECORDING] [--pace N] [--system IMAGE]`: run the program in FILE.
+///
+/// `boot [PLACE..] [--z80] [--steps N] [--keys SCRIPT] [--out-disk IMAGE].. [--keyboard]
+/// [--record SCRIPT] [--progress] [--stop-idle] [--raw] [--quiet] [--partial] [--status]
+/// [--replay RECORDING] [--pace N] [--system IMAGE]`: start CP/M with these drives.
 #[derive(Debug, PartialEq, Eq, Drop)]
-pub struct ComTask<'a> {
-    /// The file that the program is in.
-    pub file: &'a str,
-    /// The words after the program's name.
+pub struct PlayTask<'a> {
+    /// The file that the program is in. There is one for `com`, and none for `boot`.
+    pub file: Option<&'a str>,
+    /// The words after the program's name: none for `boot`.
     pub tail: Vec<&'a str>,
     /// The processor that it runs on.
     pub cpu: Cpu,
@@ -54,11 +62,13 @@ pub struct ComTask<'a> {
     pub steps: Option<u64>,
     /// The file of a key script, whose keys are pressed. Not with `replay`.
     pub keys: Option<&'a str>,
-    /// The images of the drives from A on, of which there are four at most.
+    /// The images of the drives from A on, of which there are four at most. A folder stands for a drive with
+    /// its files.
     pub drives: Vec<&'a str>,
     /// The files that these drives are written to.
     pub outs: Vec<&'a str>,
-    /// The keys of standard input are taken as they are typed, after those of a script or a recording.
+    /// The keys of standard input are taken as they are typed, after those of a script or a recording. For
+    /// `boot` they are also where it has neither.
     pub is_live: bool,
     /// The script that the keys are written to, where it is live, or has a script or a recording.
     pub record: Option<&'a str>,
@@ -78,6 +88,8 @@ pub struct ComTask<'a> {
     pub replay: Option<&'a str>,
     /// How many thousands of steps pass in a second at most, from 1 on, where that was given.
     pub pace: Option<u64>,
+    /// The image of the system drive, where one was given.
+    pub system: Option<&'a str>,
 }
 
 /// `run CONFIG [--keyboard NAME] [--record SCRIPT] [--progress] [--stop-idle] [--record-all FOLDER] [--raw]

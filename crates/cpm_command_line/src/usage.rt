@@ -17,6 +17,8 @@ pub enum Page {
     Overview,
     /// The page of `com`.
     Com,
+    /// The page of `boot`.
+    Boot,
     /// The page of `asm`.
     Asm,
     /// The page of `list`.
@@ -58,6 +60,7 @@ fn command_page(word: &str) -> Option<Page>
 {
     match word {
         "com" => Some(Page::Com),
+        "boot" => Some(Page::Boot),
         "asm" => Some(Page::Asm),
         "list" => Some(Page::List),
         "check" => Some(Page::Check),

@@ -1,7 +1,7 @@
 //! What a command line asks for, in words: the names of the task's fields, each with its value where it has one.
 
 use crate::{add_text, add_texts};
-use cpm_command_line::{ComTask, DiskTask, RunTask, Task};
+use cpm_command_line::{DiskTask, PlayTask, RunTask, Task};
 use cpm_flags::Cpu;
 use std::alloc::Global;
 use test_language::RowFault;
@@ -10,7 +10,8 @@ use test_language::RowFault;
 pub fn shown_task(alloc: Global, task: &Task<'_>) -> Result<String, RowFault> {
     let mut out = String::new(alloc);
     match task {
-        Task::Com(task) => add_com(alloc, &mut out, task)?,
+        Task::Com(task) => add_play(alloc, &mut out, "com", task)?,
+        Task::Boot(task) => add_play(alloc, &mut out, "boot", task)?,
         Task::Asm {
             source,
             out: image,
@@ -75,9 +76,15 @@ fn add_user(alloc: Global, out: &mut String, user: u8) -> Result<(), RowFault> {
     Ok(())
 }
 
-/// Adds a program with its words, its keys and its drives.
-fn add_com(alloc: Global, out: &mut String, task: &ComTask<'_>) -> Result<(), RowFault> {
-    add_text(alloc, out, "com file", Some(task.file))?;
+/// Adds a machine that is played: the command's name, then its program with its words, its keys and its drives.
+fn add_play(
+    alloc: Global,
+    out: &mut String,
+    command: &str,
+    task: &PlayTask<'_>,
+) -> Result<(), RowFault> {
+    out.push_str(command)?;
+    add_text(alloc, out, " file", task.file)?;
     add_texts(alloc, out, " tail", task.tail.as_slice())?;
     add_cpu(out, task.cpu)?;
     add_count(alloc, out, "steps", task.steps)?;
@@ -93,7 +100,8 @@ fn add_com(alloc: Global, out: &mut String, task: &ComTask<'_>) -> Result<(), Ro
     add_flag(out, " is_partial", task.is_partial)?;
     add_flag(out, " has_status", task.has_status)?;
     add_text(alloc, out, " replay", task.replay)?;
-    add_count(alloc, out, "pace", task.pace)
+    add_count(alloc, out, "pace", task.pace)?;
+    add_text(alloc, out, " system", task.system)
 }
 
 /// Adds a configuration that is run.

@@ -11,6 +11,11 @@ com_task-requires c =
     let rows = rows_of (found_of c.args.matches.now) in
     subst (λ (n : Text). IsWholeAs n rows) c.in-com.is (whole_as (c.args.name.now, rows) c.requires)
 
+pub boot_task-requires : goal.boot_task-requires
+boot_task-requires c =
+    let rows = rows_of (found_of c.args.matches.now) in
+    subst (λ (n : Text). IsWholeAs n rows) c.in-boot.is (whole_as (c.args.name.now, rows) c.requires)
+
 pub asm_task-requires : goal.asm_task-requires
 asm_task-requires c =
     let rows = rows_of (found_of c.args.matches.now) in
@@ -34,7 +39,7 @@ run_task-requires c =
 pub debug_task-requires : goal.debug_task-requires
 debug_task-requires c =
     let rows = rows_of (found_of c.args.matches.now) in
-    (whole_last (c.args.name.now, rows) c.in_default.not-com c.in_default.not-asm c.in_default.not-list c.in_default.not-check c.in_default.not-run c.requires).1
+    (whole_last (c.args.name.now, rows) c.in_default.not-com c.in_default.not-boot c.in_default.not-asm c.in_default.not-list c.in_default.not-check c.in_default.not-run c.requires).1
 
 -- ---- the task has the entries of this name
 
@@ -42,6 +47,11 @@ pub returns-in-com : goal.returns-in-com
 returns-in-com c =
     let rows = rows_of (found_of c.args.matches.now) in
     subst (λ (n : Text). IfOk c.com_task.result (HasEntriesOf (n, rows))) (sym c.in-com.is) c.com_task.ensures
+
+pub returns-in-boot : goal.returns-in-boot
+returns-in-boot c =
+    let rows = rows_of (found_of c.args.matches.now) in
+    subst (λ (n : Text). IfOk c.boot_task.result (HasEntriesOf (n, rows))) (sym c.in-boot.is) c.boot_task.ensures
 
 pub returns-in-asm : goal.returns-in-asm
 returns-in-asm c =
@@ -67,4 +77,4 @@ pub returns-in_default : goal.returns-in_default
 returns-in_default c =
     let rows = rows_of (found_of c.args.matches.now) in
     subst (λ (n : Text). HasEntriesOf (n, rows) c.debug_task.result)
-    (sym (whole_last (c.args.name.now, rows) c.in_default.not-com c.in_default.not-asm c.in_default.not-list c.in_default.not-check c.in_default.not-run c.requires).0) c.debug_task.ensures
+    (sym (whole_last (c.args.name.now, rows) c.in_default.not-com c.in_default.not-boot c.in_default.not-asm c.in_default.not-list c.in_default.not-check c.in_default.not-run c.requires).0) c.debug_task.ensures
