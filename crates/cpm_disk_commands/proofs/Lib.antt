@@ -5,3 +5,6 @@ pub mod ListingLemmas
 pub mod OrderLemmas
 pub mod SpelledLemmas
 pub mod RoundLemmas
+pub mod BlankLemmas
+pub mod FolderLemmas
+pub mod FilesLemmas

@@ -1,5 +1,6 @@
 pub mod Damage
 pub mod DiskCommands
+pub mod Folder
 pub mod HostNames
 pub mod Listing
 pub mod Matching

@@ -5,6 +5,7 @@
 pub mod damage;
 pub mod disk_commands;
 pub mod error;
+pub mod folder;
 pub mod host_names;
 pub mod laws;
 mod lines;
@@ -16,6 +17,7 @@ pub mod words;
 pub use damage::{Damage, NamedFile, damage_of};
 pub use disk_commands::{get_file, image_of, new_image, put_file, remove_file, rename_file};
 pub use error::DiskCommandError;
+pub use folder::{FolderName, FolderNames, HostFile, disk_of_files, names_of_folder};
 pub use host_names::{host_name, text_of_name};
 pub use listing::{list_files, write_list};
 pub use matching::matching_files;

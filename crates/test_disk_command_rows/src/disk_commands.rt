@@ -3,8 +3,8 @@
 use crate::files::{lines_of, named, shown_files, user_of};
 use crate::names::{act_on_names, characters, text_of};
 use cpm_disk_commands::{
-    DiskCommandError, check_new, file_name, get_file, host_name, image_of, list_files,
-    matching_files, new_image, put_file, remove_file, rename_file, text_of_name,
+    DiskCommandError, HostFile, check_new, disk_of_files, file_name, get_file, host_name, image_of,
+    list_files, matching_files, new_image, put_file, remove_file, rename_file, text_of_name,
 };
 use cpm_geom::{Format, Image};
 use cpm_image_files::{DiskFile, DiskListing, FileName, FileRefusal};
@@ -12,8 +12,8 @@ use std::alloc::{AllocError, Global};
 use test_images::Images;
 use test_language::{RowAnswer, RowFault, RowLine, Scene, Word};
 
-/// The images, what the names of files are told with, the files before another one, those of a list, and the status of the last
-/// refusal.
+/// The images, what the names of files are told with, the files before another one, those of a list and of a folder, and the
+/// status of the last refusal.
 #[derive(Drop)]
 pub struct DiskCommands {
     images: Images,
@@ -22,6 +22,7 @@ pub struct DiskCommands {
     is_system: bool,
     before: Vec<FileName>,
     listed: Vec<DiskFile>,
+    pub(crate) host_files: Vec<HostFile>,
     status: Option<u8>,
 }
 
@@ -34,6 +35,7 @@ impl Scene for DiskCommands {
             is_system: false,
             before: Vec::new(alloc),
             listed: Vec::new(alloc),
+            host_files: Vec::new(alloc),
             status: None,
         })
     }
@@ -55,7 +57,7 @@ impl Scene for DiskCommands {
                 Some(status) => RowAnswer::words(alloc, status),
                 None => RowAnswer::words(alloc, "none"),
             },
-            "new" | "image-of" | "put" | "put-text" | "remove" | "rename" => {
+            "new" | "image-of" | "put" | "put-text" | "remove" | "rename" | "disk-of" => {
                 self.change(alloc, line)
             }
             "get" => self.get(alloc, line.arguments(), false),
@@ -68,6 +70,7 @@ impl Scene for DiskCommands {
             "check" => self.check(alloc, line.arguments()),
             "listed" => self.add_listed(alloc, line.arguments()),
             "write-list" => self.write_listed(alloc, line.arguments()),
+            "host-files" => self.add_host_files(alloc, line.arguments()),
             "tell" => self.tell(alloc, line.arguments()),
             _ => act_on_names(alloc, line),
         }
@@ -99,14 +102,18 @@ impl DiskCommands {
     }
 
     /// A refusal, whole: its code and its text.
-    fn refused(&mut self, alloc: Global, error: DiskCommandError) -> Result<RowAnswer, RowFault> {
+    pub(crate) fn refused(
+        &mut self,
+        alloc: Global,
+        error: DiskCommandError,
+    ) -> Result<RowAnswer, RowFault> {
         let code = error.code();
         self.status = Some(code.status());
         Ok(RowAnswer::Refused(format!(in alloc; "{code} {error}")?))
     }
 
     /// Does a line that makes an image or changes one: `new IMAGE [large]`, `image-of IMAGE BYTES`, `put IMAGE NAME BYTES`,
-    /// `put-text IMAGE NAME TEXT`, `remove IMAGE NAME` or `rename IMAGE OLD NEW`.
+    /// `put-text IMAGE NAME TEXT`, `remove IMAGE NAME`, `rename IMAGE OLD NEW` or `disk-of IMAGE FOLDER`.
     fn change(&mut self, alloc: Global, line: &RowLine<'_>) -> Result<RowAnswer, RowFault> {
         let [image, rest @ ..] = line.arguments() else {
             return Err(RowFault::Words);
@@ -140,6 +147,9 @@ impl DiskCommands {
             }
             ("remove", [name]) => self.remove(alloc, image, *name),
             ("rename", [old, new]) => self.rename(alloc, image, *old, *new),
+            ("disk-of", [folder]) => {
+                Ok(disk_of_files(alloc, folder.text, self.host_files.as_slice()))
+            }
             _ => Err(RowFault::Words),
         }
     }
@@ -195,7 +205,7 @@ impl DiskCommands {
     }
 
     /// The file of the user that a text names, with the attributes.
-    fn file(
+    pub(crate) fn file(
         &self,
         alloc: Global,
         name: Word<'_>,

@@ -5,6 +5,7 @@
 mod batches;
 mod disk_commands;
 mod files;
+mod folders;
 mod names;
 mod stores;
 

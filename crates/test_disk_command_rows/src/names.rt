@@ -1,10 +1,11 @@
 //! Names of files and patterns as a person writes them.
 
+use crate::folders::folder;
 use cpm_disk_commands::{base_name, name_of, pattern_of, split_pair, text_of_name};
 use std::alloc::Global;
 use test_language::{RowAnswer, RowFault, RowLine, Word, bytes_of};
 
-/// Does a line about names: `name`, `pattern`, `text`, `pair` or `last`; any other is `Unknown`.
+/// Does a line about names: `name`, `pattern`, `text`, `pair`, `last` or `folder`; any other is `Unknown`.
 pub fn act_on_names(alloc: Global, line: &RowLine<'_>) -> Result<RowAnswer, RowFault> {
     match line.verb() {
         "name" => name(alloc, line.arguments()),
@@ -12,6 +13,7 @@ pub fn act_on_names(alloc: Global, line: &RowLine<'_>) -> Result<RowAnswer, RowF
         "text" => text(alloc, line.arguments()),
         "pair" => pair(alloc, line.arguments()),
         "last" => last(alloc, line.arguments()),
+        "folder" => folder(alloc, line.arguments()),
         _ => Err(RowFault::Unknown),
     }
 }
