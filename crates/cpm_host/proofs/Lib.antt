@@ -3,5 +3,4 @@ pub mod AsmListingLemmas
 pub mod InputLemmas
 pub mod ListLemmas
 pub mod ProgramLemmas
-pub mod StartLemmas
 pub mod TailLemmas

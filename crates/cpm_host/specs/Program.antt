@@ -1,5 +1,6 @@
--- A program that is played by its script or typed at: what it runs with, what it shows and leaves, and when it is refused. All of it is own.
-use Rattle.std.specs.Prelude.{⊤, ◌≡◌, ◌<◌, ◌≤◌, ◌⊎◌, ℕ, List, [], ◌∷◌, length, map, chars, Option, Some, None, Ok, Err}
+-- A program, or the prompt of CP/M, that is played by its script or typed at: what it runs with, what it shows and leaves, and when it is refused.
+-- All of it is own.
+use Rattle.std.specs.Prelude.{⊤, ◌≡◌, ◌<◌, ◌≤◌, ◌⊎◌, ℕ, List, [], ◌∷◌, length, map, chars, option_map, Option, Some, None, Ok, Err}
 use Rattle.std.specs.Io.KnownBytes.{Appends}
 use Rattle.cpm_batch.specs.declared.error.ReadError.TheVariants as read
 use Rattle.cpm_command_line.specs.Shown.{shown_of}
@@ -16,10 +17,12 @@ use Rattle.cpm_script.specs.declared.script.Key.{Key}
 use Rattle.cpm_script.specs.declared.fault.ScriptError.{ScriptError}
 use Rattle.cpm_script.specs.declared.fault.ScriptError.TheVariants.{Line}
 use Rattle.cpm_script.specs.declared.fault.ScriptError.TheVariants as script_error
-use Rattle.cpm_machine.specs.MachineState.{MachineState, opened_with, with_tail}
-use Rattle.cpm_machine.specs.Opening.{most_program}
+use Rattle.cpm_machine.specs.MachineState.{MachineState, opened_machine, opened_with, with_tail}
+use Rattle.cpm_machine.specs.Opening.{most_program, opening_fault, program_fault}
 use Rattle.cpm_machine.specs.Serve.{look_of}
+use Rattle.cpm_machine.specs.declared.opening.OpenError.{OpenError}
 use Rattle.cpm_machine.specs.declared.opening.OpenError.TheVariants.{BadDrives}
+use Rattle.cpm_machine.specs.declared.opening.Opening.{Opening}
 use Rattle.cpm_play.specs.Cued.{AreAscii, HasEndedCued, IsCued, IsCutOff, key_count}
 use Rattle.cpm_play.specs.Live.{AreGiven}
 use Rattle.cpm_play.specs.Playing.{IsFresh, alone_by, waits_at}
@@ -40,42 +43,72 @@ use Rattle.cpm_host.specs.declared.program.ProgramStart.{ProgramStart}
 use Rattle.cpm_host.specs.declared.program.Source.{Source}
 use Rattle.cpm_host.specs.declared.program.Source.TheVariants.{Cues, Typed}
 
--- ---- what a program begins with
+-- ---- what a machine begins with
 
 pub record ProgramInput : Type 0 where
   pub cpu : Cpu
-  pub program : List ℕ
+  -- without one the machine begins at the prompt
+  pub program : Option (List ℕ)
   -- the tail of its command, where one is left in the memory
   pub tail : Option (List ℕ)
   pub drives : List Disk
+  pub system : Option Disk
 
 abbrev pub program_given : ProgramStart → ProgramInput
 program_given start = record {
   cpu = start.cpu;
-  program = start.program.items;
+  program = option_map (λ p. p.items) start.program;
   tail = start.tail;
   drives = start.drives.items;
+  system = start.system;
 }
+
+-- no byte where there is no program
+abbrev pub program_bytes : Option (List ℕ) → List ℕ
+program_bytes None = []
+program_bytes (Some bytes) = bytes
+
+abbrev pub program_length : ProgramInput → ℕ
+program_length g = length (program_bytes g.program)
 
 -- one blank drive where there is none
 abbrev pub drives_or_blank : List Disk → List Disk
 drives_or_blank [] = blank_disk Ibm3740 ∷ []
 drives_or_blank (d ∷ ds) = d ∷ ds
 
+-- a blank one where there is none
+abbrev pub disk_or_blank : Option Disk → Disk
+disk_or_blank None = blank_disk Ibm3740
+disk_or_blank (Some d) = d
+
+-- the system drive
+abbrev pub system_disk : ProgramInput → Disk
+system_disk g = disk_or_blank g.system
+
 -- a tail is left as the command processor leaves it; without one the memory is as at an opening
 abbrev pub with_tail_if_any : Option (List ℕ) → MachineState → MachineState
 with_tail_if_any None s = s
 with_tail_if_any (Some tail) s = with_tail tail s
 
--- the machine that begins the program
-abbrev pub machine_of : ProgramInput → MachineState
-machine_of g = with_tail_if_any g.tail (opened_with g.cpu (drives_or_blank g.drives) g.program)
+-- a machine that may write all pages: it begins the program, or without one at the prompt, where no tail is left
+abbrev pub machine_begun : Cpu → List Disk → (program tail : Option (List ℕ)) → MachineState
+machine_begun cpu drives None tail = opened_machine cpu 256 drives
+machine_begun cpu drives (Some program) tail = with_tail_if_any tail (opened_with cpu drives program)
 
--- how the machine of a program is refused: the program is too long, then there are too many drives, then memory is refused
+-- the machine that begins so
+abbrev pub machine_of : ProgramInput → MachineState
+machine_of g = machine_begun g.cpu (drives_or_blank g.drives) g.program g.tail
+
+-- why none is made that begins a program, or at the prompt
+abbrev pub begin_fault : Opening → Option (List ℕ) → Option OpenError
+begin_fault o None = opening_fault o
+begin_fault o (Some program) = program_fault o program
+
+-- how the machine is refused: its program is too long, then there are too many drives, then memory is refused
 abbrev pub IsProgramRefusal : ProgramInput → HostError → Type 0
-IsProgramRefusal g (ProgramTooLong count) = (most_program < length g.program) × (count ≡ length g.program)
-IsProgramRefusal g (OpeningRefused fault) = (length g.program ≤ most_program) × (4 < length g.drives) × (fault ≡ BadDrives)
-IsProgramRefusal g OutOfMemory = (length g.program ≤ most_program) × (length g.drives ≤ 4)
+IsProgramRefusal g (ProgramTooLong count) = (most_program < program_length g) × (count ≡ program_length g)
+IsProgramRefusal g (OpeningRefused fault) = (program_length g ≤ most_program) × (4 < length g.drives) × (fault ≡ BadDrives)
+IsProgramRefusal g OutOfMemory = (program_length g ≤ most_program) × (length g.drives ≤ 4)
 IsProgramRefusal g _ = ⊥
 
 -- ---- its script
@@ -208,9 +241,9 @@ pub record IsRefusedUnplayed (g : ProgramInput) (io : Streams) (e : HostError) :
 
 -- or a machine takes it, and it was cut short
 pub record IsRefusedInPlay (source : Source) (g : ProgramInput) (steps : ℕ) (io : Streams) (e : HostError) : Type 0 where
-  pub short : length g.program ≤ most_program
+  pub short : program_length g ≤ most_program
   pub few : length g.drives ≤ 4
-  pub cut : IsCutBy source (blank_disk Ibm3740) (machine_of g) steps io e
+  pub cut : IsCutBy source (system_disk g) (machine_of g) steps io e
 
 abbrev pub IsProgramPlayRefusal : Source → ProgramInput → (steps : ℕ) → Streams → HostError → Type 0
 IsProgramPlayRefusal source g steps io e = IsRefusedUnplayed g io e ⊎ IsRefusedInPlay source g steps io e

@@ -1,8 +1,6 @@
-//! The command `com`: a program is played by what its script says, or as it is typed at.
-ghost use Rattle.std.specs.Prelude.{◌≡◌, ◌≢◌, ◌↔◌, ◌<◌, ◌≤◌, ℕ, List, Option, None, IfErr, IfOk, IsErrOf, OnOk, Ok, length, map};
+//! The commands `com` and `boot`: a program, or the prompt of CP/M, is played by what its script says, or as it is typed at.
+ghost use Rattle.std.specs.Prelude.{◌≡◌, ◌≢◌, ◌↔◌, ◌<◌, ◌≤◌, ℕ, List, Option, None, IfErr, IfOk, IsErrOf, OnOk, Ok, length, map, option_map};
 ghost use Rattle.cpm_script.specs.declared.cue.Cue.TheVariants.{Key as Timed};
-ghost use Rattle.cpm_geom.specs.Disk.{blank_disk};
-ghost use Rattle.cpm_geom.specs.declared.format.Format.TheVariants.{Ibm3740};
 ghost use Rattle.cpm_play.specs.Cued.{key_count};
 ghost use Rattle.cpm_script.specs.Cues.{all_said, cues};
 ghost use Rattle.cpm_script.specs.Script.{most_keys};
@@ -14,7 +12,8 @@ ghost use Rattle.cpm_run.specs.Settled.{streams};
 ghost use Rattle.cpm_host.specs.Program.{AreFit, AreRecorded, IsCueRefusal, IsCutCued, IsFitSource, IsLiveCut, IsPlayedBy, IsPlayedCued, IsPlayedLive};
 ghost use Rattle.cpm_host.specs.Program.{IsRecordingRefusal};
 ghost use Rattle.cpm_host.specs.Program.{IsProgramPlayRefusal, IsProgramRefusal, IsScriptTold};
-ghost use Rattle.cpm_host.specs.Program.{drives_or_blank, machine_of, play_of, program_given, with_tail_if_any};
+ghost use Rattle.cpm_host.specs.Program.{begin_fault, disk_or_blank, drives_or_blank, machine_begun, machine_of, play_of, program_given};
+ghost use Rattle.cpm_host.specs.Program.{program_length, system_disk, with_tail_if_any};
 
 use crate::error::HostError;
 use cpm_batch::ReadError;
@@ -96,26 +95,39 @@ pub enum Source<'a> {
     Typed { cues: &'a [Cue] },
 }
 
-/// What a program runs with.
+/// What a machine is played with.
 #[derive(Drop)]
 pub struct ProgramStart {
     pub cpu: Cpu,
-    /// Its bytes, which lie from 0100h on.
-    pub program: Vec<u8>,
-    /// The tail of its command, where one is left in the memory.
+    /// The bytes of a program, which lie from 0100h on; without one the machine begins at the prompt of CP/M.
+    pub program: Option<Vec<u8>>,
+    /// The tail of the program's command, where one is left in the memory. Without a program none is.
     pub tail: Option<Tail>,
     /// The images of its drives, the first as A; a blank one where there is none.
     pub drives: Vec<Image>,
+    /// The image of its system drive; a blank one where there is none.
+    pub system: Option<Image>,
 }
 
 impl ProgramStart {
-    /// Refuses a program that no machine runs: `ProgramTooLong`, then `OpeningRefused` for more than four drives.
+    /// How many bytes its program has, 0 where there is none.
+    fn program_length(&self) -> usize
+        ensures { result ≡ program_length (program_given self.now) }
+    {
+        match &self.program {
+            Some(program) => program.len(),
+            None => 0,
+        }
+    }
+
+    /// Refuses what no machine begins: `ProgramTooLong` for a program of more than 58,112 bytes, then `OpeningRefused` for more than four drives.
     pub fn check(&self) -> Result<(), HostError>
-        ensures fits { OnOk result ((length (program_given self.now).program ≤ most_program) × (length (program_given self.now).drives ≤ 4)) }
+        ensures fits { OnOk result ((program_length (program_given self.now) ≤ most_program) × (length (program_given self.now).drives ≤ 4)) }
         ensures refusal { IfErr result (λ e. IsProgramRefusal (program_given self.now) e × (e ≢ HostError.OutOfMemory)) }
     {
-        if self.program.len() > MOST_PROGRAM {
-            return Err(HostError::ProgramTooLong(self.program.len()));
+        let length = self.program_length();
+        if length > MOST_PROGRAM {
+            return Err(HostError::ProgramTooLong(length));
         }
         if self.drives.len() > MOST_DRIVES {
             return Err(HostError::OpeningRefused(OpenError::BadDrives));
@@ -152,11 +164,23 @@ fn drives_or_blank(alloc: Global, drives: Vec<Image>) -> Result<Vec<Image>, Host
     Ok(drives)
 }
 
-/// The machine that begins a program.
-fn machine_of(alloc: Global, start: ProgramStart) -> Result<Machine, HostError>
-    ensures made { IfOk result (λ m. m ≡ machine_of (program_given start)) }
-    ensures fresh { IfOk result IsFresh }
-    ensures fits { OnOk result ((length (program_given start).program ≤ most_program) × (length (program_given start).drives ≤ 4)) }
+/// The system drive, or a blank one where there is none.
+fn disk_or_blank(alloc: Global, image: Option<Image>) -> Result<Image, HostError>
+    ensures disk { IfOk result (λ d. d ≡ disk_or_blank image) }
+    ensures refusal { IfErr result (λ e. e ≡ HostError.OutOfMemory) }
+{
+    match image {
+        Some(image) => Ok(image),
+        None => Ok(Image::blank(alloc, Format::Ibm3740)?),
+    }
+}
+
+/// The machine that begins so, and its system drive.
+fn machine_of(alloc: Global, start: ProgramStart) -> Result<(Machine, Image), HostError>
+    ensures made { IfOk result (λ m. m.0 ≡ machine_of (program_given start)) }
+    ensures system { IfOk result (λ m. m.1 ≡ system_disk (program_given start)) }
+    ensures fresh { IfOk result (λ m. IsFresh m.0) }
+    ensures fits { OnOk result ((program_length (program_given start) ≤ most_program) × (length (program_given start).drives ≤ 4)) }
     ensures refusal { IfErr result (IsProgramRefusal (program_given start)) }
 {
     start.check()?;
@@ -165,32 +189,54 @@ fn machine_of(alloc: Global, start: ProgramStart) -> Result<Machine, HostError>
         program,
         tail,
         drives,
+        system,
     } = start;
     let opening = Opening {
         cpu,
         quota: MOST_QUOTA,
         drives: drives_or_blank(alloc, drives)?,
     };
-    match begun(alloc, opening, program, &tail) {
-        Ok(machine) => Ok(machine),
-        Err((_, _, fault)) => Err(HostError::from(fault)),
+    let machine = begun(alloc, opening, program, &tail)?;
+    Ok((machine, disk_or_blank(alloc, system)?))
+}
+
+/// A machine that begins this program, with a tail if there is one; without a program it begins at the prompt.
+fn begun(
+    alloc: Global,
+    opening: Opening,
+    program: Option<Vec<u8>>,
+    tail: &Option<Tail>,
+) -> Result<Machine, OpenError>
+    requires all { opening.quota ≡ 256 }
+    ensures made { IfOk result (λ m. m ≡ machine_begun opening.cpu opening.drives.items (option_map (λ p. p.items) program) tail.now) }
+    ensures refused { IfErr result (IsRefusal (begin_fault opening (option_map (λ p. p.items) program))) }
+{
+    match program {
+        Some(program) => with_program(alloc, opening, program, tail),
+        None => match Machine::new(alloc, opening) {
+            Ok(machine) => Ok(machine),
+            Err((_, fault)) => Err(fault),
+        },
     }
 }
 
 /// A machine that begins this program, with a tail if there is one.
-fn begun(
+fn with_program(
     alloc: Global,
     opening: Opening,
     program: Vec<u8>,
     tail: &Option<Tail>,
-) -> Result<Machine, (Opening, Vec<u8>, OpenError)>
+) -> Result<Machine, OpenError>
     ensures made { IfOk result (λ m. m ≡ with_tail_if_any tail.now (opened_with opening.cpu opening.drives.items program.items)) }
-    ensures fits { OnOk result (program_fault opening program.items ≡ None) }
-    ensures refused { IfErr result (λ r. IsRefusal (program_fault opening program.items) r.2) }
+    ensures refused { IfErr result (IsRefusal (program_fault opening program.items)) }
 {
-    match tail {
+    let made = match tail {
         Some(tail) => Machine::with_command(alloc, opening, program, tail),
         None => Machine::with_program(alloc, opening, program),
+    };
+    match made {
+        Ok(machine) => Ok(machine),
+        Err((_, _, fault)) => Err(fault),
     }
 }
 
@@ -211,7 +257,8 @@ fn play_of(machine: Machine, live: LivePlay, end: Option<PlayEnd>) -> ProgramPla
     }
 }
 
-/// Plays a machine by a script that may wait, for at most `steps` steps. There may be anything to read.
+/// Plays a machine by a script that may wait, for at most `steps` steps. There may be anything to read. It stands apart, so that its stack does.
+#[inline(never)]
 fn play_cued<W: Write, S: Write, T: Watcher>(
     alloc: Global,
     system: &Image,
@@ -245,7 +292,8 @@ fn play_cued<W: Write, S: Write, T: Watcher>(
     Ok(play_of(machine, live, None))
 }
 
-/// Plays a machine by a script and then by the keys that are typed, for at most `steps` steps.
+/// Plays a machine by a script and then by the keys that are typed, for at most `steps` steps. It stands apart, so that its stack does.
+#[inline(never)]
 fn play_typed<P: Typist, W: Write, S: Write>(
     alloc: Global,
     system: &Image,
@@ -279,11 +327,12 @@ fn play_typed<P: Typist, W: Write, S: Write>(
     Ok(play_of(machine, play.live, Some(play.end)))
 }
 
-/// Runs a program on a machine of its own, with a blank system drive, for at most `steps` steps. Its keys are what its script says, or that and then what is
-/// typed; without typing nobody is asked for a key. It writes what the program shows as it comes, and each key to `record` as a line of a key script. What it
-/// sends to its list device is dropped. Where it goes by a script alone the watcher is told on the way how far it has come.
+/// Runs a program, or without one the command processor, on a machine of its own for at most `steps` steps. Its keys are what its script says, or that and
+/// then what is typed; without typing nobody is asked for a key. It writes what the machine shows as it comes, and each key to `record` as a line of a key
+/// script. What it sends to its list device is dropped. Where it goes by a script alone the watcher is told on the way how far it has come.
 ///
-/// `ProgramTooLong`, `OpeningRefused` for more than four drives, and `OutOfMemory` for the machine come before anybody is heard, or anything written.
+/// `ProgramTooLong`, `OpeningRefused` for more than four drives, and `OutOfMemory` for the machine and its system drive come before anybody is heard, or
+/// anything written.
 /// `InputUnreadable`, `OutputUnwritable` and `RecordUnwritable` have the errors of the typist and the two writers.
 pub fn run_program<P: Typist, W: Write, S: Write, T: Watcher>(
     alloc: Global,
@@ -296,18 +345,17 @@ pub fn run_program<P: Typist, W: Write, S: Write, T: Watcher>(
     watcher: &mut T,
 ) -> Result<ProgramPlay, HostError>
     requires fit { IsFitSource source }
-    ensures played { IfOk result (λ t. IsPlayedBy source.entry (blank_disk Ibm3740) (machine_of (program_given start)) steps t
+    ensures played { IfOk result (λ t. IsPlayedBy source.entry (system_disk (program_given start)) (machine_of (program_given start)) steps t
         (streams (P.typing typist.old) (P.typing typist.new) (W.contents out.old) (W.contents out.new)
         (S.contents «record».old) (S.contents «record».new))) }
-    ensures fits { OnOk result ((length (program_given start).program ≤ most_program) × (length (program_given start).drives ≤ 4)) }
-    ensures too_long { IsErrOf result (HostError.ProgramTooLong (length (program_given start).program))
-        ↔ (most_program < length (program_given start).program) }
+    ensures fits { OnOk result ((program_length (program_given start) ≤ most_program) × (length (program_given start).drives ≤ 4)) }
+    ensures too_long { IsErrOf result (HostError.ProgramTooLong (program_length (program_given start)))
+        ↔ (most_program < program_length (program_given start)) }
     ensures refusal { IfErr result (IsProgramPlayRefusal source.entry (program_given start) steps
         (streams (P.typing typist.old) (P.typing typist.new) (W.contents out.old) (W.contents out.new)
         (S.contents «record».old) (S.contents «record».new))) }
 {
-    let machine = machine_of(alloc, start)?;
-    let system = Image::blank(alloc, Format::Ibm3740)?;
+    let (machine, system) = machine_of(alloc, start)?;
     match source {
         Source::Cues(cued) => {
             play_cued(alloc, &system, machine, steps, cued, out, record, watcher)

@@ -40,9 +40,10 @@ pub fn start(alloc: Global) -> Result<ProgramStart, AllocError> {
     drives.push(Image::blank(alloc, Format::Ibm3740)?)?;
     Ok(ProgramStart {
         cpu: Cpu::I8080,
-        program: letter(alloc)?,
+        program: Some(letter(alloc)?),
         tail: Tail::new(b" A.TXT"),
         drives,
+        system: None,
     })
 }
 

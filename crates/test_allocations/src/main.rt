@@ -61,7 +61,7 @@ impl CallOutcome {
 }
 
 /// The calls, as they are named on the command line.
-const NAMES: [&str; 44] = [
+const NAMES: [&str; 45] = [
     "command",
     "FlatMemory::new",
     "FrameStore::new",
@@ -105,6 +105,7 @@ const NAMES: [&str; 44] = [
     "run_program by a script",
     "run_program by typed keys",
     "run_program by a script and typed keys",
+    "run_program at the prompt",
     "run_asm_listed",
 ];
 
@@ -157,6 +158,7 @@ fn make_command(alloc: Global, name: &str) -> Result<CallOutcome, AllocError> {
         "run_program by a script" => waiting::program(alloc),
         "run_program by typed keys" => commands::typed(alloc),
         "run_program by a script and typed keys" => waiting::program_typed_at(alloc),
+        "run_program at the prompt" => waiting::prompt(alloc),
         "run_asm_listed" => Ok(waiting::listed_source(alloc)),
         _ => Ok(CallOutcome::Wrong),
     }

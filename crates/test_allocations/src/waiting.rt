@@ -3,6 +3,7 @@
 use crate::CallOutcome;
 use crate::commands::{Counter, start};
 use crate::texts::SOURCE;
+use cpm_geom::{Format, Image};
 use cpm_host::{
     CuedKeys, HostError, KeyReader, NoWatcher, PlayEnd, ProgramStart, Source, cues_of,
     run_asm_listed, run_program,
@@ -11,6 +12,9 @@ use std::alloc::{AllocError, Global};
 
 /// A line of the command processor, and a key once its prompt is shown again.
 const WAITS: &[u8] = b"wait DIR^M\nexpect \"A>\" B\n";
+
+/// What is shown then of a blank disk.
+const PROMPT: &[u8] = b"\r\nA>DIR\r\r\nNO FILE\r\nA>B";
 
 /// Reads keys up to a return.
 const READS: &[u8] = &[
@@ -73,7 +77,7 @@ pub fn program(alloc: Global) -> Result<CallOutcome, AllocError> {
 /// A program that is typed at behind its script. It echoes each key before the next one is read.
 pub fn program_typed_at(alloc: Global) -> Result<CallOutcome, AllocError> {
     let start = ProgramStart {
-        program: Vec::from_slice(alloc, READS)?,
+        program: Some(Vec::from_slice(alloc, READS)?),
         ..start(alloc)?
     };
     let Ok(cues) = cues_of(alloc, "first.keys", FIRST) else {
@@ -100,6 +104,41 @@ pub fn program_typed_at(alloc: Global) -> Result<CallOutcome, AllocError> {
             CallOutcome::made_if(is_right && played.end == Some(PlayEnd::Ended))
         }
         Err(HostError::OutOfMemory) => CallOutcome::refused_if(is_right && out.count < 7),
+        _ => CallOutcome::Wrong,
+    })
+}
+
+/// A machine at the prompt, with a system drive. A line of its script is its command, and it waits within the next one.
+pub fn prompt(alloc: Global) -> Result<CallOutcome, AllocError> {
+    let start = ProgramStart {
+        program: None,
+        system: Some(Image::blank(alloc, Format::Ibm3740)?),
+        ..start(alloc)?
+    };
+    let Ok(cues) = cues_of(alloc, "waits.keys", WAITS) else {
+        return Err(AllocError);
+    };
+    let source = Source::Cues(CuedKeys {
+        cues: cues.as_slice(),
+        waits_from: 0,
+        stops_idle: true,
+    });
+    let nothing: &[u8] = &[];
+    let mut out = Counter { count: 0 };
+    let mut record = Counter { count: 0 };
+    let played = run_program(
+        alloc,
+        start,
+        1000,
+        source,
+        &mut KeyReader::new(nothing),
+        &mut out,
+        &mut record,
+        &mut NoWatcher,
+    );
+    Ok(match played {
+        Ok(played) if played.waits && out.count == PROMPT.len() => CallOutcome::Made,
+        Err(HostError::OutOfMemory) => CallOutcome::refused_if(out.count < PROMPT.len()),
         _ => CallOutcome::Wrong,
     })
 }

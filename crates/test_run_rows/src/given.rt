@@ -2,6 +2,7 @@
 
 use crate::programs::Programs;
 use cpm_flags::Cpu;
+use cpm_geom::Image;
 use cpm_host::tail_of;
 use std::alloc::Global;
 use test_images::Images;
@@ -49,6 +50,18 @@ fn text_of(alloc: Global, word: Word<'_>) -> Result<String, RowFault> {
 }
 
 impl Programs {
+    /// `system IMAGE`: a copy of the image of this name.
+    pub(crate) fn system_image(
+        &self,
+        alloc: Global,
+        arguments: &[Word<'_>],
+    ) -> Result<Image, RowFault> {
+        match arguments {
+            [name] => self.images.copy(alloc, name.text),
+            _ => Err(RowFault::Words),
+        }
+    }
+
     /// `listing BYTES`: the listing of the program. Without bytes: what it is.
     pub(crate) fn listing(
         &mut self,

@@ -36,13 +36,30 @@ impl Programs {
         Ok(drives)
     }
 
-    /// What a program runs with.
+    /// The program, if the machine doesn't begin at the prompt.
+    fn program_if_any(&self, alloc: Global) -> Result<Option<Vec<u8>>, RowFault> {
+        if self.at_prompt {
+            return Ok(None);
+        }
+        Ok(Some(Vec::from_slice(alloc, self.program.as_slice())?))
+    }
+
+    /// A copy of the system drive, if there is one.
+    fn system_if_any(&self, alloc: Global) -> Result<Option<Image>, RowFault> {
+        match &self.system {
+            Some(image) => Ok(Some(image.copy(alloc)?)),
+            None => Ok(None),
+        }
+    }
+
+    /// What a machine is played with.
     fn start(&self, alloc: Global) -> Result<ProgramStart, RowFault> {
         Ok(ProgramStart {
             cpu: self.cpu,
-            program: Vec::from_slice(alloc, self.program.as_slice())?,
+            program: self.program_if_any(alloc)?,
             tail: self.tail.clone()?,
             drives: self.drives(alloc)?,
+            system: self.system_if_any(alloc)?,
         })
     }
 

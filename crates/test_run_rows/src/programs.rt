@@ -18,12 +18,15 @@ pub struct Programs {
     pub(crate) images: Images,
     pub(crate) cpu: Cpu,
     pub(crate) program: Vec<u8>,
+    /// Whether a machine begins at the prompt, and not the program.
+    pub(crate) at_prompt: bool,
     pub(crate) source: Vec<u8>,
     pub(crate) listing: Vec<u8>,
     pub(crate) orders: Vec<u8>,
     pub(crate) keys: Vec<u8>,
     pub(crate) tail: Option<Tail>,
     pub(crate) drives: Vec<Image>,
+    pub(crate) system: Option<Image>,
     pub(crate) steps: u64,
     /// What the last command wrote.
     pub(crate) out: Recorder,
@@ -40,12 +43,14 @@ impl Scene for Programs {
             images: Images::new(alloc),
             cpu: Cpu::I8080,
             program: Vec::new(alloc),
+            at_prompt: false,
             source: Vec::new(alloc),
             listing: Vec::new(alloc),
             orders: Vec::new(alloc),
             keys: Vec::new(alloc),
             tail: None,
             drives: Vec::new(alloc),
+            system: None,
             steps: STEPS,
             out: Recorder::new(alloc),
             record: Vec::new(alloc),
@@ -68,6 +73,7 @@ impl Scene for Programs {
                 | "replay"
                 | "waits"
                 | "live-end"
+                | "prompt"
         )
     }
 
@@ -82,12 +88,14 @@ impl Scene for Programs {
         match line.verb() {
             "cpu"
             | "program"
+            | "prompt"
             | "source"
             | "listing"
             | "orders"
             | "keys"
             | "tail"
             | "drives"
+            | "system"
             | "steps"
             | "room"
             | "chunk" => self.give(alloc, line),
@@ -115,12 +123,14 @@ impl Programs {
         match line.verb() {
             "cpu" => self.cpu = cpu_of(arguments)?,
             "program" => self.program = line.given(alloc, arguments)?,
+            "prompt" => self.at_prompt = true,
             "source" => self.source = line.given(alloc, arguments)?,
             "listing" => return self.listing(alloc, line),
             "orders" => self.orders = line.given(alloc, arguments)?,
             "keys" => self.keys = line.given(alloc, arguments)?,
             "tail" => return self.tail(alloc, arguments),
             "drives" => self.drives = self.images.copies(alloc, arguments)?,
+            "system" => self.system = Some(self.system_image(alloc, arguments)?),
             "steps" => return self.steps(alloc, arguments),
             "room" => self.out.fails_at = Some(count_of(arguments)?),
             _ => self.out.most = count_of(arguments)?,

@@ -1,17 +1,12 @@
-use Rattle.std.proofs.Common.{inl, refl, arith}
-use Rattle.std.proofs.lemmas.Result.{err_from_is_err_and, IfErr-at_err}
+use Rattle.std.proofs.Common.{arith}
+use Rattle.std.proofs.lemmas.Result.{IfErr-at_err}
 use Rattle.cpm_play.specs.Typist.{nobody}
 use Rattle.cpm_host.proofs.ProgramLemmas.{not_long, played_by_cues}
 use Rattle.cpm_host.proofs.program.run_program.Goals as goal
 
-pub returns-in_err-system-clause-refusal : goal.returns-in_err-system-clause-refusal
-returns-in_err-system-clause-refusal g c =
-    let p = err_from_is_err_and c.from_residual-in_err-system.result c.from_residual-in_err-system.ensures.1 in
-    rw (p.1, p.2) (inl (record { refused = c.in_ok-machine.ensures.fits; untouched = record { unread = refl; unwritten = refl; unrecorded = refl } }))
-
 pub returns-in-Cues-clause-played : goal.returns-in-Cues-clause-played
 returns-in-Cues-clause-played g c =
-    played_by_cues _ c.in-Cues.cued _ _ _ _ _ c.play_cued.result _ _ _ _ _ c.in-Cues.is c.in_ok-system.ensures c.in_ok-machine.ensures.made c.play_cued.ensures.played
+    played_by_cues _ c.in-Cues.cued _ _ _ _ _ c.play_cued.result _ _ _ _ _ c.in-Cues.is c.in_ok-machine.ensures.system c.in_ok-machine.ensures.made c.play_cued.ensures.played
 
 pub returns-in-Cues-clause-too_long : goal.returns-in-Cues-clause-too_long
 returns-in-Cues-clause-too_long g c =
