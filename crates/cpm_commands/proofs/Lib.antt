@@ -1,5 +1,5 @@
-pub mod ComLemmas
 pub mod DiskLemmas
+pub mod DriveLemmas
 pub mod GetLemmas
 pub mod ListLemmas
 pub mod MessageLemmas

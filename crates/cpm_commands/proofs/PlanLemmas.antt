@@ -27,15 +27,18 @@ use Rattle.cpm_store.proofs.LogLemmas.{ran_more, ran_one}
 use Rattle.cpm_store.specs.Files.{StoreName}
 use Rattle.cpm_store.specs.Log.{StoreAccess, Gave, LogLeadsBy, Wrote, writes_of}
 use Rattle.cpm_store.specs.Writes.{NamedBytes}
-use Rattle.cpm_commands.specs.Com.{AreCuesRead, AreDrivesRead, AreKeysReadBy, AreRecordedRead, com_outputs, drive_outputs, plan_of_com}
+use Rattle.cpm_commands.specs.Drives.{AreDrivesRead, AreReadBy, IsFileRead, IsPlaceRead, files_given, inputs_of_place, inputs_of_places}
+use Rattle.cpm_commands.specs.Play.{AreCuesRead, AreKeysReadBy, AreRecordedRead, IsProgramRead, IsSystemRead, ReadActs, drive_outputs, plan_of_play, play_outputs}
 use Rattle.cpm_commands.specs.Laws.{IsAsPlanned, IsPlanned, ProgramsFollowPlans, RunsFollowPlans}
 use Rattle.cpm_commands.specs.Plan.{Plan, PlannedName, all_planned, planned_if_any}
-use Rattle.cpm_play.specs.Typist.{TypingState}
 use Rattle.cpm_play.specs.declared.live.PlayEnd.{PlayEnd}
 use Rattle.cpm_run.specs.declared.ending.Ending.{Ending}
 use Rattle.cpm_run.specs.declared.report.SessionReport.{SessionReport}
 use Rattle.cpm_commands.specs.Run.{HasRunAll, drives_named, images_named, plan_by, record_mark, record_marks, session_inputs, session_outputs}
-use Rattle.cpm_commands.specs.Typed.{is_typed_at}
+use Rattle.cpm_commands.specs.declared.drives.DrivePlace.{DrivePlace}
+use Rattle.cpm_commands.specs.declared.drives.DrivePlace.TheVariants as from
+use Rattle.cpm_commands.specs.declared.drives.PlacedFile.{PlacedFile}
+use Rattle.cpm_disk_commands.specs.declared.folder.HostFile.{HostFile}
 use Rattle.cpm_commands.specs.declared.plan.FileRole.{FileRole}
 use Rattle.cpm_commands.specs.declared.plan.FileRole.TheVariants.{Image, Plain, Script}
 
@@ -271,11 +274,40 @@ module _ {F : Type 0} (does : F → StoreAccess → F → Type 0) (plan : Plan) 
   led_by name bytes s t such read =
       (Gave name bytes ∷ [], All-cons (IsAsPlanned plan) (Gave name bytes) [] such (All-nil (IsAsPlanned plan)), ran_one does (Gave name bytes) s t read)
 
-  drives_led : (names : List StoreName) (ds : List Disk) (s t : F) → AreDrivesRead does names s t ds → AreInputs plan (all_planned Image names) → IsLed s t
-  drives_led [] [] s t h such = ([], All-nil (IsAsPlanned plan), sym h)
+  none_led : (s t : F) → t ≡ s → IsLed s t
+  none_led s t same = ([], All-nil (IsAsPlanned plan), sym same)
+
+  files_led : (files : List PlacedFile) (hosts : List HostFile) (s t : F) → AreReadBy (IsFileRead does) files s t hosts → AreInputs plan (files_given files) → IsLed s t
+  files_led [] [] s t h such = none_led s t h
+  files_led [] (x ∷ xs) s t h such = absurd h
+  files_led (f ∷ fs) [] s t h such = absurd h
+  files_led (f ∷ fs) (x ∷ xs) s t h such =
+      led_on s h.0 t (led_by (string_bytes f.path) x.bytes.items s h.0 such.0 h.1.0) (files_led fs xs h.0 t h.2 such.1)
+
+  place_led : (place : DrivePlace) (d : Disk) (s t : F) → IsPlaceRead does place s t d → AreInputs plan (inputs_of_place place) → IsLed s t
+  place_led (from.Image name) d s t h such = led_by name.now h.0 s t such.0 h.1
+  place_led (from.Folder f) d s t h such = files_led f.files.items h.0 s t h.1 such
+
+  drives_led : (places : List DrivePlace) (ds : List Disk) (s t : F) → AreDrivesRead does places s t ds → AreInputs plan (inputs_of_places places) → IsLed s t
+  drives_led [] [] s t h such = none_led s t h
   drives_led [] (d ∷ ds) s t h such = absurd h
-  drives_led (name ∷ names) [] s t h such = absurd h
-  drives_led (name ∷ names) (d ∷ ds) s t h such = led_on s h.0 t (led_by name h.1.0 s h.0 such.0 h.1.1) (drives_led names ds h.0 t h.2 such.1)
+  drives_led (p ∷ ps) [] s t h such = absurd h
+  drives_led (p ∷ ps) (d ∷ ds) s t h such =
+      let I = IsPlanned plan.inputs in
+      led_on s h.0 t (place_led p d s h.0 h.1 (such_left I (inputs_of_place p) (inputs_of_places ps) such))
+      (drives_led ps ds h.0 t h.2 (such_right I (inputs_of_place p) (inputs_of_places ps) such))
+
+  program_led : (name : Option StoreName) (program : Option (List ℕ)) (s t : F) → IsProgramRead does name s t program → AreInputs plan (planned_if_any Plain name) → IsLed s t
+  program_led None None s t h such = none_led s t h
+  program_led None (Some p) s t h such = absurd h
+  program_led (Some name) None s t h such = absurd h
+  program_led (Some name) (Some p) s t h such = led_by name p s t such.0 h
+
+  system_led : (name : Option StoreName) (d : Option Disk) (s t : F) → IsSystemRead does name s t d → AreInputs plan (planned_if_any Image name) → IsLed s t
+  system_led None None s t h such = none_led s t h
+  system_led None (Some d) s t h such = absurd h
+  system_led (Some name) None s t h such = absurd h
+  system_led (Some name) (Some d) s t h such = led_by name h.0 s t such.0 h.1
 
   cues_led : (name : Option StoreName) (said : List Cue) (s t : F) → AreCuesRead does name s t said → AreInputs plan (planned_if_any Plain name) → IsLed s t
   cues_led None said s t h such = ([], All-nil (IsAsPlanned plan), sym h.1)
@@ -290,34 +322,43 @@ module _ {F : Type 0} (does : F → StoreAccess → F → Type 0) (plan : Plan) 
   keys_led None replay said s t h such = recorded_led replay said s t h such
   keys_led (Some name) replay said s t h such = cues_led (Some name) said s t h (such.0, tt)
 
-pub programs_follow : {F : Type 0} (does : F → StoreAccess → F → Type 0) (sees_to : F → Plan → Option HostError → F → Type 0) (gives_names : F → Option HostError → F → Type 0)
-    (ended : Option HostError → Type 0) (told : Ending → (waits : Bool) → Option PlayEnd → Type 0) → ProgramsFollowPlans does sees_to gives_names ended told
-programs_follow does sees_to gives_names ended told task io old new status h =
-    let plan = plan_of_com task in
+pub programs_follow : {F : Type 0} (acts : ReadActs F) (gives_names : F → Option HostError → F → Type 0) (ended : Option HostError → Type 0)
+    (told : Ending → (waits : Bool) → Option PlayEnd → Type 0) → ProgramsFollowPlans acts gives_names ended told
+programs_follow {F} acts gives_names ended told task io old new status h =
+    let p = h.played in
+    let r = p.reads in
+    let plan = plan_of_play task p.places in
     let I = IsPlanned plan.inputs in
     let O = IsPlanned plan.outputs in
-    let ins = such_itself plan.inputs in
-    let names = map (λ n. n.now) task.drives.items in
+    let file = planned_if_any Plain (option_map (λ n. n.now) task.file) in
+    let places = inputs_of_places p.places in
+    let system = planned_if_any Image (option_map (λ n. n.now) task.system) in
     let keys = option_map (λ n. n.now) task.keys in
     let replay = option_map (λ n. n.now) task.replay in
-    let outs = map (λ n. n.now) task.outs.items in
-    let r = h.played.reads in
-    let drives = all_planned Image names in
     let script = planned_if_any Plain keys in
     let recording = planned_if_any Plain replay in
-    let first = such_left I (drives ++ script) recording ins.1 in
-    let start = led_by does plan task.file.now h.played.g.program r.seen r.start.between ins.0 r.start.read in
-    let disks = drives_led does plan names h.played.g.drives r.start.between r.started r.start.drives (such_left I drives script first) in
-    let said = keys_led does plan keys replay h.played.said r.started h.read r.keys
-    (such_both I script recording (such_right I drives script first) (such_right I (drives ++ script) recording ins.1)) in
+    let outs = map (λ n. n.now) task.outs.items in
+    let ins = such_itself plan.inputs in
+    let scripted = such_left I (file ++ places ++ system ++ script) recording ins in
+    let started = such_left I (file ++ places ++ system) script scripted in
+    let first = such_left I (file ++ places) system started in
+    let program = program_led acts.does plan (option_map (λ n. n.now) task.file) p.g.program r.seen r.start.begun r.start.read
+    (such_left I file places first) in
+    let disks = drives_led acts.does plan p.places p.g.drives r.start.begun r.start.between r.start.drives (such_right I file places first) in
+    let drive = system_led acts.does plan (option_map (λ n. n.now) task.system) p.g.system r.start.between r.started r.start.system (such_right I (file ++ places) system started) in
+    let said = keys_led acts.does plan keys replay p.said r.started h.read r.keys
+    (such_both I script recording (such_right I (file ++ places ++ system) script scripted) (such_right I (file ++ places ++ system ++ script) recording ins)) in
     let recorded_to = planned_if_any Plain (option_map (λ n. n.now) task.record) in
     let files = drives_such O Image outs h.play.drives (such_left O (all_planned Image outs) recorded_to (such_itself plan.outputs)) in
-    let wrote : IsLed does plan h.read h.written = (h.wrote.0, all_written plan (com_outputs task h.play) h.wrote.0 h.wrote.1 files, h.wrote.2) in
-    record {
-      seen = r.seen;
-      ended = h.written;
-      sees = r.sees;
-      calls = led_on does plan r.seen h.read h.written
-          (led_on does plan r.seen r.started h.read (led_on does plan r.seen r.start.between r.started start disks) said) wrote;
-      named = h.named;
-    }
+    let wrote : IsLed acts.does plan h.read h.written = (h.wrote.0, all_written plan (play_outputs task h.play) h.wrote.0 h.wrote.1 files, h.wrote.2) in
+    let begun = led_on acts.does plan r.seen r.start.begun r.started program (led_on acts.does plan r.start.begun r.start.between r.started disks drive) in (
+      p.places,
+      r.prepared.found,
+      record {
+        seen = r.seen;
+        ended = h.written;
+        sees = r.prepared.sees;
+        calls = led_on acts.does plan r.seen h.read h.written (led_on acts.does plan r.seen r.started h.read begun said) wrote;
+        named = h.named;
+      },
+    )

@@ -1,5 +1,5 @@
 -- What a command that runs no program of its own gives.
-use Rattle.std.proofs.Common.{◌≡◌, ℕ, Result, Ok, Err, IfErr, IfOk, OnOk, refl, subst, sym}
+use Rattle.std.proofs.Common.{◌≡◌, ℕ, Result, Ok, Err, IfErr, IfOk, OnOk, subst, sym}
 use Rattle.cpm_host.specs.declared.error.HostError.{HostError}
 use Rattle.cpm_commands.specs.Task.{with_status}
 

@@ -1,7 +1,7 @@
 -- Laws of the files that commands name. All of it is own.
 use Rattle.std.specs.Prelude.{All, Contains, ℕ, Bool, List, map, Option, None, String}
 use Rattle.std.specs.declared.alloc.Global.{Global}
-use Rattle.cpm_command_line.specs.declared.task.ComTask.{ComTask}
+use Rattle.cpm_command_line.specs.declared.task.PlayTask.{PlayTask}
 use Rattle.cpm_command_line.specs.declared.task.RunTask.{RunTask}
 use Rattle.cpm_config.specs.declared.config.Config.{Config}
 use Rattle.cpm_host.specs.declared.error.HostError.{HostError}
@@ -12,9 +12,11 @@ use Rattle.cpm_run.specs.declared.ending.Ending.{Ending}
 use Rattle.cpm_run.specs.declared.report.SessionReport.{SessionReport}
 use Rattle.cpm_store.specs.Files.{StoreName}
 use Rattle.cpm_store.specs.Log.{StoreAccess, Gave, LogLeadsBy, Missed, Wrote}
-use Rattle.cpm_commands.specs.Com.{HasRunProgram, plan_of_com}
+use Rattle.cpm_commands.specs.Drives.{ArePlacesFound}
 use Rattle.cpm_commands.specs.Plan.{Plan, PlannedName}
+use Rattle.cpm_commands.specs.Play.{HasPlayedTask, ReadActs, plan_of_play}
 use Rattle.cpm_commands.specs.Run.{AreScripts, HasRunSessions, IsConfigRead, plan_by}
+use Rattle.cpm_commands.specs.declared.drives.DrivePlace.{DrivePlace}
 
 -- one of these files has the name
 abbrev pub IsPlanned : List PlannedName → StoreName → Type 0
@@ -44,8 +46,10 @@ RunsFollowPlans {F} does sees_to gives_names tells_name ended told =
     → (config : Config) × (scripts : List (String Global)) × (known : F) × IsConfigRead does task.config.now old known config
     × AreScripts task config scripts × FollowsPlan does sees_to gives_names (plan_by task config scripts) known new
 
--- a program that has run has followed its plan
-abbrev pub ProgramsFollowPlans : {F : Type 0} → (F → StoreAccess → F → Type 0) → (F → Plan → Option HostError → F → Type 0)
-    → (F → Option HostError → F → Type 0) → (Option HostError → Type 0) → (Ending → (waits : Bool) → Option PlayEnd → Type 0) → Type 0
-ProgramsFollowPlans {F} does sees_to gives_names ended told = (task : ComTask) (io : Streams) (old new : F) (status : ℕ)
-    → HasRunProgram does sees_to gives_names ended told task io old new status → FollowsPlan does sees_to gives_names (plan_of_com task) old new
+-- a program that has run has followed its plan, by where its drives come from
+abbrev pub ProgramsFollowPlans : {F : Type 0} → ReadActs F → (F → Option HostError → F → Type 0) → (Option HostError → Type 0)
+    → (Ending → (waits : Bool) → Option PlayEnd → Type 0) → Type 0
+ProgramsFollowPlans {F} acts gives_names ended told = (task : PlayTask) (io : Streams) (old new : F) (status : ℕ)
+    → HasPlayedTask acts gives_names ended told task io old new status
+    → (places : List DrivePlace) × ArePlacesFound acts.tells_folder acts.lists old (map (λ n. n.now) task.drives.items) places
+    × FollowsPlan acts.does acts.sees_to gives_names (plan_of_play task places) old new

@@ -1,14 +1,15 @@
 pub mod Asm
 pub mod Check
-pub mod Com
 pub mod Debug
 pub mod Disk
+pub mod Drives
 pub mod Files
 pub mod Get
 pub mod Laws
 pub mod List
 pub mod Messages
 pub mod Plan
+pub mod Play
 pub mod Record
 pub mod Report
 pub mod Run

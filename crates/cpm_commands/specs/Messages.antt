@@ -1,5 +1,11 @@
 -- What a person is told of a command, beside what it prints. All of it is own.
-use Rattle.std.specs.Prelude.{◌≡◌, ℕ, Bool, true, false, List, [], ◌∷◌, ◌++◌, codes, string_bytes, MatchOption, Option, Some}
+use Rattle.std.specs.Prelude.{◌≡◌, ◌&&◌, ℕ, Bool, true, false, is_some, slice_index, List, [], ◌∷◌, ◌++◌, codes, not, string_bytes, MatchOption, Option, Some}
+use Rattle.cpm_command_line.specs.declared.task.PlayTask.{PlayTask}
+use Rattle.cpm_decode.specs.RowsZ80.{decodedz80}
+use Rattle.cpm_flags.specs.declared.regs.Cpu.{Cpu}
+use Rattle.cpm_flags.specs.declared.regs.Cpu.TheVariants.{I8080, Z80}
+use Rattle.cpm_machine.specs.declared.reply.End.{End}
+use Rattle.cpm_machine.specs.declared.reply.End.TheVariants.{Illegal}
 use Rattle.cpm_play.specs.declared.live.PlayEnd.{PlayEnd}
 use Rattle.cpm_play.specs.declared.live.PlayEnd.TheVariants.{Typing}
 use Rattle.cpm_play.specs.declared.typist.TypingEnd.TheVariants.{Quit, InputEnd, Signal}
@@ -21,16 +27,38 @@ typing_word end = []
 abbrev pub end_line : Ending → Bool → Option PlayEnd → List ℕ
 end_line e waits end = ending_text e ++ waiting_word waits ++ typing_word end
 
-abbrev pub IsLastTold : {M : Type 0} → (M → List ℕ → M → Type 0) → (is_quiet : Bool) → List ℕ → M → M → Type 0
-IsLastTold {M} tells true line old new = new ≡ old
-IsLastTold {M} tells false line old new = tells old line new
+-- it ended at bytes that are no instruction of the 8080 on which it ran, and are one of the Z80
+abbrev pub ended_illegal : End → Bool
+ended_illegal Illegal = true
+ended_illegal end = false
 
--- where it ended at bytes that are no instruction, these are told; and then how it ended, unless that is not to be told
-pub record IsEndTold {M : Type 0} (tells : M → List ℕ → M → Type 0) (is_quiet : Bool) (e : Ending) (waits : Bool) (end : Option PlayEnd) (old new : M)
-    : Type 0 where
+abbrev pub is_8080 : Cpu → Bool
+is_8080 I8080 = true
+is_8080 Z80 = false
+
+abbrev pub is_instruction_z80 : List ℕ → Bool
+is_instruction_z80 bytes = is_some (decodedz80 (slice_index bytes 0) (slice_index bytes 1) (slice_index bytes 2) (slice_index bytes 3))
+
+abbrev pub needs_z80 : Cpu → Ending → Bool
+needs_z80 cpu e = is_8080 cpu && ended_illegal e.ended && is_instruction_z80 e.at_pc
+
+-- a person is told then what may help
+abbrev pub z80_hint : List ℕ
+z80_hint = codes "hint: the Z80 has this instruction; try --z80"
+
+abbrev pub IsToldIf : {M : Type 0} → (M → List ℕ → M → Type 0) → Bool → List ℕ → M → M → Type 0
+IsToldIf {M} tells false line old new = new ≡ old
+IsToldIf {M} tells true line old new = tells old line new
+
+-- Where it ended at bytes that are no instruction, these are told; and then how it ended, unless that is not to be told; and a person who reads all this is
+-- told what may help.
+pub record IsEndTold {M : Type 0} (tells : M → List ℕ → M → Type 0) (is_read : M → Bool) (task : PlayTask) (e : Ending) (waits : Bool) (end : Option PlayEnd)
+    (old new : M) : Type 0 where
   pub between : M
+  pub behind : M
   pub illegal : MatchOption (illegal_of e.ended e.pc e.at_pc) (between ≡ old) (λ i. tells old (illegal_text i) between)
-  pub last : IsLastTold tells is_quiet (end_line e waits end) between new
+  pub last : IsToldIf tells (not task.is_quiet) (end_line e waits end) between behind
+  pub hint : IsToldIf tells (is_read behind && needs_z80 task.cpu e) z80_hint behind new
 
 -- ---- of the sessions of a run
 
@@ -44,13 +72,13 @@ abbrev pub AreIllegalTold : {M : Type 0} → (M → List ℕ → M → Type 0) �
 AreIllegalTold {M} tells [] old new = new ≡ old
 AreIllegalTold {M} tells (s ∷ ss) old new = (next : M) × IsIllegalTold tells s old next × AreIllegalTold tells ss next new
 
--- ---- at the end of a command
+-- ---- in a command
 
 -- so it was told at last of a program
-pub record HasToldEnd {M : Type 0} (tells : M → List ℕ → M → Type 0) (is_quiet : Bool) (e : Ending) (waits : Bool) (end : Option PlayEnd) (new : M)
-    : Type 0 where
+pub record HasToldEnd {M : Type 0} (tells : M → List ℕ → M → Type 0) (is_read : M → Bool) (task : PlayTask) (e : Ending) (waits : Bool) (end : Option PlayEnd)
+    (new : M) : Type 0 where
   pub before : M
-  pub told : IsEndTold tells is_quiet e waits end before new
+  pub told : IsEndTold tells is_read task e waits end before new
 
 -- and of sessions
 pub record HasToldIllegal {M : Type 0} (tells : M → List ℕ → M → Type 0) (sessions : List SessionReport) (new : M) : Type 0 where

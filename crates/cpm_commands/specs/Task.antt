@@ -1,11 +1,12 @@
 -- What is done of what a command line asks for. All of it is own.
-use Rattle.std.specs.Prelude.{◌≡◌, ◌⊎◌, ℕ, Bool, List, [], map, option_map, Option, Result, Ok, Err}
+use Rattle.std.specs.Prelude.{◌≡◌, ℕ, Bool, List, [], map, option_map, Option, Result, Ok, Err}
 use Rattle.std.specs.Io.KnownBytes.{Appends}
 use Rattle.cpm_command_line.specs.HelpWords.{text_of_page}
 use Rattle.cpm_command_line.specs.declared.task.DiskTask.{DiskTask}
 use Rattle.cpm_command_line.specs.declared.task.DiskTask.TheVariants.{New, List as Listing, Put, Get, Remove, Rename}
+use Rattle.cpm_command_line.specs.declared.task.PlayTask.{PlayTask}
 use Rattle.cpm_command_line.specs.declared.task.Task.{Task}
-use Rattle.cpm_command_line.specs.declared.task.Task.TheVariants.{Com, Asm, List as Lines, Check, Run, Debug, Disk, Help}
+use Rattle.cpm_command_line.specs.declared.task.Task.TheVariants.{Com, Boot, Asm, List as Lines, Check, Run, Debug, Disk, Help}
 use Rattle.cpm_host.specs.declared.error.HostError.{HostError}
 use Rattle.cpm_play.specs.declared.live.PlayEnd.{PlayEnd}
 use Rattle.cpm_run.specs.Settled.{Streams}
@@ -15,15 +16,16 @@ use Rattle.cpm_store.specs.Files.{StoreName}
 use Rattle.cpm_store.specs.Log.{StoreAccess}
 use Rattle.cpm_commands.specs.Asm.{HasAssembled, IsAsmRefused}
 use Rattle.cpm_commands.specs.Check.{HasChecked, IsCheckRefused}
-use Rattle.cpm_commands.specs.Com.{HasRunProgram, IsComStopped}
 use Rattle.cpm_commands.specs.Debug.{HasDebugged, IsDebugRefused}
 use Rattle.cpm_commands.specs.Disk.{ArePut, HasChanged, HasListedDisk, HasMadeDisk, HasRemoved, HasRenamedOn}
 use Rattle.cpm_commands.specs.Disk.{IsChangeRefused, IsDiskListRefused, IsNewRefused, IsNotRemoved, IsPutStopped, IsRenameRefused}
 use Rattle.cpm_commands.specs.Get.{HasGot, IsGetRefused}
 use Rattle.cpm_commands.specs.List.{HasListed, IsListRefused}
 use Rattle.cpm_commands.specs.Plan.{Plan}
+use Rattle.cpm_commands.specs.Play.{HasPlayedTask, IsPlayRefused, ReadActs}
 use Rattle.cpm_commands.specs.Report.{IsUnprinted}
 use Rattle.cpm_commands.specs.Run.{HasRunSessions, IsRunStopped}
+use Rattle.cpm_commands.specs.declared.drives.DrivePlace.{DrivePlace}
 
 -- ---- what a command goes through
 
@@ -34,12 +36,26 @@ pub record FileActs (F : Type 0) : Type 1 where
   pub gives_names : F → Option HostError → F → Type 0
   pub tells_name : F → StoreName → Bool → Type 0
   pub tells_folder : F → StoreName → Bool → Type 0
+  pub lists : F → StoreName → List StoreName → Type 0
+  pub unlists : F → StoreName → HostError → Type 0
 
--- how the record of what is typed ended, and what was told at last: of a program, and of sessions
-pub record LastActs : Type 1 where
+-- how the record of what is typed ended, and what was told: of files that are left out of drives, and at last of a program, and of sessions
+pub record ToldActs : Type 1 where
   pub ended : Option HostError → Type 0
-  pub told_end : (is_quiet : Bool) → Ending → (waits : Bool) → Option PlayEnd → Type 0
+  pub told_left_out : List DrivePlace → Type 0
+  pub told_end : PlayTask → Ending → (waits : Bool) → Option PlayEnd → Type 0
   pub told_illegal : List SessionReport → Type 0
+
+-- those by which a program is read
+abbrev pub reads_of : {F : Type 0} → FileActs F → ToldActs → ReadActs F
+reads_of {F} acts told = record {
+  does = acts.does;
+  sees_to = acts.sees_to;
+  tells_folder = acts.tells_folder;
+  lists = acts.lists;
+  unlists = acts.unlists;
+  told_left_out = told.told_left_out;
+}
 
 -- the files and standard output before and after, and what the streams held
 pub record Passage (F W : Type 0) : Type 0 where
@@ -80,25 +96,28 @@ IsDiskTaskDone {F} {W} acts p (Rename image change user) =
     HasRenamedOn acts.does acts.sees_to acts.gives_names image.now change.now user p.old p.new × IsSilent p
 
 -- a command that runs no program of its own
-abbrev pub IsPlainTaskDone : {F W : Type 0} → FileActs F → LastActs → Passage F W → Task → Type 0
-IsPlainTaskDone {F} {W} acts last p (Com task) = ⊥
-IsPlainTaskDone {F} {W} acts last p (Asm source out list) =
+abbrev pub IsPlainTaskDone : {F W : Type 0} → FileActs F → ToldActs → Passage F W → Task → Type 0
+IsPlainTaskDone {F} {W} acts told p (Com task) = ⊥
+IsPlainTaskDone {F} {W} acts told p (Boot task) = ⊥
+IsPlainTaskDone {F} {W} acts told p (Asm source out list) =
     HasAssembled acts.does acts.sees_to acts.gives_names source.now out.now (option_map (λ n. n.now) list) p.old p.new × IsSilent p
-IsPlainTaskDone {F} {W} acts last p (Lines file cpu) = HasListed acts.does file.now cpu p.old p.new p.io.before p.io.written
-IsPlainTaskDone {F} {W} acts last p (Check image) = HasChecked acts.does image.now p.old p.new p.io.before p.io.written
-IsPlainTaskDone {F} {W} acts last p (Run task) =
-    HasRunSessions acts.does acts.sees_to acts.gives_names acts.tells_name last.ended last.told_illegal task p.old p.new
+IsPlainTaskDone {F} {W} acts told p (Lines file cpu) = HasListed acts.does file.now cpu p.old p.new p.io.before p.io.written
+IsPlainTaskDone {F} {W} acts told p (Check image) = HasChecked acts.does image.now p.old p.new p.io.before p.io.written
+IsPlainTaskDone {F} {W} acts told p (Run task) =
+    HasRunSessions acts.does acts.sees_to acts.gives_names acts.tells_name told.ended told.told_illegal task p.old p.new
     p.io.unread p.io.left p.io.before p.io.written p.io.unrecorded p.io.record_now
-IsPlainTaskDone {F} {W} acts last p (Debug file cpu list) =
+IsPlainTaskDone {F} {W} acts told p (Debug file cpu list) =
     HasDebugged acts.does file.now cpu (option_map (λ n. n.now) list) p.old p.new p.unread p.io.before p.io.written
-IsPlainTaskDone {F} {W} acts last p (Disk task) = IsDiskTaskDone acts p task
-IsPlainTaskDone {F} {W} acts last p (Help page) = (p.new ≡ p.old) × Appends p.io.before p.io.written (text_of_page page)
+IsPlainTaskDone {F} {W} acts told p (Disk task) = IsDiskTaskDone acts p task
+IsPlainTaskDone {F} {W} acts told p (Help page) = (p.new ≡ p.old) × Appends p.io.before p.io.written (text_of_page page)
 
 -- The command that the words name, by their values, and no other; and the exit status.
-abbrev pub IsTaskDone : {F W : Type 0} → FileActs F → LastActs → Passage F W → Task → (status : ℕ) → Type 0
-IsTaskDone {F} {W} acts last p (Com task) status =
-    HasRunProgram acts.does acts.sees_to acts.gives_names last.ended (last.told_end task.is_quiet) task p.io p.old p.new status
-IsTaskDone {F} {W} acts last p task status = IsPlainTaskDone acts last p task × (status ≡ 0)
+abbrev pub IsTaskDone : {F W : Type 0} → FileActs F → ToldActs → Passage F W → Task → (status : ℕ) → Type 0
+IsTaskDone {F} {W} acts told p (Com task) status =
+    HasPlayedTask (reads_of acts told) acts.gives_names told.ended (told.told_end task) task p.io p.old p.new status
+IsTaskDone {F} {W} acts told p (Boot task) status =
+    HasPlayedTask (reads_of acts told) acts.gives_names told.ended (told.told_end task) task p.io p.old p.new status
+IsTaskDone {F} {W} acts told p task status = IsPlainTaskDone acts told p task × (status ≡ 0)
 
 -- ---- how far it came that was refused
 
@@ -122,16 +141,17 @@ IsDiskTaskRefused {F} {W} acts p (Remove image names user) e =
 IsDiskTaskRefused {F} {W} acts p (Rename image change user) e =
     IsRenameRefused acts.does acts.sees_to acts.gives_names image.now change.now user p.old p.new e × IsSilent p
 
-abbrev pub IsTaskRefused : {F W : Type 0} → FileActs F → LastActs → Passage F W → Task → HostError → Type 0
-IsTaskRefused {F} {W} acts last p (Com task) e = IsComStopped acts.does acts.sees_to acts.gives_names last.ended task p.io p.old p.new e
-IsTaskRefused {F} {W} acts last p (Asm source out list) e =
+abbrev pub IsTaskRefused : {F W : Type 0} → FileActs F → ToldActs → Passage F W → Task → HostError → Type 0
+IsTaskRefused {F} {W} acts told p (Com task) e = IsPlayRefused (reads_of acts told) acts.gives_names told.ended task p.io p.old p.new e
+IsTaskRefused {F} {W} acts told p (Boot task) e = IsPlayRefused (reads_of acts told) acts.gives_names told.ended task p.io p.old p.new e
+IsTaskRefused {F} {W} acts told p (Asm source out list) e =
     IsAsmRefused acts.does acts.sees_to acts.gives_names source.now out.now (option_map (λ n. n.now) list) p.old p.new e × IsSilent p
-IsTaskRefused {F} {W} acts last p (Lines file cpu) e = IsListRefused acts.does file.now p.old p.new p.out p.out_now e
-IsTaskRefused {F} {W} acts last p (Check image) e = IsCheckRefused acts.does image.now p.old p.new p.out p.out_now e
-IsTaskRefused {F} {W} acts last p (Run task) e =
-    IsRunStopped acts.does acts.sees_to acts.gives_names acts.tells_name last.ended last.told_illegal task p.old p.new
+IsTaskRefused {F} {W} acts told p (Lines file cpu) e = IsListRefused acts.does file.now p.old p.new p.out p.out_now e
+IsTaskRefused {F} {W} acts told p (Check image) e = IsCheckRefused acts.does image.now p.old p.new p.out p.out_now e
+IsTaskRefused {F} {W} acts told p (Run task) e =
+    IsRunStopped acts.does acts.sees_to acts.gives_names acts.tells_name told.ended told.told_illegal task p.old p.new
     p.io.unread p.io.left p.io.before p.io.written p.io.unrecorded p.io.record_now e
-IsTaskRefused {F} {W} acts last p (Debug file cpu list) e =
+IsTaskRefused {F} {W} acts told p (Debug file cpu list) e =
     IsDebugRefused acts.does file.now cpu (option_map (λ n. n.now) list) p.old p.new p.unread p.io.before p.io.written p.out p.out_now e
-IsTaskRefused {F} {W} acts last p (Disk task) e = IsDiskTaskRefused acts p task e
-IsTaskRefused {F} {W} acts last p (Help page) e = (p.new ≡ p.old) × IsUnprinted e
+IsTaskRefused {F} {W} acts told p (Disk task) e = IsDiskTaskRefused acts p task e
+IsTaskRefused {F} {W} acts told p (Help page) e = (p.new ≡ p.old) × IsUnprinted e

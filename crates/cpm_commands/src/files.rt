@@ -1,7 +1,8 @@
 //! The files of a command.
-ghost use Rattle.std.specs.Prelude.{◌≡◌, Bool, Option, Some, None, IfErr, IfOk, OnOk, map};
+ghost use Rattle.std.specs.Prelude.{◌≡◌, Bool, List, Option, Some, None, IfErr, IfOk, OnOk, map, string_bytes};
 ghost use Rattle.cpm_commands.specs.Files.{AreUnwritten, AreWritten, IsUnread, IsUnwritten, IsWritingStopped};
 ghost use Rattle.cpm_commands.specs.Plan.{Plan, plan_view};
+ghost use Rattle.cpm_host.specs.Refusals.{IsFileRefusal};
 ghost use Rattle.cpm_host.specs.declared.error.HostError.{HostError};
 ghost use Rattle.cpm_store.specs.Files.{StoreName};
 ghost use Rattle.cpm_store.specs.Log.{AreWrites, Gave, LogLeadsBy, Missed};
@@ -39,6 +40,17 @@ pub trait CommandFiles: Store {
     /// Whether a folder has a name.
     fn is_folder(&self, name: &str) -> bool
         ensures { tells_folder self.now name.now result };
+
+    // That a folder has files of these names.
+    ghost lists: { Self → StoreName → List StoreName → Type 0 };
+
+    // That the files of a folder can't be listed, as this refusal says.
+    ghost unlists: { Self → StoreName → HostError → Type 0 };
+
+    /// The names of the files in a folder, in their order. Other folders in it aren't among them, nor what is hidden, whose name begins with a dot.
+    fn files_in(&self, alloc: Global, folder: &str) -> Result<Vec<String>, HostError>
+        ensures listed { IfOk result (λ names. lists self.now folder.now (map string_bytes names.items)) }
+        ensures refused { IfErr result (λ e. unlists self.now folder.now e × IsFileRefusal folder.now e) };
 
     /// Gives what was written its names: to all files of the plan, or where one can't have its own it says which.
     fn give_names(&mut self) -> Result<(), HostError>

@@ -1,8 +1,9 @@
 //! Laws of the files that commands name, as contracts.
+ghost use Rattle.cpm_commands.specs.Drives.{HasToldLeftOut};
 ghost use Rattle.cpm_commands.specs.Laws.{ProgramsFollowPlans, RunsFollowPlans};
 ghost use Rattle.cpm_commands.specs.Messages.{HasToldEnd, HasToldIllegal};
 ghost use Rattle.cpm_commands.specs.Record.{HasEndedRecord};
-ghost use Rattle.std.specs.Prelude.{Bool};
+ghost use Rattle.cpm_command_line.specs.declared.task.PlayTask.{PlayTask};
 
 use crate::files::CommandFiles;
 use crate::messages::Messages;
@@ -14,8 +15,17 @@ pub fn runs_follow_plans<F: CommandFiles, R: KeyRecord, T: Messages>()
         (HasEndedRecord R.ends R.contents (R.contents typed) typed) (λ sessions. HasToldIllegal T.tells sessions told) }
 {}
 
-/// The same of a program that has run, quiet or not.
+/// The same of a program that has run, by whatever task.
 pub fn programs_follow_plans<F: CommandFiles, R: KeyRecord, T: Messages>()
-    ensures { (typed : R) → (told : T) → (is_quiet : Bool) → ProgramsFollowPlans F.does F.sees_to F.gives_names
-        (HasEndedRecord R.ends R.contents (R.contents typed) typed) (λ ending waits end. HasToldEnd T.tells is_quiet ending waits end told) }
+    ensures { (typed : R) → (untold told : T) → (task : PlayTask) → ProgramsFollowPlans
+        (record {
+          does = F.does;
+          sees_to = F.sees_to;
+          tells_folder = F.tells_folder;
+          lists = F.lists;
+          unlists = F.unlists;
+          told_left_out = λ places. HasToldLeftOut T.tells untold places;
+        })
+        F.gives_names (HasEndedRecord R.ends R.contents (R.contents typed) typed)
+        (λ ending waits end. HasToldEnd T.tells T.is_read task ending waits end told) }
 {}

@@ -2,16 +2,18 @@
 #![tactic(auto)]
 
 mod asm;
+mod begin;
 mod check;
-mod com;
 mod debug;
 mod disk;
+mod drives;
 mod files;
 mod get;
 pub mod laws;
 mod list;
 mod messages;
 mod plan;
+mod play;
 mod record;
 mod report;
 mod run;
@@ -20,7 +22,6 @@ mod typed;
 
 pub use asm::assemble_file;
 pub use check::check_image;
-pub use com::run_program_file;
 pub use debug::debug_program;
 pub use disk::{PutOptions, list_disk, new_disk, put_files, remove_from_disk, rename_on_disk};
 pub use files::CommandFiles;
@@ -28,6 +29,7 @@ pub use get::{GetOptions, get_files};
 pub use list::list_program;
 pub use messages::Messages;
 pub use plan::{FilePlan, FileRole, OutputNaming, PlannedFile};
+pub use play::do_play_task;
 pub use record::KeyRecord;
 pub use report::LineWriter;
 pub use run::{SessionsWatcher, run_sessions};

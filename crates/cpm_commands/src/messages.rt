@@ -1,16 +1,25 @@
 //! What a person is told of a command, beside what it prints.
-ghost use Rattle.std.specs.Prelude.{◌≡◌, ◌++◌, ℕ, List, Some, codes, string_bytes};
-ghost use Rattle.cpm_commands.specs.Messages.{AreIllegalTold, IsEndTold, IsIllegalTold, end_line, typing_word};
+ghost use Rattle.std.specs.Prelude.{◌≡◌, ◌++◌, ℕ, Bool, List, Some, codes, string_bytes};
+ghost use Rattle.cpm_commands.specs.Messages.{AreIllegalTold, IsEndTold, IsIllegalTold, end_line, needs_z80, typing_word, z80_hint};
 ghost use Rattle.cpm_run.specs.Ending.{illegal_text};
 
 use crate::report::waiting_word;
-use cpm_host::{Ending, IllegalBytes, PlayEnd, SessionReport, TypingEnd};
+use cpm_decode::rowz80;
+use cpm_flags::Cpu;
+use cpm_host::{End, Ending, IllegalBytes, PlayEnd, PlayTask, SessionReport, TypingEnd};
 use std::fmt;
 
 /// Who is told what there is to say of a command, a line at a time. What can't be told there is told nowhere.
 pub trait Messages {
     // From this state to that one by telling this line.
     ghost tells: { Self → List ℕ → Self → Type 0 };
+
+    // Whether a person reads it.
+    ghost is_read: { Self → Bool };
+
+    /// Whether a person reads it, at a terminal.
+    fn is_read(&self) -> bool
+        ensures { result ≡ is_read self.now };
 
     /// Tells a line.
     fn tell<D: fmt::Display>(&mut self, line: &D)
@@ -48,6 +57,25 @@ impl fmt::Display for EndLine {
     }
 }
 
+/// What may help where a program for the Z80 ran on the 8080.
+#[derive(Drop)]
+struct Z80Hint;
+
+impl fmt::Display for Z80Hint {
+    ghost output = { λ _. Some z80_hint };
+
+    fn fmt<W: fmt::Write>(&self, f: &mut fmt::Formatter<W>) -> fmt::Result {
+        write!(f, "hint: the Z80 has this instruction; try --z80")
+    }
+}
+
+/// Whether a program ended at bytes that are no instruction of the 8080 on which it ran, and are one of the Z80.
+fn needs_z80(cpu: Cpu, ending: Ending) -> bool
+    ensures { result ≡ needs_z80 cpu ending }
+{
+    cpu == Cpu::I8080 && ending.ended == End::Illegal && rowz80(ending.at_pc).is_some()
+}
+
 /// A session of a run that ended at bytes that are no instruction.
 #[derive(Drop)]
 struct IllegalLine<'a> {
@@ -65,21 +93,24 @@ impl fmt::Display for IllegalLine<'_> {
     }
 }
 
-/// Tells how a program ended: the bytes that are no instruction, if it ended at such, and its last line, unless it is quiet.
+/// Tells how a program ended: the bytes that are no instruction, if it ended at such, and its last line, unless it is quiet; and a person what may help.
 pub(crate) fn tell_end<M: Messages>(
     ending: Ending,
     waits: bool,
     end: Option<PlayEnd>,
-    is_quiet: bool,
+    task: &PlayTask<'_>,
     messages: &mut M,
 )
-    ensures { IsEndTold M.tells is_quiet ending waits end messages.old messages.new }
+    ensures { IsEndTold M.tells M.is_read task.now ending waits end messages.old messages.new }
 {
     if let Some(illegal) = ending.illegal() {
         messages.tell(&illegal);
     }
-    if !is_quiet {
+    if !task.is_quiet {
         messages.tell(&EndLine { ending, waits, end });
+    }
+    if messages.is_read() && needs_z80(task.cpu, ending) {
+        messages.tell(&Z80Hint);
     }
 }
 

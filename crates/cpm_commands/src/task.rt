@@ -4,6 +4,7 @@ ghost use Rattle.std.specs.Io.KnownBytes.{Appends};
 ghost use Rattle.cpm_command_line.specs.DiskLine.{HasUser};
 ghost use Rattle.cpm_command_line.specs.Line.{HasUsers};
 ghost use Rattle.cpm_command_line.specs.HelpWords.{text_of_page};
+ghost use Rattle.cpm_commands.specs.Drives.{HasToldLeftOut};
 ghost use Rattle.cpm_commands.specs.Messages.{HasToldEnd, HasToldIllegal};
 ghost use Rattle.cpm_commands.specs.Record.{HasEndedRecord};
 ghost use Rattle.cpm_commands.specs.Report.{IsUnprinted};
@@ -13,13 +14,13 @@ ghost use Rattle.cpm_run.specs.Settled.{streams};
 
 use crate::asm::assemble_file;
 use crate::check::check_image;
-use crate::com::run_program_file;
 use crate::debug::debug_program;
 use crate::disk::{PutOptions, list_disk, new_disk, put_files, remove_from_disk, rename_on_disk};
 use crate::files::CommandFiles;
 use crate::get::{GetOptions, get_files};
 use crate::list::list_program;
 use crate::messages::Messages;
+use crate::play::do_play_task;
 use crate::record::KeyRecord;
 use crate::report::{LineWriter, print_text};
 use crate::run::{SessionsWatcher, run_sessions};
@@ -46,7 +47,15 @@ fn do_disk<F: CommandFiles, W: Write>(
 ) -> Result<(), HostError>
     requires { HasUser task.now }
     ensures done { OnOk result (IsDiskTaskDone
-        (record { does = F.does; sees_to = F.sees_to; gives_names = F.gives_names; tells_name = F.tells_name; tells_folder = F.tells_folder })
+        (record {
+          does = F.does;
+          sees_to = F.sees_to;
+          gives_names = F.gives_names;
+          tells_name = F.tells_name;
+          tells_folder = F.tells_folder;
+          lists = F.lists;
+          unlists = F.unlists;
+        })
         (record {
           old = files.old;
           new = files.new;
@@ -56,7 +65,15 @@ fn do_disk<F: CommandFiles, W: Write>(
           unread = None;
         }) task.now) }
     ensures refusal { IfErr result (IsDiskTaskRefused
-        (record { does = F.does; sees_to = F.sees_to; gives_names = F.gives_names; tells_name = F.tells_name; tells_folder = F.tells_folder })
+        (record {
+          does = F.does;
+          sees_to = F.sees_to;
+          gives_names = F.gives_names;
+          tells_name = F.tells_name;
+          tells_folder = F.tells_folder;
+          lists = F.lists;
+          unlists = F.unlists;
+        })
         (record {
           old = files.old;
           new = files.new;
@@ -142,10 +159,19 @@ pub fn do_task<
 ) -> Result<u8, HostError>
     requires { HasUsers task.now }
     ensures done { IfOk result (IsTaskDone
-        (record { does = F.does; sees_to = F.sees_to; gives_names = F.gives_names; tells_name = F.tells_name; tells_folder = F.tells_folder })
+        (record {
+          does = F.does;
+          sees_to = F.sees_to;
+          gives_names = F.gives_names;
+          tells_name = F.tells_name;
+          tells_folder = F.tells_folder;
+          lists = F.lists;
+          unlists = F.unlists;
+        })
         (record {
           ended = HasEndedRecord R.ends R.contents (R.contents «record».new) «record».new;
-          told_end = λ is_quiet ending waits end. HasToldEnd T.tells is_quiet ending waits end watcher.new;
+          told_left_out = λ places. HasToldLeftOut T.tells watcher.old places;
+          told_end = λ task ending waits end. HasToldEnd T.tells T.is_read task ending waits end watcher.new;
           told_illegal = λ sessions. HasToldIllegal T.tells sessions watcher.new;
         })
         (record {
@@ -158,10 +184,19 @@ pub fn do_task<
           unread = I.remaining input.old;
         }) task.now) }
     ensures refusal { IfErr result (IsTaskRefused
-        (record { does = F.does; sees_to = F.sees_to; gives_names = F.gives_names; tells_name = F.tells_name; tells_folder = F.tells_folder })
+        (record {
+          does = F.does;
+          sees_to = F.sees_to;
+          gives_names = F.gives_names;
+          tells_name = F.tells_name;
+          tells_folder = F.tells_folder;
+          lists = F.lists;
+          unlists = F.unlists;
+        })
         (record {
           ended = HasEndedRecord R.ends R.contents (R.contents «record».new) «record».new;
-          told_end = λ is_quiet ending waits end. HasToldEnd T.tells is_quiet ending waits end watcher.new;
+          told_left_out = λ places. HasToldLeftOut T.tells watcher.old places;
+          told_end = λ task ending waits end. HasToldEnd T.tells T.is_read task ending waits end watcher.new;
           told_illegal = λ sessions. HasToldIllegal T.tells sessions watcher.new;
         })
         (record {
@@ -175,7 +210,8 @@ pub fn do_task<
         }) task.now) }
 {
     match task {
-        Task::Com(task) => run_program_file(alloc, task, files, typist, out, record, watcher),
+        Task::Com(task) => do_play_task(alloc, task, files, typist, out, record, watcher),
+        Task::Boot(task) => do_play_task(alloc, task, files, typist, out, record, watcher),
         Task::Asm {
             source,
             out: image,

@@ -6,6 +6,7 @@ ghost use Rattle.cpm_store.specs.Files.{CountsFailure};
 use crate::batch::{Batch, NamingRule};
 use crate::beside::is_missing;
 use crate::bounds::FileRules;
+use crate::folder::names_in;
 use crate::held::LockableFiles;
 use crate::output::Outputs;
 use crate::plan::SeenFiles;
@@ -251,6 +252,10 @@ impl<R: LockableFiles> CommandFiles for MachineFiles<'_, R> {
 
     ghost tells_folder = { λ _ _ _. ⊤ };
 
+    ghost lists = { λ _ _ _. ⊤ };
+
+    ghost unlists = { λ _ _ _. ⊤ };
+
     fn see_to(&mut self, plan: &FilePlan<'_>) -> Result<(), HostError> {
         match self.see(plan) {
             Ok(()) => Ok(()),
@@ -264,6 +269,10 @@ impl<R: LockableFiles> CommandFiles for MachineFiles<'_, R> {
 
     fn is_folder(&self, name: &str) -> bool {
         Path::new(name).is_dir(self.rt)
+    }
+
+    fn files_in(&self, alloc: Global, folder: &str) -> Result<Vec<String>, HostError> {
+        names_in(self.rt, alloc, folder).map_err(|reason| unreadable(folder, reason))
     }
 
     fn give_names(&mut self) -> Result<(), HostError> {

@@ -22,7 +22,13 @@ const MOST_LOCK_PAUSES: u32 = 1000;
 const LOCK_PAUSE: u64 = 10;
 
 /// What holding files asks of the system: files that can be locked, a clock to wait by, standard output and error, and memory.
-pub trait LockableFiles: Files<File = File> + Clock + Print + StandardError + AllocGlobal {}
+pub trait LockableFiles: Files<File = File>
+    + Clock
+    + Print
+    + StandardError
+    + AllocGlobal
+    + Clone
+    + Drop {}
 
 impl LockableFiles for HostRuntime {}
 

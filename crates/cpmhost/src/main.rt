@@ -8,6 +8,7 @@ mod batch;
 mod beside;
 mod bounds;
 mod files;
+mod folder;
 mod held;
 mod output;
 mod patient;
@@ -107,7 +108,7 @@ fn print(rt: &(impl Print + Clock), text: &str) -> Result<(), HostError> {
 /// Whether the keys of standard input are typed at a task as they come.
 fn is_typed_at(task: &Task<'_>) -> bool {
     match task {
-        Task::Com(task) => task.is_live,
+        Task::Com(task) | Task::Boot(task) => task.is_live,
         Task::Run(task) => task.keyboard.is_some(),
         _ => false,
     }

@@ -1,6 +1,7 @@
 //! The standard streams as they are where another program has left them so that they don't wait: what can't be written or read just now is tried again.
 
 ghost use Rattle.std.specs.Prelude.{◌≤◌, IfOk, length};
+ghost use Rattle.std.specs.Io.{ReadsAtMost};
 
 use arrayvec::ArrayString;
 use std::fmt::Write as _;
@@ -69,12 +70,20 @@ impl StandardError for HostRuntime {
 }
 
 /// A machine that has a standard input.
-pub trait StandardInput: Input {
+pub trait StandardInput: Clock {
+    /// Reads some bytes from it, and says how many: 0 at its end. (No lock is taken, whose buffer would be on the stack.)
+    fn read_input(&self, buf: &mut [u8]) -> io::Result<usize>
+        ensures bound { ReadsAtMost result buf.new };
+
     /// Whether that is a terminal.
     fn is_input_terminal(&self) -> bool;
 }
 
 impl StandardInput for HostRuntime {
+    fn read_input(&self, buf: &mut [u8]) -> io::Result<usize> {
+        self.stdin().read(buf)
+    }
+
     fn is_input_terminal(&self) -> bool {
         self.stdin().is_terminal()
     }
@@ -174,25 +183,21 @@ impl<R: StandardError> fmt::Write for ErrorMessage<'_, R> {
 
 /// Standard input, which is waited for.
 #[derive(Drop)]
-pub struct PatientInput<'a, R: Input + Clock> {
+pub struct PatientInput<'a, R: StandardInput> {
     rt: &'a R,
-    input: R::Reader,
 }
 
-impl<'a, R: Input + Clock> PatientInput<'a, R> {
+impl<'a, R: StandardInput> PatientInput<'a, R> {
     /// The standard input of the machine.
     pub fn new(rt: &'a R) -> PatientInput<'a, R> {
-        PatientInput {
-            rt,
-            input: rt.reader(),
-        }
+        PatientInput { rt }
     }
 }
 
-impl<R: Input + Clock> Read for PatientInput<'_, R> {
+impl<R: StandardInput> Read for PatientInput<'_, R> {
     fn read(&mut self, buf: &mut [u8]) -> io::Result<usize> {
         for _turn in 0..u64::MAX {
-            let answer = self.input.read(buf);
+            let answer = self.rt.read_input(buf);
             if !is_to_wait(&answer) {
                 return answer;
             }

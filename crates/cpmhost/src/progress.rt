@@ -127,6 +127,13 @@ impl<'a, R: LockableFiles> Teller<'a, R> {
         }
     }
 
+    /// Tells a person what may help where ESC was shown as text.
+    pub fn tell_shown_escape(&mut self) {
+        if self.is_read() {
+            self.tell(&"hint: ESC is shown as ^[; --raw sends it to the terminal as it is");
+        }
+    }
+
     /// Ends the line of a session that was typed at.
     fn end_typing(&self) {
         if self.terminals.is_output_terminal && !self.is_at_line_start.get() {
@@ -228,6 +235,12 @@ impl<R: LockableFiles> RunWatcher for Teller<'_, R> {
 impl<R: LockableFiles> Messages for Teller<'_, R> {
     // What becomes of a line is the machine's.
     ghost tells = { λ _ _ _. ⊤ };
+
+    ghost is_read = { λ s. s.terminals.is_error_terminal };
+
+    fn is_read(&self) -> bool {
+        self.terminals.is_error_terminal
+    }
 
     fn tell<D: fmt::Display>(&mut self, line: &D) {
         self.end_all();

@@ -11,10 +11,15 @@ use std::{fs, io};
 /// A writer of a program's text. Where it shows control bytes, one that could command a terminal is shown as `cat -v` shows it:
 /// `^[` for ESC, `M-^[` for 9Bh.
 #[derive(Drop)]
-pub struct Screen<W: Write + Drop> {
+pub struct Screen<'a, W: Write + Drop> {
     writer: W,
     shows_controls: bool,
+    /// Whether it has shown an ESC so.
+    has_shown_escape: Option<&'a Cell<bool>>,
 }
+
+/// ESC, by which sequences begin that command a terminal.
+const ESCAPE: u8 = 0x1B;
 
 /// Whether a terminal gets a byte as it is: text, bell, backspace, tab and line ends.
 fn is_plain(byte: u8) -> bool {
@@ -24,11 +29,16 @@ fn is_plain(byte: u8) -> bool {
     }
 }
 
-impl<W: Write + Drop> Screen<W> {
-    pub fn new(writer: W, shows_controls: bool) -> Screen<W> {
+impl<'a, W: Write + Drop> Screen<'a, W> {
+    pub fn new(
+        writer: W,
+        shows_controls: bool,
+        has_shown_escape: Option<&'a Cell<bool>>,
+    ) -> Screen<'a, W> {
         Screen {
             writer,
             shows_controls,
+            has_shown_escape,
         }
     }
 
@@ -42,6 +52,9 @@ impl<W: Write + Drop> Screen<W> {
 
     /// Shows a byte that is not plain.
     fn show(&mut self, byte: u8) -> io::Result<()> {
+        if let (ESCAPE, Some(has_shown)) = (byte, self.has_shown_escape) {
+            has_shown.set(true);
+        }
         let letter = (byte & 0x7F) ^ 0x40;
         let shown = [b'M', b'-', b'^', letter];
         if byte < 0x80 {
@@ -66,7 +79,7 @@ impl<W: Write + Drop> Screen<W> {
     }
 }
 
-impl<W: Write + Drop> Write for Screen<W> {
+impl<W: Write + Drop> Write for Screen<'_, W> {
     fn write(&mut self, buf: &[u8]) -> io::Result<usize> {
         let written = self.write_some(buf)?;
         Ok(written.min(buf.len()))
@@ -141,5 +154,5 @@ pub fn is_own_terminal(rt: &impl Files, name: &str) -> bool {
 /// Writes a text to the terminal of a name, with its control bytes as text.
 pub fn write_shown(rt: &impl Files, name: &str, text: &[u8]) -> io::Result<()> {
     let file = OpenOptions::new().write(true).open(rt, name)?;
-    Screen::new(file, true).write_all(text)
+    Screen::new(file, true, None).write_all(text)
 }

@@ -30,42 +30,51 @@ pub fn do_task(
     let keys = Cell::new(0);
     let mut files = files_of(rt, outputs, task);
     let mut record = Record::new(rt, outputs, record_of(task), &keys);
-    let is_gone = Cell::new(false);
     let done = match terminals.end {
-        Some(end) => {
-            let mut typist = TerminalTypist::new(rt, end, &is_gone, pace_of(task));
-            let lost = terminals.is_output_terminal.then_some(&is_gone);
-            do_over(
-                rt,
-                task,
-                terminals,
-                lost,
-                &mut files,
-                &mut record,
-                &keys,
-                &mut typist,
-            )
-        }
-        None => {
-            let mut typist = KeyReader::new(PatientInput::new(rt));
-            do_over(
-                rt,
-                task,
-                terminals,
-                None,
-                &mut files,
-                &mut record,
-                &keys,
-                &mut typist,
-            )
-        }
+        Some(end) => do_at_terminal(rt, task, terminals, end, &mut files, &mut record, &keys),
+        None => do_by_reads(rt, task, terminals, &mut files, &mut record, &keys),
     };
     record.finish(files.end(done))
 }
 
+/// Does it by the keys of a terminal, until a file of this name comes. (It is a function of its own, so that others need no room for the typist.)
+#[inline(never)]
+fn do_at_terminal<'a, R: LockableFiles + StandardInput>(
+    rt: &'a R,
+    task: &Task<'_>,
+    terminals: Terminals<'_>,
+    end: &str,
+    files: &mut MachineFiles<'a, R>,
+    record: &mut Record<'_, R>,
+    keys: &Cell<usize>,
+) -> Result<u8, HostError>
+    requires { HasUsers task.now }
+{
+    let is_gone = Cell::new(false);
+    let mut typist = TerminalTypist::new(rt, end, &is_gone, pace_of(task));
+    let lost = terminals.is_output_terminal.then_some(&is_gone);
+    do_over(rt, task, terminals, lost, files, record, keys, &mut typist)
+}
+
+/// Does it by the keys of standard input, which is read where one is wanted.
+#[inline(never)]
+fn do_by_reads<'a, R: LockableFiles + StandardInput>(
+    rt: &'a R,
+    task: &Task<'_>,
+    terminals: Terminals<'_>,
+    files: &mut MachineFiles<'a, R>,
+    record: &mut Record<'_, R>,
+    keys: &Cell<usize>,
+) -> Result<u8, HostError>
+    requires { HasUsers task.now }
+{
+    let mut typist = KeyReader::new(PatientInput::new(rt));
+    do_over(rt, task, terminals, None, files, record, keys, &mut typist)
+}
+
 /// Does it over these files, with the standard streams, and by the keys of this typist. Where standard output may be lost, it is noted there that it is.
 #[inline(never)]
-fn do_over<'a, R: LockableFiles + Input, P: Typist>(
+fn do_over<'a, R: LockableFiles + StandardInput, P: Typist>(
     rt: &'a R,
     task: &Task<'_>,
     terminals: Terminals<'_>,
@@ -82,7 +91,12 @@ fn do_over<'a, R: LockableFiles + Input, P: Typist>(
     let Ok(writer) = BufWriter::new(rt.alloc(), output) else {
         return Err(HostError::OutOfMemory);
     };
-    let screen = Screen::new(writer, terminals.shows_controls(is_raw(task)));
+    let has_shown_escape = Cell::new(false);
+    let screen = Screen::new(
+        writer,
+        terminals.shows_controls(is_raw(task)),
+        Some(&has_shown_escape),
+    );
     let mut lines = Lines::new(screen, &is_at_line_start);
     let form = Form::of(has_progress(task), terminals.is_error_terminal);
     let mut teller = Teller::new(rt, form, terminals, &is_at_line_start, keys);
@@ -100,6 +114,9 @@ fn do_over<'a, R: LockableFiles + Input, P: Typist>(
         &mut teller,
     );
     teller.end_all();
+    if has_shown_escape.get() && takes_raw(task) {
+        teller.tell_shown_escape();
+    }
     done
 }
 
@@ -110,7 +127,7 @@ fn files_of<'a, R: LockableFiles>(
     task: &'a Task<'_>,
 ) -> MachineFiles<'a, R> {
     let (rules, shows_controls) = match task {
-        Task::Com(task) => (FileRules::of_program(task.is_live), false),
+        Task::Com(task) | Task::Boot(task) => (FileRules::of_program(task.is_live), false),
         Task::Run(task) => (rules_of(task), !task.is_raw),
         _ => return MachineFiles::plain(rt, outputs),
     };
@@ -136,16 +153,21 @@ fn rules_of<'a>(task: &'a RunTask<'_>) -> FileRules<'a> {
 /// The file for what is typed, if there is one.
 fn record_of<'a>(task: &'a Task<'_>) -> Option<&'a str> {
     match task {
-        Task::Com(task) => task.record,
+        Task::Com(task) | Task::Boot(task) => task.record,
         Task::Run(task) => task.record,
         _ => None,
     }
 }
 
+/// Whether a task has the option that control bytes of a program go to a terminal as they are.
+fn takes_raw(task: &Task<'_>) -> bool {
+    matches!(task, Task::Com(_) | Task::Boot(_) | Task::Run(_))
+}
+
 /// Whether control bytes of a program go to a terminal as they are.
 fn is_raw(task: &Task<'_>) -> bool {
     match task {
-        Task::Com(task) => task.is_raw,
+        Task::Com(task) | Task::Boot(task) => task.is_raw,
         Task::Run(task) => task.is_raw,
         _ => false,
     }
@@ -154,7 +176,7 @@ fn is_raw(task: &Task<'_>) -> bool {
 /// Whether it is told how far it has come.
 fn has_progress(task: &Task<'_>) -> bool {
     match task {
-        Task::Com(task) => task.has_progress,
+        Task::Com(task) | Task::Boot(task) => task.has_progress,
         Task::Run(task) => task.has_progress,
         _ => false,
     }
@@ -163,7 +185,7 @@ fn has_progress(task: &Task<'_>) -> bool {
 /// How many thousand steps pass in a second at most where one types.
 fn pace_of(task: &Task<'_>) -> Option<u64> {
     match task {
-        Task::Com(task) => task.pace,
+        Task::Com(task) | Task::Boot(task) => task.pace,
         Task::Run(task) => task.pace,
         _ => None,
     }

@@ -9,7 +9,7 @@ use crate::tempo::{Tempo, micros, sleep};
 use arrayvec::ArrayVec;
 use cpm_host::{Heard, KeyNeed, TypingEnd, Typist};
 use std::cell::Cell;
-use std::io::{ErrorKind, Read, Write};
+use std::io::{ErrorKind, Write};
 use std::{fs, io};
 
 /// ^], which ends typing.
@@ -108,7 +108,6 @@ impl TypedKeys {
 #[derive(Drop)]
 pub struct TerminalTypist<'a, R: LockableFiles + StandardInput> {
     rt: &'a R,
-    input: R::Reader,
     typed: TypedKeys,
     tempo: Tempo,
     end: &'a str,
@@ -130,7 +129,6 @@ impl<'a, R: LockableFiles + StandardInput> TerminalTypist<'a, R> {
     ) -> TerminalTypist<'a, R> {
         TerminalTypist {
             rt,
-            input: rt.reader(),
             typed: TypedKeys::new(),
             tempo: Tempo::new(pace),
             end,
@@ -176,7 +174,7 @@ impl<'a, R: LockableFiles + StandardInput> TerminalTypist<'a, R> {
         if room == 0 {
             return;
         }
-        match self.input.read(&mut bytes[..room]) {
+        match self.rt.read_input(&mut bytes[..room]) {
             Ok(count) => {
                 for &byte in bytes.iter().take(count) {
                     self.typed.take(byte, now);

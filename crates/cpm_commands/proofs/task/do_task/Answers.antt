@@ -1,6 +1,19 @@
 use Rattle.std.proofs.Common.{refl}
+use Rattle.std.proofs.lemmas.Result.{IfErr-weaker, IfOk-weaker}
 use Rattle.cpm_commands.proofs.TaskLemmas.{plain-done, plain-refused}
 use Rattle.cpm_commands.proofs.task.do_task.Goals as goal
+
+pub returns-in-Com-clause-done : goal.returns-in-Com-clause-done
+returns-in-Com-clause-done g c = IfOk-weaker c.do_play_task.result _ _ (λ s h. rw c.in-Com.is h) c.do_play_task.ensures.ran
+
+pub returns-in-Com-clause-refusal : goal.returns-in-Com-clause-refusal
+returns-in-Com-clause-refusal g c = IfErr-weaker c.do_play_task.result _ _ (λ e h. rw c.in-Com.is h) c.do_play_task.ensures.refusal
+
+pub returns-in-Boot-clause-done : goal.returns-in-Boot-clause-done
+returns-in-Boot-clause-done g c = IfOk-weaker c.do_play_task-in-Boot.result _ _ (λ s h. rw c.in-Boot.is h) c.do_play_task-in-Boot.ensures.ran
+
+pub returns-in-Boot-clause-refusal : goal.returns-in-Boot-clause-refusal
+returns-in-Boot-clause-refusal g c = IfErr-weaker c.do_play_task-in-Boot.result _ _ (λ e h. rw c.in-Boot.is h) c.do_play_task-in-Boot.ensures.refusal
 
 pub returns-in-Asm-clause-done : goal.returns-in-Asm-clause-done
 returns-in-Asm-clause-done g c = plain-done _ _ c.assemble_file.result c.plain.result c.plain.ensures (λ h. rw c.in-Asm.is ((h, refl), refl)) c.assemble_file.ensures.assembled
