@@ -11,7 +11,9 @@ use Rattle.cpm_geom.specs.Disk.{Disk}
 use Rattle.cpm_store.specs.Files.{StoreFiles, StoreName}
 use Rattle.cpm_batch.specs.declared.error.ReadError.{ReadError}
 use Rattle.cpm_batch.specs.declared.input.Input.{Input}
-use Rattle.cpm_batch.specs.Inputs.{AllImages, AllInputs, given, HasInput, ImageIn, IsFirstFault, IsImageIn, IsMet, IsNeedRefusal, IsReadRefusal, IsSessionRefusal, AreFirstFault, Need, SessionInput, forked_script_needs, image_needs, known_before, needs_from, needs_of, said_of_session}
+use Rattle.cpm_batch.specs.declared.source.Replay.{Replay}
+use Rattle.cpm_batch.specs.Sources.{key_source}
+use Rattle.cpm_batch.specs.Inputs.{AllImages, AllInputs, given, HasInput, ImageIn, IsFirstFault, IsImageIn, IsMet, IsNeedRefusal, IsReadRefusal, IsSessionRefusal, AreFirstFault, Need, SessionInput, forked_key_needs, image_needs, known_in, needs_from, needs_of}
 
 -- each of the needs is met
 abbrev pub AllMet : Option StoreFiles → List Need → Type 0
@@ -73,30 +75,30 @@ name_read files names i name ds all d within is pushed done h =
 -- ---- sessions, each behind those before it
 
 -- what is refused behind sessions that were read is refused of all
-fault_behind : (files : Option StoreFiles) (before is : List SessionInput) (rest : List SessionConfig) (e : ReadError) → AllInputs files before is → AreFirstFault files (before ++ is) rest e
-    → AreFirstFault files before (map (λ i. i.session) is ++ rest) e
-fault_behind files before [] rest e h g = subst (λ (b : List SessionInput). AreFirstFault files b rest e) (append-nil before) g
-fault_behind files before (i ∷ is) rest e h g =
-    inr (i, refl, h.0, fault_behind files (before ++ i ∷ []) is rest e h.1 (subst (λ (b : List SessionInput). AreFirstFault files b rest e) (sym (append_assoc before (i ∷ []) is)) g))
+fault_behind : (replays : List Replay) (files : Option StoreFiles) (before is : List SessionInput) (rest : List SessionConfig) (e : ReadError) → AllInputs files replays before is → AreFirstFault files replays (before ++ is) rest e
+    → AreFirstFault files replays before (map (λ i. i.session) is ++ rest) e
+fault_behind replays files before [] rest e h g = subst (λ (b : List SessionInput). AreFirstFault files replays b rest e) (append-nil before) g
+fault_behind replays files before (i ∷ is) rest e h g =
+    inr (i, refl, h.0, fault_behind replays files (before ++ i ∷ []) is rest e h.1 (subst (λ (b : List SessionInput). AreFirstFault files replays b rest e) (sym (append_assoc before (i ∷ []) is)) g))
 
 -- the session in turn is refused
-pub session_refused : (files : Option StoreFiles) (sessions : List SessionConfig) (i : ℕ) (s : SessionConfig) (is : List SessionInput) (e : ReadError) → i < length sessions → s ≡ get_or sessions i s
-    → map (λ x. x.session) is ≡ take i sessions → AllInputs files [] is → IsNeedRefusal files (needs_of is s) e → IsSessionRefusal files [] sessions e
-session_refused files sessions i s is e within at same done h =
+pub session_refused : (replays : List Replay) (files : Option StoreFiles) (sessions : List SessionConfig) (i : ℕ) (s : SessionConfig) (is : List SessionInput) (e : ReadError) → i < length sessions → s ≡ get_or sessions i s
+    → map (λ x. x.session) is ≡ take i sessions → AllInputs files replays [] is → IsNeedRefusal files (needs_of replays is s) e → IsSessionRefusal files replays [] sessions e
+session_refused replays files sessions i s is e within at same done h =
     let parts : sessions ≡ take i sessions ++ s ∷ drop (suc i) sessions = split_at sessions i s within ∙ ap (λ x. take i sessions ++ x ∷ drop (suc i) sessions) (sym at) in
     let all : map (λ x. x.session) is ++ s ∷ drop (suc i) sessions ≡ sessions = ap (λ ss. ss ++ s ∷ drop (suc i) sessions) same ∙ sym parts in
-    subst (λ (ss : List SessionConfig). IsSessionRefusal files [] ss e) all
-    (⊎_elim (λ m. inl m) (λ f. inr (fault_behind files [] is (s ∷ drop (suc i) sessions) e done (inl f))) h)
+    subst (λ (ss : List SessionConfig). IsSessionRefusal files replays [] ss e) all
+    (⊎_elim (λ m. inl m) (λ f. inr (fault_behind replays files [] is (s ∷ drop (suc i) sessions) e done (inl f))) h)
 
-inputs_push : (files : Option StoreFiles) (before is : List SessionInput) (x : SessionInput) → AllInputs files before is → HasInput files (before ++ is) x → AllInputs files before (is ++ x ∷ [])
-inputs_push files before [] x h g = (subst (λ (b : List SessionInput). HasInput files b x) (append-nil before) g, tt)
-inputs_push files before (i ∷ is) x h g =
-    (h.0, inputs_push files (before ++ i ∷ []) is x h.1 (subst (λ (b : List SessionInput). HasInput files b x) (sym (append_assoc before (i ∷ []) is)) g))
+inputs_push : (replays : List Replay) (files : Option StoreFiles) (before is : List SessionInput) (x : SessionInput) → AllInputs files replays before is → HasInput files replays (before ++ is) x → AllInputs files replays before (is ++ x ∷ [])
+inputs_push replays files before [] x h g = (subst (λ (b : List SessionInput). HasInput files replays b x) (append-nil before) g, tt)
+inputs_push replays files before (i ∷ is) x h g =
+    (h.0, inputs_push replays files (before ++ i ∷ []) is x h.1 (subst (λ (b : List SessionInput). HasInput files replays b x) (sym (append_assoc before (i ∷ []) is)) g))
 
-pub inputs_more : (files : Option StoreFiles) (is all : List Input) (x : Input) → all ≡ is ++ x ∷ [] → AllInputs files [] (map given is) → HasInput files (map given is) (given x)
-    → AllInputs files [] (map given all)
-inputs_more files is all x pushed h g =
-    subst (λ (ys : List SessionInput). AllInputs files [] ys) (sym (ap (map given) pushed ∙ map-append given is (x ∷ []))) (inputs_push files [] (map given is) (given x) h g)
+pub inputs_more : (replays : List Replay) (files : Option StoreFiles) (is all : List Input) (x : Input) → all ≡ is ++ x ∷ [] → AllInputs files replays [] (map given is) → HasInput files replays (map given is) (given x)
+    → AllInputs files replays [] (map given all)
+inputs_more replays files is all x pushed h g =
+    subst (λ (ys : List SessionInput). AllInputs files replays [] ys) (sym (ap (map given) pushed ∙ map-append given is (x ∷ []))) (inputs_push replays files [] (map given is) (given x) h g)
 
 pub sessions_more : (is all : List Input) (x : Input) (sessions : List SessionConfig) (i : ℕ) (s : SessionConfig) → i < length sessions → s ≡ get_or sessions i s
     → all ≡ is ++ x ∷ [] → map (λ y. y.session) (map given is) ≡ take i sessions → x.session.now ≡ s → map (λ y. y.session) (map given all) ≡ take (i + 1) sessions
@@ -115,22 +117,22 @@ image_as files now name text d same is h = subst (λ (f : Option StoreFiles). Is
 pub refusal_as : (files now : Option StoreFiles) (ns ms : List Need) (e : ReadError) → now ≡ files → ms ≡ ns → IsNeedRefusal now ms e → IsNeedRefusal files ns e
 refusal_as files now ns ms e same is h = subst (λ (f : Option StoreFiles). IsNeedRefusal f ns e) same (subst (λ (xs : List Need). IsNeedRefusal now xs e) is h)
 
-pub inputs_as : (files now : Option StoreFiles) (is : List SessionInput) → now ≡ files → AllInputs now [] is → AllInputs files [] is
-inputs_as files now is same h = subst (λ (f : Option StoreFiles). AllInputs f [] is) same h
+pub inputs_as : (replays : List Replay) (files now : Option StoreFiles) (is : List SessionInput) → now ≡ files → AllInputs now replays [] is → AllInputs files replays [] is
+inputs_as replays files now is same h = subst (λ (f : Option StoreFiles). AllInputs f replays [] is) same h
 
 -- the needs of a forked session
-pub forked_needs : (before : List SessionInput) (session : SessionConfig) (parent : String Global) (at : ℕ) (name : StoreName) → session.origin ≡ origin.Forked parent at → name ≡ string_bytes parent
-    → forked_script_needs at (known_before at (said_of_session before name)) session.keys ≡ needs_of before session
-forked_needs before session parent at name is named =
-    ap (λ (n : StoreName). forked_script_needs at (known_before at (said_of_session before n)) session.keys) named ∙ ap (needs_from before session.keys) (sym is)
+pub forked_needs : (replays : List Replay) (before : List SessionInput) (session : SessionConfig) (parent : String Global) (at : ℕ) (name : StoreName) → session.origin ≡ origin.Forked parent at → name ≡ string_bytes parent
+    → forked_key_needs at (known_in replays at before name) (key_source replays session) ≡ needs_of replays before session
+forked_needs replays before session parent at name is named =
+    ap (λ (n : StoreName). forked_key_needs at (known_in replays at before n) (key_source replays session)) named ∙ ap (needs_from replays before (key_source replays session)) (sym is)
 
 -- ---- a configuration
 
-pub system_refused : (files : Option StoreFiles) (config : Config) (e : ReadError) → IsNeedRefusal files (ImageIn (string_bytes config.system) ∷ []) e → IsReadRefusal files config e
-system_refused files config e h = ⊎_elim (λ m. inl m) (λ f. inr (⊎_elim (λ x. inl x) (λ m. absurd m.1) f)) h
+pub system_refused : (replays : List Replay) (files : Option StoreFiles) (config : Config) (e : ReadError) → IsNeedRefusal files (ImageIn (string_bytes config.system) ∷ []) e → IsReadRefusal files config replays e
+system_refused replays files config e h = ⊎_elim (λ m. inl m) (λ f. inr (⊎_elim (λ x. inl x) (λ m. absurd m.1) f)) h
 
-pub sessions_refused : (files now : Option StoreFiles) (config : Config) (sessions : List SessionConfig) (d : Disk) (e : ReadError) → IsImageIn files (string_bytes config.system) d → now ≡ files
-    → sessions ≡ config.sessions.items → IsSessionRefusal now [] sessions e → IsReadRefusal files config e
-sessions_refused files now config sessions d e system same is h =
-    let told = subst (λ (f : Option StoreFiles). IsSessionRefusal f [] config.sessions.items e) same (subst (λ (ss : List SessionConfig). IsSessionRefusal now [] ss e) is h) in
+pub sessions_refused : (replays : List Replay) (files now : Option StoreFiles) (config : Config) (sessions : List SessionConfig) (d : Disk) (e : ReadError) → IsImageIn files (string_bytes config.system) d → now ≡ files
+    → sessions ≡ config.sessions.items → IsSessionRefusal now replays [] sessions e → IsReadRefusal files config replays e
+sessions_refused replays files now config sessions d e system same is h =
+    let told = subst (λ (f : Option StoreFiles). IsSessionRefusal f replays [] config.sessions.items e) same (subst (λ (ss : List SessionConfig). IsSessionRefusal now replays [] ss e) is h) in
     ⊎_elim (λ m. inl m) (λ f. inr (inr ((d, system), f))) told

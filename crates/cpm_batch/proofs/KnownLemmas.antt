@@ -1,7 +1,7 @@
 -- How many keys a script is known to have before a count: no more than a script may have.
 use Rattle.std.proofs.Common.{◌≡◌, ◌∙◌, ◌<◌, ℕ, suc, ◌+◌, ◌≤◌, Bool, true, false, Option, Some, None, Result, Ok, Err, IfOk, List, [], ◌∷◌, length, map, get_or, drop, refl, sym, ap, subst, arith, if◌then◌else◌, cond}
 use Rattle.std.specs.Option.{option_map_or}
-use Rattle.std.specs.Prelude.{String, nat_lt, option_map}
+use Rattle.std.specs.Prelude.{String, is_some, nat_lt, option_map, string_bytes}
 use Rattle.std.specs.declared.alloc.Global.{Global}
 use Rattle.std.proofs.lemmas.Bool.Decides.{nat_tests}
 use Rattle.std.proofs.lemmas.List.{at_drop_all, drop_more}
@@ -14,8 +14,12 @@ use Rattle.cpm_script.specs.declared.fault.LineFault.{LineFault}
 use Rattle.cpm_script.specs.declared.script.Key.{Key}
 use Rattle.cpm_script.proofs.CueLaws.{cues-ordered}
 use Rattle.cpm_script.proofs.ForkLemmas.{length-keys_before}
-use Rattle.cpm_store.specs.Files.{StoreFiles}
-use Rattle.cpm_batch.specs.Inputs.{HasForkedSaid, HasSaid, known_before, timed_keys}
+use Rattle.cpm_config.specs.declared.config.Origin.{Origin}
+use Rattle.cpm_config.specs.declared.config.Origin.TheVariants as origin
+use Rattle.cpm_store.specs.Files.{StoreFiles, StoreName}
+use Rattle.cpm_batch.specs.Inputs.{HasForkedSaid, HasInputOf, HasSaid, SessionInput, known_before, known_of, timed_keys}
+use Rattle.cpm_batch.specs.Sources.{replay_of, script_source, source_or}
+use Rattle.cpm_batch.specs.declared.source.Replay.{Replay}
 
 -- ---- what a script says has not too many keys
 
@@ -32,15 +36,6 @@ own-read : (fault : Option (ℕ × LineFault)) (read : Result (List CueText) (�
 own-read fault (Err first) said is = absurd (cc)
 own-read None (Ok own) said is = is
 own-read (Some fault) (Ok own) said is = absurd (cc)
-
--- that of a session that is opened, and of one that is forked
-pub few-opened : (files : Option StoreFiles) (name : Option (String Global)) (said : List CueText) → HasSaid files name said → AreFew said
-few-opened files None said none = subst AreFew (sym none) (omega arith)
-few-opened files (Some name) said some = few-read some.text said some.read
-
-pub few-forked : (files : Option StoreFiles) (name : Option (String Global)) (at before : ℕ) (said : List CueText) → HasForkedSaid files name at before said → AreFew said
-few-forked files None at before said none = subst AreFew (sym none) (omega arith)
-few-forked files (Some name) at before said some = few-read some.text said (own-read _ (cues some.text) said some.read)
 
 -- ---- the keys that are known before a count are no more than all of them
 
@@ -62,8 +57,31 @@ fewer-before : (at n : ℕ) (keys : Option (List Key)) → key_count keys ≤ n 
 fewer-before at n None few = few
 fewer-before at n (Some keys) few = omega (arith, length-keys_before at keys, few)
 
-pub few-known : (at : ℕ) (said : List CueText) → AreFew said → known_before at said ≤ 4096
+few-known : (at : ℕ) (said : List CueText) → AreFew said → known_before at said ≤ 4096
 few-known at said few = omega (arith, fewer-before at (cued_key_count said) (timed_keys said) (few-timed said), few)
+
+-- that of a session that is opened, and of one that is forked; no recording stands in its place
+few_opened : (files : Option StoreFiles) (name : Option (String Global)) (said : List CueText) → HasSaid files (script_source name) said → AreFew said
+few_opened files None said none = subst AreFew (sym none) (omega arith)
+few_opened files (Some name) said some = few-read some.text said some.read
+
+few_forked : (files : Option StoreFiles) (name : Option (String Global)) (at before : ℕ) (said : List CueText) → HasForkedSaid files (script_source name) at before said → AreFew said
+few_forked files None at before said none = subst AreFew (sym none) (omega arith)
+few_forked files (Some name) at before said some = few-read some.text said (own-read _ (cues some.text) said some.read)
+
+known_by : (at : ℕ) (file : Option StoreName) (said : List CueText) → (file ≡ None → AreFew said) → (if is_some file then 0 else known_before at said) ≤ 4096
+known_by at None said few = few-known at said (few refl)
+known_by at (Some name) said few = omega arith
+
+-- of any session that was read not too many keys are known
+pub few_of : (files : Option StoreFiles) (replays : List Replay) (before : List SessionInput) (o : Origin) (i : SessionInput) → HasInputOf files replays before o i → (at : ℕ) → known_of replays at i ≤ 4096
+few_of files replays before (origin.Opened cpu quota drives) i h at =
+    known_by at (replay_of replays (string_bytes i.session.name)) i.said
+    (λ none. few_opened files i.session.keys i.said (subst (λ (f : Option StoreName). HasSaid files (source_or f i.session.keys) i.said) none h.said))
+few_of files replays before (origin.Forked parent fork) i h at =
+    known_by at (replay_of replays (string_bytes i.session.name)) i.said
+    (λ none. few_forked files i.session.keys fork (known_of replays fork h.parent) i.said
+    (subst (λ (f : Option StoreName). HasForkedSaid files (source_or f i.session.keys) fork (known_of replays fork h.parent) i.said) none h.said))
 
 -- ---- counting them
 

@@ -14,37 +14,36 @@ use Rattle.cpm_config.proofs.FaultLemmas.{faultless_step}
 use Rattle.cpm_config.specs.declared.config.Origin.{Origin}
 use Rattle.cpm_config.specs.declared.config.Origin.TheVariants as origin
 use Rattle.cpm_config.specs.declared.config.SessionConfig.{SessionConfig}
-use Rattle.cpm_script.specs.Cues.{all_said, cue_text}
-use Rattle.cpm_script.specs.declared.cue.Cue.{Cue}
 use Rattle.cpm_store.specs.Files.{StoreFiles, StoreName}
-use Rattle.cpm_batch.specs.Inputs.{AllInputs, HasInputOf, IsOpened, IsParent, SessionInput, given, known_before, said_if_any, said_of_session, session_place}
+use Rattle.cpm_batch.specs.Inputs.{AllInputs, HasInputOf, IsOpened, IsParent, SessionInput, given, known_if_any, known_in, known_of, session_place}
+use Rattle.cpm_batch.specs.declared.source.Replay.{Replay}
 use Rattle.cpm_batch.specs.declared.input.Input.{Input}
-use Rattle.cpm_batch.proofs.KnownLemmas.{AreFew, few-forked, few-known, few-opened}
+use Rattle.cpm_batch.proofs.KnownLemmas.{few_of}
 
--- what was read for a session: not too many keys, and a start as its session has it
-record IsSound (i : SessionInput) : Type 0 where
-  pub few : AreFew i.said
+-- what was read for a session: of which not too many keys are known, and a start as its session has it
+record IsSound (replays : List Replay) (i : SessionInput) : Type 0 where
+  pub few : (at : ℕ) → known_of replays at i ≤ 4096
   pub opened : is_opened (origin_view i.session.origin) ≡ true → IsOpened i.start
 
-sound_at : (is : List SessionInput) (place : ℕ) (i : SessionInput) → All IsSound is → slice_get is place ≡ Some i → IsSound i
-sound_at is place i all there =
-    subst IsSound (get_or_from_slice_get is place i i there) (All-get_or IsSound is place i (slice_get_within is place i there) all)
+sound_at : (replays : List Replay) (is : List SessionInput) (place : ℕ) (i : SessionInput) → All (IsSound replays) is → slice_get is place ≡ Some i → IsSound replays i
+sound_at replays is place i all there =
+    subst (IsSound replays) (get_or_from_slice_get is place i i there) (All-get_or (IsSound replays) is place i (slice_get_within is place i there) all)
 
-sound_opened : (files : Option StoreFiles) (o : Origin) (before : List SessionInput) (i : SessionInput) → i.session.origin ≡ o → HasInputOf files before o i → IsSound i
-sound_opened files (origin.Opened cpu quota drives) before i is h = record {
-  few = few-opened files i.session.keys i.said h.said;
+sound_opened : (replays : List Replay) (files : Option StoreFiles) (o : Origin) (before : List SessionInput) (i : SessionInput) → i.session.origin ≡ o → HasInputOf files replays before o i → IsSound replays i
+sound_opened replays files (origin.Opened cpu quota drives) before i is h = record {
+  few = few_of files replays before (origin.Opened cpu quota drives) i h;
   opened = λ opened. subst IsOpened (sym h.start) tt;
 }
-sound_opened files (origin.Forked parent at) before i is h = record {
-  few = few-forked files i.session.keys at (known_before at h.parent.said) i.said h.said;
+sound_opened replays files (origin.Forked parent at) before i is h = record {
+  few = few_of files replays before (origin.Forked parent at) i h;
   opened = λ opened. let no = sym (ap (λ (x : Origin). is_opened (origin_view x)) is) ∙ opened in absurd (cc);
 }
 
-sound_more : (files : Option StoreFiles) (before is : List SessionInput) → All IsSound before → AllInputs files before is → All IsSound (before ++ is)
-sound_more files before [] all h = All-same IsSound (before ++ []) before (append-nil before) all
-sound_more files before (i ∷ is) all h =
-    All-same IsSound (before ++ i ∷ is) ((before ++ i ∷ []) ++ is) (sym (append_assoc before (i ∷ []) is))
-    (sound_more files (before ++ i ∷ []) is (All-push IsSound before i all (sound_opened files i.session.origin before i refl h.0)) h.1)
+sound_more : (replays : List Replay) (files : Option StoreFiles) (before is : List SessionInput) → All (IsSound replays) before → AllInputs files replays before is → All (IsSound replays) (before ++ is)
+sound_more replays files before [] all h = All-same (IsSound replays) (before ++ []) before (append-nil before) all
+sound_more replays files before (i ∷ is) all h =
+    All-same (IsSound replays) (before ++ i ∷ is) ((before ++ i ∷ []) ++ is) (sym (append_assoc before (i ∷ []) is))
+    (sound_more replays files (before ++ i ∷ []) is (All-push (IsSound replays) before i all (sound_opened replays files i.session.origin before i refl h.0)) h.1)
 
 -- ---- the first that passes a test
 
@@ -71,19 +70,19 @@ find-first {A} {B} view test xs y found =
 
 -- ---- the parent
 
--- it stands before, it is opened, and it has not too many keys
-pub record HasParent (is : List SessionInput) (name : StoreName) : Type 0 where
+-- it stands before, it is opened, and not too many keys of it are known
+pub record HasParent (replays : List Replay) (is : List SessionInput) (name : StoreName) : Type 0 where
   pub place : ℕ
   pub parent : SessionInput
   pub found : IsParent is name place parent
-  pub few : AreFew parent.said
+  pub few : (at : ℕ) → known_of replays at parent ≤ 4096
 
 abbrev seen : SessionInput → SessionEntries
 seen i = session_view i.session
 
-parent_at : (is : List SessionInput) (name : StoreName) (s : SessionEntries) → All IsSound is → IsFirst seen (is_session_named name) is s → is_opened s.origin ≡ true → HasParent is name
-parent_at is name s all f opened =
-    let sound = sound_at is f.place f.element all f.there in
+parent_at : (replays : List Replay) (is : List SessionInput) (name : StoreName) (s : SessionEntries) → All (IsSound replays) is → IsFirst seen (is_session_named name) is s → is_opened s.origin ≡ true → HasParent replays is name
+parent_at replays is name s all f opened =
+    let sound = sound_at replays is f.place f.element all f.there in
     record {
       place = f.place;
       parent = f.element;
@@ -91,43 +90,42 @@ parent_at is name s all f opened =
       few = sound.few;
     }
 
-parent_by : (is : List SessionInput) (name : StoreName) (o : Option SessionEntries) → All IsSound is → named_in (map seen is) name ≡ o → is_some (if_opened o) ≡ true → HasParent is name
-parent_by is name None all found some = absurd (cc)
-parent_by is name (Some s) all found some = by_test (is_opened s.origin) refl some
+parent_by : (replays : List Replay) (is : List SessionInput) (name : StoreName) (o : Option SessionEntries) → All (IsSound replays) is → named_in (map seen is) name ≡ o → is_some (if_opened o) ≡ true → HasParent replays is name
+parent_by replays is name None all found some = absurd (cc)
+parent_by replays is name (Some s) all found some = by_test (is_opened s.origin) refl some
   where
-    by_test : (t : Bool) → is_opened s.origin ≡ t → is_some (if t then Some s else None) ≡ true → HasParent is name
-    by_test true e g = parent_at is name s all (find-first seen (is_session_named name) is s found) e
+    by_test : (t : Bool) → is_opened s.origin ≡ t → is_some (if t then Some s else None) ≡ true → HasParent replays is name
+    by_test true e g = parent_at replays is name s all (find-first seen (is_session_named name) is s found) e
     by_test false e g = absurd (cc)
 
-pub parent_found : (files : Option StoreFiles) (is : List SessionInput) (name : StoreName) → AllInputs files [] is → is_some (parent_in (map (λ i. session_view i.session) is) name) ≡ true → HasParent is name
-parent_found files is name h some = parent_by is name (named_in (map seen is) name) (sound_more files [] is (All-nil IsSound) h) refl some
+pub parent_found : (replays : List Replay) (files : Option StoreFiles) (is : List SessionInput) (name : StoreName) → AllInputs files replays [] is → is_some (parent_in (map (λ i. session_view i.session) is) name) ≡ true → HasParent replays is name
+parent_found replays files is name h some = parent_by replays is name (named_in (map seen is) name) (sound_more replays files [] is (All-nil (IsSound replays)) h) refl some
 
 -- the parent at a place, and how many keys it is known to have before a session is forked from it
-pub record IsReadParent (is : List Input) (name : StoreName) (place at first : ℕ) : Type 0 where
+pub record IsReadParent (replays : List Replay) (is : List Input) (name : StoreName) (place at first : ℕ) : Type 0 where
   pub parent : SessionInput
   pub found : IsParent (map given is) name place parent
   pub few : first ≤ 4096
-  pub known : first ≡ known_before at parent.said
-  pub named : first ≡ known_before at (said_of_session (map given is) name)
+  pub known : first ≡ known_of replays at parent
+  pub named : first ≡ known_in replays at (map given is) name
 
-pub parent_read : (files : Option StoreFiles) (is : List Input) (name : StoreName) (place at : ℕ) (i : Input) (own : List Cue) (first : ℕ) → AllInputs files [] (map given is)
+pub parent_read : (replays : List Replay) (files : Option StoreFiles) (is : List Input) (name : StoreName) (place at : ℕ) (i : Input) (first : ℕ) → AllInputs files replays [] (map given is)
     → is_some (parent_in (map (λ i. session_view i.session) (map given is)) name) ≡ true → Some place ≡ session_place (map given is) name → place < length is → i ≡ get_or is place i
-    → own ≡ (get_or is place i).cues.items → first ≡ known_before at (map cue_text own) → IsReadParent is name place at first
-parent_read files is name place at i own first all some named within is_at own_is first_is =
-    let h = parent_found files (map given is) name all some in
+    → first ≡ known_of replays at (given i) → IsReadParent replays is name place at first
+parent_read replays files is name place at i first all some named within is_at known =
+    let h = parent_found replays files (map given is) name all some in
     let same_place : h.place ≡ place = let f = h.found.first in cc in
     let there : slice_get (map given is) place ≡ Some (given i) =
     slice_get-map given is place ∙ ap (option_map given) (slice_get-get_or is place i within ∙ ap (λ (x : Input). Some x) (sym is_at)) in
     let same : h.parent ≡ given i = let f = ap (slice_get (map given is)) (sym same_place) ∙ h.found.there in cc in
-    let known : first ≡ known_before at (all_said i.cues) =
-    first_is ∙ ap (λ (cs : List Cue). known_before at (map cue_text cs)) (own_is ∙ ap (λ (x : Input). x.cues.items) (sym is_at)) in
-    let found : said_of_session (map given is) name ≡ all_said i.cues = ap (λ (p : Option ℕ). said_if_any (option_and_then (slice_get (map given is)) p)) (sym named) ∙ ap said_if_any there in
+    let found : known_in replays at (map given is) name ≡ known_of replays at (given i) =
+    ap (λ (p : Option ℕ). known_if_any replays at (option_and_then (slice_get (map given is)) p)) (sym named) ∙ ap (known_if_any replays at) there in
     record {
       parent = given i;
       found = record { first = sym named; there = there; opened = subst (λ (x : SessionInput). IsOpened x.start) same h.found.opened };
-      few = subst (λ n. n ≤ 4096) (sym known) (few-known at (all_said i.cues) (subst (λ (x : SessionInput). AreFew x.said) same h.few));
+      few = subst (λ n. n ≤ 4096) (sym known) (subst (λ (x : SessionInput). known_of replays at x ≤ 4096) same (h.few at));
       known = known;
-      named = known ∙ ap (known_before at) (sym found);
+      named = known ∙ sym found;
     }
 
 -- ---- forks that break no rule

@@ -9,7 +9,8 @@ use Rattle.cpm_store.specs.Log.{StoreAccess, Gave, LogLeadsBy, Then}
 use Rattle.cpm_store.proofs.LogLemmas.{ran_more, ran_one, unwritten_more}
 use Rattle.cpm_script.specs.Cues.{CueText, cues}
 use Rattle.cpm_script.specs.Fork.{forked_cues}
-use Rattle.std.specs.Prelude.{Err, IfErr, IfOk, Ok, OnOk, Option, Result, Some, None, Vec}
+use Rattle.std.specs.Borrow.{Bor}
+use Rattle.std.specs.Prelude.{Err, IfErr, IfOk, Ok, OnOk, Option, Result, Vec}
 use Rattle.cpm_config.specs.declared.config.Origin.{Origin}
 use Rattle.cpm_config.specs.declared.config.Origin.TheVariants as origin
 use Rattle.cpm_config.specs.declared.config.SessionConfig.{SessionConfig}
@@ -17,8 +18,12 @@ use Rattle.cpm_flags.specs.declared.regs.Cpu.{Cpu}
 use Rattle.cpm_batch.specs.declared.error.ReadError.{ReadError}
 use Rattle.cpm_batch.specs.declared.error.ReadError.TheVariants.{OutOfMemory}
 use Rattle.cpm_batch.specs.Inputs.{IsFileFault, IsImage, SessionInput, given}
-use Rattle.cpm_batch.specs.Reads.{AreImagesRead, AreInputsRead, IsForkedRead, IsForkedSaidRead, IsForkedScriptRead, IsImageRead, IsInputRead, IsInputReadOf, IsOpenedRead, IsSaidRead, IsScriptRead, OnlyRead}
+use Rattle.cpm_batch.specs.Reads.{AreImagesRead, AreInputsRead, IsForkedRead, IsForkedSaidRead, IsForkedScriptRead, IsImageRead, IsInputRead, IsInputReadOf, IsOpenedRead, IsRecordingRead, IsSaidRead, IsScriptRead, OnlyRead}
 use Rattle.cpm_batch.specs.declared.input.Input.{Input}
+use Rattle.cpm_batch.specs.declared.source.KeySource.{KeySource}
+use Rattle.cpm_batch.specs.declared.source.KeySource.TheVariants as source
+use Rattle.cpm_batch.specs.declared.source.Replay.{Replay}
+use Rattle.cpm_batch.specs.Sources.{IsRecordingOf, SourceOfKeys, source_view}
 
 -- one read
 pub image_read : {S : Type 0} (does : S → StoreAccess → S → Type 0) (name : StoreName) (bytes : List ℕ) (d : Disk) (s t : S) → does s (Gave name bytes) t → IsImage bytes d → LogLeadsBy does (IsImageRead name d) s t
@@ -36,40 +41,54 @@ forked_script_read does name text at before said s t call read =
 pub image_read_as : {S : Type 0} (does : S → StoreAccess → S → Type 0) (name text : StoreName) (d : Disk) (s t : S) → text ≡ name → LogLeadsBy does (IsImageRead text d) s t → LogLeadsBy does (IsImageRead name d) s t
 image_read_as does name text d s t is h = subst (λ (n : StoreName). LogLeadsBy does (IsImageRead n d) s t) is h
 
+pub recording_read : {S : Type 0} (does : S → StoreAccess → S → Type 0) (name text : StoreName) (at : ℕ) (said : List CueText) (s t : S) → does s (Gave name text) t → IsRecordingOf at text said
+    → LogLeadsBy does (IsRecordingRead name at said) s t
+recording_read does name text at said s t call read = (Gave name text ∷ [], record { text = text; read = read; calls = refl }, ran_one does (Gave name text) s t call)
+
 -- what a script says that is named, and what none does
-pub script_named : {S : Type 0} (does : S → StoreAccess → S → Type 0) (script : Option (String Global)) (name : String Global) (text : StoreName) (said : List CueText) (s t : S) → script ≡ Some name → text ≡ string_bytes name
-    → LogLeadsBy does (IsScriptRead text said) s t → LogLeadsBy does (IsSaidRead script said) s t
-script_named does script name text said s t is named h =
-    subst (λ (o : Option (String Global)). LogLeadsBy does (IsSaidRead o said) s t) (sym is) (subst (λ (n : StoreName). LogLeadsBy does (IsScriptRead n said) s t) named h)
+pub script_named : {S : Type 0} (does : S → StoreAccess → S → Type 0) (keys : SourceOfKeys) (code : KeySource) (name : Bor (List ℕ)) (said : List CueText) (s t : S) → source_view code ≡ keys → code ≡ source.Script name
+    → LogLeadsBy does (IsScriptRead name.now said) s t → LogLeadsBy does (IsSaidRead keys said) s t
+script_named does keys code name said s t seen is h = subst (λ (k : SourceOfKeys). LogLeadsBy does (IsSaidRead k said) s t) (sym (ap source_view is) ∙ seen) h
 
-pub no_script : {S : Type 0} (does : S → StoreAccess → S → Type 0) (script : Option (String Global)) (said : List CueText) (s : S) → script ≡ None → said ≡ [] → LogLeadsBy does (IsSaidRead script said) s s
-no_script does script said s is none = subst (λ (o : Option (String Global)). LogLeadsBy does (IsSaidRead o said) s s) (sym is) ([], (none, refl), refl)
+pub recording_named : {S : Type 0} (does : S → StoreAccess → S → Type 0) (keys : SourceOfKeys) (code : KeySource) (name : Bor (List ℕ)) (said : List CueText) (s t : S) → source_view code ≡ keys → code ≡ source.Recording name
+    → LogLeadsBy does (IsRecordingRead name.now 0 said) s t → LogLeadsBy does (IsSaidRead keys said) s t
+recording_named does keys code name said s t seen is h = subst (λ (k : SourceOfKeys). LogLeadsBy does (IsSaidRead k said) s t) (sym (ap source_view is) ∙ seen) h
 
-pub forked_script_named : {S : Type 0} (does : S → StoreAccess → S → Type 0) (script : Option (String Global)) (name : String Global) (text : StoreName) (at before : ℕ) (said : List CueText) (s t : S)
-    → script ≡ Some name → text ≡ string_bytes name → LogLeadsBy does (IsForkedScriptRead text at before said) s t → LogLeadsBy does (IsForkedSaidRead script at before said) s t
-forked_script_named does script name text at before said s t is named h =
-    subst (λ (o : Option (String Global)). LogLeadsBy does (IsForkedSaidRead o at before said) s t) (sym is) (subst (λ (n : StoreName). LogLeadsBy does (IsForkedScriptRead n at before said) s t) named h)
+pub no_script : {S : Type 0} (does : S → StoreAccess → S → Type 0) (keys : SourceOfKeys) (code : KeySource) (said : List CueText) (s : S) → source_view code ≡ keys → code ≡ source.Nothing → said ≡ []
+    → LogLeadsBy does (IsSaidRead keys said) s s
+no_script does keys code said s seen is none = subst (λ (k : SourceOfKeys). LogLeadsBy does (IsSaidRead k said) s s) (sym (ap source_view is) ∙ seen) ([], (none, refl), refl)
 
-pub no_forked_script : {S : Type 0} (does : S → StoreAccess → S → Type 0) (script : Option (String Global)) (at before : ℕ) (said : List CueText) (s : S) → script ≡ None → said ≡ []
-    → LogLeadsBy does (IsForkedSaidRead script at before said) s s
-no_forked_script does script at before said s is same = subst (λ (o : Option (String Global)). LogLeadsBy does (IsForkedSaidRead o at before said) s s) (sym is) ([], (same, refl), refl)
+pub forked_script_named : {S : Type 0} (does : S → StoreAccess → S → Type 0) (keys : SourceOfKeys) (code : KeySource) (name : Bor (List ℕ)) (at before : ℕ) (said : List CueText) (s t : S) → source_view code ≡ keys
+    → code ≡ source.Script name → LogLeadsBy does (IsForkedScriptRead name.now at before said) s t → LogLeadsBy does (IsForkedSaidRead keys at before said) s t
+forked_script_named does keys code name at before said s t seen is h =
+    subst (λ (k : SourceOfKeys). LogLeadsBy does (IsForkedSaidRead k at before said) s t) (sym (ap source_view is) ∙ seen) h
+
+pub forked_recording_named : {S : Type 0} (does : S → StoreAccess → S → Type 0) (keys : SourceOfKeys) (code : KeySource) (name : Bor (List ℕ)) (at before : ℕ) (said : List CueText) (s t : S) → source_view code ≡ keys
+    → code ≡ source.Recording name → LogLeadsBy does (IsRecordingRead name.now at said) s t → LogLeadsBy does (IsForkedSaidRead keys at before said) s t
+forked_recording_named does keys code name at before said s t seen is h =
+    subst (λ (k : SourceOfKeys). LogLeadsBy does (IsForkedSaidRead k at before said) s t) (sym (ap source_view is) ∙ seen) h
+
+pub no_forked_script : {S : Type 0} (does : S → StoreAccess → S → Type 0) (keys : SourceOfKeys) (code : KeySource) (at before : ℕ) (said : List CueText) (s : S) → source_view code ≡ keys → code ≡ source.Nothing → said ≡ []
+    → LogLeadsBy does (IsForkedSaidRead keys at before said) s s
+no_forked_script does keys code at before said s seen is none =
+    subst (λ (k : SourceOfKeys). LogLeadsBy does (IsForkedSaidRead k at before said) s s) (sym (ap source_view is) ∙ seen) ([], (none, refl), refl)
 
 -- the reads of a session that begins so
-pub opened_read : {S : Type 0} (does : S → StoreAccess → S → Type 0) (r : Result Input ReadError) (before : List SessionInput) (session : SessionConfig) (cpu : Cpu) (quota : ℕ) (drives : Vec (String Global) Global)
+pub opened_read : {S : Type 0} (does : S → StoreAccess → S → Type 0) (replays : List Replay) (r : Result Input ReadError) (before : List SessionInput) (session : SessionConfig) (cpu : Cpu) (quota : ℕ) (drives : Vec (String Global) Global)
     (names : List (String Global)) (s t : S) → session.origin ≡ origin.Opened cpu quota drives → names ≡ drives.items → IfOk r (λ i. i.session.now ≡ session)
-    → IfOk r (λ i. LogLeadsBy does (IsOpenedRead cpu quota names (given i)) s t) → IfOk r (λ i. LogLeadsBy does (IsInputRead before (given i)) s t)
-opened_read does (Err e) before session cpu quota drives names s t is named same log = tt
-opened_read does (Ok i) before session cpu quota drives names s t is named same log =
-    subst (λ (o : Origin). LogLeadsBy does (IsInputReadOf before o (given i)) s t) (sym (ap (λ (x : SessionConfig). x.origin) same ∙ is))
-    (subst (λ (ns : List (String Global)). LogLeadsBy does (IsOpenedRead cpu quota ns (given i)) s t) named log)
+    → IfOk r (λ i. LogLeadsBy does (IsOpenedRead replays cpu quota names (given i)) s t) → IfOk r (λ i. LogLeadsBy does (IsInputRead replays before (given i)) s t)
+opened_read does replays (Err e) before session cpu quota drives names s t is named same log = tt
+opened_read does replays (Ok i) before session cpu quota drives names s t is named same log =
+    subst (λ (o : Origin). LogLeadsBy does (IsInputReadOf replays before o (given i)) s t) (sym (ap (λ (x : SessionConfig). x.origin) same ∙ is))
+    (subst (λ (ns : List (String Global)). LogLeadsBy does (IsOpenedRead replays cpu quota ns (given i)) s t) named log)
 
-pub forked_read : {S : Type 0} (does : S → StoreAccess → S → Type 0) (r : Result Input ReadError) (before : List SessionInput) (session : SessionConfig) (parent : String Global) (at : ℕ) (name : StoreName) (s t : S)
-    → session.origin ≡ origin.Forked parent at → name ≡ string_bytes parent → IfOk r (λ i. i.session.now ≡ session) → IfOk r (λ i. LogLeadsBy does (IsForkedRead before name at (given i)) s t)
-    → IfOk r (λ i. LogLeadsBy does (IsInputRead before (given i)) s t)
-forked_read does (Err e) before session parent at name s t is named same log = tt
-forked_read does (Ok i) before session parent at name s t is named same log =
-    subst (λ (o : Origin). LogLeadsBy does (IsInputReadOf before o (given i)) s t) (sym (ap (λ (x : SessionConfig). x.origin) same ∙ is))
-    (subst (λ (n : StoreName). LogLeadsBy does (IsForkedRead before n at (given i)) s t) named log)
+pub forked_read : {S : Type 0} (does : S → StoreAccess → S → Type 0) (replays : List Replay) (r : Result Input ReadError) (before : List SessionInput) (session : SessionConfig) (parent : String Global) (at : ℕ) (name : StoreName) (s t : S)
+    → session.origin ≡ origin.Forked parent at → name ≡ string_bytes parent → IfOk r (λ i. i.session.now ≡ session) → IfOk r (λ i. LogLeadsBy does (IsForkedRead replays before name at (given i)) s t)
+    → IfOk r (λ i. LogLeadsBy does (IsInputRead replays before (given i)) s t)
+forked_read does replays (Err e) before session parent at name s t is named same log = tt
+forked_read does replays (Ok i) before session parent at name s t is named same log =
+    subst (λ (o : Origin). LogLeadsBy does (IsInputReadOf replays before o (given i)) s t) (sym (ap (λ (x : SessionConfig). x.origin) same ∙ is))
+    (subst (λ (n : StoreName). LogLeadsBy does (IsForkedRead replays before n at (given i)) s t) named log)
 
 -- the reads of a list, and one more
 pub then_more : (Before After All : List StoreAccess → Type 0) (xs ys : List StoreAccess) (h : Then Before After xs) → All (h.rest ++ ys) → Then Before All (xs ++ ys)
@@ -98,11 +117,11 @@ images_push (n ∷ names) [] name d xs ys h g = absurd h
 images_push (n ∷ names) (x ∷ ds) name d xs ys h g =
     then_more (IsImageRead (string_bytes n) x) (AreImagesRead names ds) (AreImagesRead (names ++ name ∷ []) (ds ++ d ∷ [])) xs ys h (images_push names ds name d h.rest ys h.goes_on g)
 
-inputs_push : (before is : List SessionInput) (x : SessionInput) (xs ys : List StoreAccess) → AreInputsRead before is xs → IsInputRead (before ++ is) x ys → AreInputsRead before (is ++ x ∷ []) (xs ++ ys)
-inputs_push before [] x xs ys h g = then_last (IsInputRead before x) xs ys h (subst (λ (b : List SessionInput). IsInputRead b x ys) (append-nil before) g)
-inputs_push before (i ∷ is) x xs ys h g =
-    then_more (IsInputRead before i) (AreInputsRead (before ++ i ∷ []) is) (AreInputsRead (before ++ i ∷ []) (is ++ x ∷ [])) xs ys h
-    (inputs_push (before ++ i ∷ []) is x h.rest ys h.goes_on (subst (λ (b : List SessionInput). IsInputRead b x ys) (sym (append_assoc before (i ∷ []) is)) g))
+inputs_push : (replays : List Replay) (before is : List SessionInput) (x : SessionInput) (xs ys : List StoreAccess) → AreInputsRead replays before is xs → IsInputRead replays (before ++ is) x ys → AreInputsRead replays before (is ++ x ∷ []) (xs ++ ys)
+inputs_push replays before [] x xs ys h g = then_last (IsInputRead replays before x) xs ys h (subst (λ (b : List SessionInput). IsInputRead replays b x ys) (append-nil before) g)
+inputs_push replays before (i ∷ is) x xs ys h g =
+    then_more (IsInputRead replays before i) (AreInputsRead replays (before ++ i ∷ []) is) (AreInputsRead replays (before ++ i ∷ []) (is ++ x ∷ [])) xs ys h
+    (inputs_push replays (before ++ i ∷ []) is x h.rest ys h.goes_on (subst (λ (b : List SessionInput). IsInputRead replays b x ys) (sym (append_assoc before (i ∷ []) is)) g))
 
 -- one more of a list that is gone through
 pub images_more : {S : Type 0} (does : S → StoreAccess → S → Type 0) (names : List (String Global)) (i : ℕ) (name : String Global) (ds all : List Disk) (d : Disk) (s m t : S) → i < length names
@@ -114,11 +133,11 @@ images_more does names i name ds all d s m t within is pushed h g =
     (subst (λ (ns : List (String Global)). LogLeadsBy does (AreImagesRead ns (ds ++ d ∷ [])) s t) (sym more)
     (h.0 ++ g.0, images_push (take i names) ds name d h.0 g.0 h.1 g.1, ran_more does h.0 g.0 s m t h.2 g.2))
 
-pub sessions_read : {S : Type 0} (does : S → StoreAccess → S → Type 0) (is all : List Input) (x : Input) (s m t : S) → all ≡ is ++ x ∷ [] → LogLeadsBy does (AreInputsRead [] (map given is)) s m
-    → LogLeadsBy does (IsInputRead (map given is) (given x)) m t → LogLeadsBy does (AreInputsRead [] (map given all)) s t
-sessions_read does is all x s m t pushed h g =
-    subst (λ (ys : List SessionInput). LogLeadsBy does (AreInputsRead [] ys) s t) (sym (ap (map given) pushed ∙ map-append given is (x ∷ [])))
-    (h.0 ++ g.0, inputs_push [] (map given is) (given x) h.0 g.0 h.1 g.1, ran_more does h.0 g.0 s m t h.2 g.2)
+pub sessions_read : {S : Type 0} (does : S → StoreAccess → S → Type 0) (replays : List Replay) (is all : List Input) (x : Input) (s m t : S) → all ≡ is ++ x ∷ [] → LogLeadsBy does (AreInputsRead replays [] (map given is)) s m
+    → LogLeadsBy does (IsInputRead replays (map given is) (given x)) m t → LogLeadsBy does (AreInputsRead replays [] (map given all)) s t
+sessions_read does replays is all x s m t pushed h g =
+    subst (λ (ys : List SessionInput). LogLeadsBy does (AreInputsRead replays [] ys) s t) (sym (ap (map given) pushed ∙ map-append given is (x ∷ [])))
+    (h.0 ++ g.0, inputs_push replays [] (map given is) (given x) h.0 g.0 h.1 g.1, ran_more does h.0 g.0 s m t h.2 g.2)
 
 -- ---- a store that was only read
 

@@ -1,7 +1,8 @@
 -- Reads up to the first fault.
-use Rattle.std.proofs.Common.{◌≡◌, ◌∙◌, ◌⊎◌, ⊎_elim, inl, inr, ℕ, List, [], ◌∷◌, ◌++◌, Option, Some, None, String, append_assoc, append-nil, refl, length, get_or, take, drop, suc, map, ◌<◌, ap, sym, subst}
+use Rattle.std.proofs.Common.{◌≡◌, ◌∙◌, ◌⊎◌, ⊎_elim, inl, inr, ℕ, List, [], ◌∷◌, ◌++◌, String, append_assoc, append-nil, refl, length, get_or, take, drop, suc, map, ◌<◌, ap, sym, subst}
 use Rattle.std.proofs.Math.Seq.{split_at}
 use Rattle.std.proofs.lemmas.List.{map-append}
+use Rattle.std.specs.Borrow.{Bor}
 use Rattle.std.specs.Prelude.{string_bytes}
 use Rattle.std.specs.declared.alloc.Global.{Global}
 use Rattle.cpm_config.specs.declared.config.Config.{Config}
@@ -15,7 +16,11 @@ use Rattle.cpm_store.specs.Log.{StoreAccess, AreNoWrites, Missed, LogLeadsBy, Th
 use Rattle.cpm_store.proofs.LogLemmas.{no_writes_more, ran_more, ran_one}
 use Rattle.cpm_batch.specs.declared.error.ReadError.{ReadError}
 use Rattle.cpm_batch.specs.declared.error.ReadError.TheVariants.{File, OutOfMemory}
-use Rattle.cpm_batch.specs.Inputs.{ForkedScriptIn, ImageIn, IsMissed, Need, ScriptIn, SessionInput, image_needs, known_before, needed_name, needs_of, script_needs, forked_script_needs}
+use Rattle.cpm_batch.specs.Inputs.{ForkedScriptIn, ImageIn, IsMissed, Need, RecordingIn, ScriptIn, SessionInput, forked_key_needs, image_needs, key_needs, known_of, needed_name, needs_of}
+use Rattle.cpm_batch.specs.Sources.{NoSource, RecordingFile, ScriptFile, SourceOfKeys, key_source, source_view}
+use Rattle.cpm_batch.specs.declared.source.KeySource.{KeySource}
+use Rattle.cpm_batch.specs.declared.source.KeySource.TheVariants as source
+use Rattle.cpm_batch.specs.declared.source.Replay.{Replay}
 use Rattle.cpm_batch.specs.Reads.{AreImagesRead, AreInputsRead, IsFaultRead, IsForkedSaidRead, IsImageRead, IsInputRead, IsInputReadOf, IsNeedRead, IsSaidRead, StopsAmongNeeds, StopsAmongSessions, StopsAtFault, StopsAtSession, StopsReading}
 use Rattle.cpm_batch.proofs.ReadLemmas.{then_more}
 
@@ -39,6 +44,7 @@ need_unwritten : (n : Need) (log : List StoreAccess) → IsNeedRead n log → Ar
 need_unwritten (ImageIn name) log h = subst AreNoWrites (sym h.1.calls) (tt, tt)
 need_unwritten (ScriptIn name) log h = subst AreNoWrites (sym h.1.calls) (tt, tt)
 need_unwritten (ForkedScriptIn name at before) log h = subst AreNoWrites (sym h.1.calls) (tt, tt)
+need_unwritten (RecordingIn name at) log h = subst AreNoWrites (sym h.1.calls) (tt, tt)
 
 needs_unwritten : (ns : List Need) (log : List StoreAccess) → AreNeedsRead ns log → AreNoWrites log
 needs_unwritten [] log h = subst AreNoWrites (sym h) tt
@@ -59,41 +65,43 @@ images_need [] (d ∷ ds) log h = absurd h
 images_need (name ∷ names) [] log h = absurd h
 images_need (name ∷ names) (d ∷ ds) log h = record { first = h.first; rest = h.rest; order = h.order; begins = (d, h.begins); goes_on = images_need names ds h.rest h.goes_on }
 
-said_need : (name : Option (String Global)) (said : List CueText) (log : List StoreAccess) → IsSaidRead name said log → AreNeedsRead (script_needs name) log
-said_need None said log h = h.1
-said_need (Some name) said log h = one_need (ScriptIn (string_bytes name)) log (said, h)
+said_need : (keys : SourceOfKeys) (said : List CueText) (log : List StoreAccess) → IsSaidRead keys said log → AreNeedsRead (key_needs keys) log
+said_need NoSource said log h = h.1
+said_need (ScriptFile name) said log h = one_need (ScriptIn name) log (said, h)
+said_need (RecordingFile name) said log h = one_need (RecordingIn name 0) log (said, h)
 
-forked_said_need : (name : Option (String Global)) (at before : ℕ) (said : List CueText) (log : List StoreAccess) → IsForkedSaidRead name at before said log → AreNeedsRead (forked_script_needs at before name) log
-forked_said_need None at before said log h = h.1
-forked_said_need (Some name) at before said log h = one_need (ForkedScriptIn (string_bytes name) at before) log (said, h)
+forked_said_need : (keys : SourceOfKeys) (at before : ℕ) (said : List CueText) (log : List StoreAccess) → IsForkedSaidRead keys at before said log → AreNeedsRead (forked_key_needs at before keys) log
+forked_said_need NoSource at before said log h = h.1
+forked_said_need (ScriptFile name) at before said log h = one_need (ForkedScriptIn name at before) log (said, h)
+forked_said_need (RecordingFile name) at before said log h = one_need (RecordingIn name at) log (said, h)
 
 -- ---- sessions, each behind those before it
 
-input_unwritten : (before : List SessionInput) (o : Origin) (i : SessionInput) (log : List StoreAccess) → IsInputReadOf before o i log → AreNoWrites log
-input_unwritten before (origin.Opened cpu quota names) i log h =
-    needs_unwritten (image_needs names.items ++ script_needs i.session.keys) log
-    (subst (AreNeedsRead (image_needs names.items ++ script_needs i.session.keys)) (sym h.calls.order)
-    (needs_read_append (image_needs names.items) (script_needs i.session.keys) h.calls.first h.calls.rest (images_need names.items h.drives h.calls.first h.calls.begins)
-    (said_need i.session.keys i.said h.calls.rest h.calls.goes_on)))
-input_unwritten before (origin.Forked parent at) i log h =
-    needs_unwritten (forked_script_needs at (known_before at h.parent.said) i.session.keys) log (forked_said_need i.session.keys at (known_before at h.parent.said) i.said log h.calls)
+input_unwritten : (replays : List Replay) (before : List SessionInput) (o : Origin) (i : SessionInput) (log : List StoreAccess) → IsInputReadOf replays before o i log → AreNoWrites log
+input_unwritten replays before (origin.Opened cpu quota names) i log h =
+    needs_unwritten (image_needs names.items ++ key_needs (key_source replays i.session)) log
+    (subst (AreNeedsRead (image_needs names.items ++ key_needs (key_source replays i.session))) (sym h.calls.order)
+    (needs_read_append (image_needs names.items) (key_needs (key_source replays i.session)) h.calls.first h.calls.rest (images_need names.items h.drives h.calls.first h.calls.begins)
+    (said_need (key_source replays i.session) i.said h.calls.rest h.calls.goes_on)))
+input_unwritten replays before (origin.Forked parent at) i log h =
+    needs_unwritten (forked_key_needs at (known_of replays at h.parent) (key_source replays i.session)) log (forked_said_need (key_source replays i.session) at (known_of replays at h.parent) i.said log h.calls)
 
-inputs_unwritten : (before is : List SessionInput) (log : List StoreAccess) → AreInputsRead before is log → AreNoWrites log
-inputs_unwritten before [] log h = subst AreNoWrites (sym h) tt
-inputs_unwritten before (i ∷ is) log h =
+inputs_unwritten : (replays : List Replay) (before is : List SessionInput) (log : List StoreAccess) → AreInputsRead replays before is log → AreNoWrites log
+inputs_unwritten replays before [] log h = subst AreNoWrites (sym h) tt
+inputs_unwritten replays before (i ∷ is) log h =
     subst AreNoWrites (sym h.order)
-    (no_writes_more h.first h.rest (input_unwritten before i.session.origin i h.first h.begins) (inputs_unwritten (before ++ i ∷ []) is h.rest h.goes_on))
+    (no_writes_more h.first h.rest (input_unwritten replays before i.session.origin i h.first h.begins) (inputs_unwritten replays (before ++ i ∷ []) is h.rest h.goes_on))
 
-inputs_behind : (before is : List SessionInput) (rest : List SessionConfig) (e : ReadError) (xs ys : List StoreAccess) → AreInputsRead before is xs → StopsAtSession (before ++ is) rest e ys
-    → StopsAtSession before (map (λ i. i.session) is ++ rest) e (xs ++ ys)
-inputs_behind before [] rest e xs ys h g =
-    subst (λ (zs : List StoreAccess). StopsAtSession before rest e (zs ++ ys)) (sym h) (subst (λ (b : List SessionInput). StopsAtSession b rest e ys) (append-nil before) g)
-inputs_behind before (i ∷ is) rest e xs ys h g =
+inputs_behind : (replays : List Replay) (before is : List SessionInput) (rest : List SessionConfig) (e : ReadError) (xs ys : List StoreAccess) → AreInputsRead replays before is xs → StopsAtSession replays (before ++ is) rest e ys
+    → StopsAtSession replays before (map (λ i. i.session) is ++ rest) e (xs ++ ys)
+inputs_behind replays before [] rest e xs ys h g =
+    subst (λ (zs : List StoreAccess). StopsAtSession replays before rest e (zs ++ ys)) (sym h) (subst (λ (b : List SessionInput). StopsAtSession replays b rest e ys) (append-nil before) g)
+inputs_behind replays before (i ∷ is) rest e xs ys h g =
     inr (
       i,
       refl,
-      then_more (IsInputRead before i) (AreInputsRead (before ++ i ∷ []) is) (StopsAtSession (before ++ i ∷ []) (map (λ i. i.session) is ++ rest) e) xs ys h
-          (inputs_behind (before ++ i ∷ []) is rest e h.rest ys h.goes_on (subst (λ (b : List SessionInput). StopsAtSession b rest e ys) (sym (append_assoc before (i ∷ []) is)) g)),
+      then_more (IsInputRead replays before i) (AreInputsRead replays (before ++ i ∷ []) is) (StopsAtSession replays (before ++ i ∷ []) (map (λ i. i.session) is ++ rest) e) xs ys h
+          (inputs_behind replays (before ++ i ∷ []) is rest e h.rest ys h.goes_on (subst (λ (b : List SessionInput). StopsAtSession replays b rest e ys) (sym (append_assoc before (i ∷ []) is)) g)),
     )
 
 -- a call that fails is a fault's read, where the error says so
@@ -144,31 +152,31 @@ module _ {S : Type 0} (does : S → StoreAccess → S → Type 0) where
       (behind_images (take i names) ds (image_needs (name ∷ drop (suc i) names)) e s m t done
       (stopped_front (ImageIn (string_bytes name) ∷ []) (image_needs (drop (suc i) names)) e m t h))
 
-  pub session_stopped : (sessions : List SessionConfig) (i : ℕ) (x : SessionConfig) (is : List SessionInput) (e : ReadError) (s m t : S) → i < length sessions → x ≡ get_or sessions i x
-      → map (λ y. y.session) is ≡ take i sessions → LogLeadsBy does (AreInputsRead [] is) s m → LogLeadsBy does (StopsAmongNeeds (needs_of is x) e) m t → LogLeadsBy does (StopsAmongSessions [] sessions e) s t
-  session_stopped sessions i x is e s m t within at same done h =
+  pub session_stopped : (replays : List Replay) (sessions : List SessionConfig) (i : ℕ) (x : SessionConfig) (is : List SessionInput) (e : ReadError) (s m t : S) → i < length sessions → x ≡ get_or sessions i x
+      → map (λ y. y.session) is ≡ take i sessions → LogLeadsBy does (AreInputsRead replays [] is) s m → LogLeadsBy does (StopsAmongNeeds (needs_of replays is x) e) m t → LogLeadsBy does (StopsAmongSessions replays [] sessions e) s t
+  session_stopped replays sessions i x is e s m t within at same done h =
       let parts : sessions ≡ take i sessions ++ x ∷ drop (suc i) sessions = split_at sessions i x within ∙ ap (λ y. take i sessions ++ y ∷ drop (suc i) sessions) (sym at) in
       let all : map (λ y. y.session) is ++ x ∷ drop (suc i) sessions ≡ sessions = ap (λ ss. ss ++ x ∷ drop (suc i) sessions) same ∙ sym parts in
-      subst (λ (ss : List SessionConfig). LogLeadsBy does (StopsAmongSessions [] ss e) s t) all (
+      subst (λ (ss : List SessionConfig). LogLeadsBy does (StopsAmongSessions replays [] ss e) s t) all (
         done.0 ++ h.0,
-        ⊎_elim (λ no. inl (no.0, no_writes_more done.0 h.0 (inputs_unwritten [] is done.0 done.1) no.1))
-            (λ f. inr (inputs_behind [] is (x ∷ drop (suc i) sessions) e done.0 h.0 done.1 (inl f))) h.1,
+        ⊎_elim (λ no. inl (no.0, no_writes_more done.0 h.0 (inputs_unwritten replays [] is done.0 done.1) no.1))
+            (λ f. inr (inputs_behind replays [] is (x ∷ drop (suc i) sessions) e done.0 h.0 done.1 (inl f))) h.1,
         ran_more does done.0 h.0 s m t done.2 h.2,
       )
 
   -- memory was refused
-  pub sessions_memory : (sessions : List SessionConfig) (s t : S) → LogLeadsBy does AreNoWrites s t → LogLeadsBy does (StopsAmongSessions [] sessions OutOfMemory) s t
-  sessions_memory sessions s t h = (h.0, inl (refl, h.1), h.2)
+  pub sessions_memory : (replays : List Replay) (sessions : List SessionConfig) (s t : S) → LogLeadsBy does AreNoWrites s t → LogLeadsBy does (StopsAmongSessions replays [] sessions OutOfMemory) s t
+  sessions_memory replays sessions s t h = (h.0, inl (refl, h.1), h.2)
 
   -- ---- a configuration
 
-  pub system_stopped : (config : Config) (e : ReadError) (s t : S) → LogLeadsBy does (StopsAmongNeeds (ImageIn (string_bytes config.system) ∷ []) e) s t → LogLeadsBy does (StopsReading config e) s t
-  system_stopped config e s t h = (h.0, ⊎_elim (λ m. inl m) (λ f. inr (⊎_elim (λ x. inl x) (λ m. absurd m.goes_on) f)) h.1, h.2)
+  pub system_stopped : (replays : List Replay) (config : Config) (e : ReadError) (s t : S) → LogLeadsBy does (StopsAmongNeeds (ImageIn (string_bytes config.system) ∷ []) e) s t → LogLeadsBy does (StopsReading config replays e) s t
+  system_stopped replays config e s t h = (h.0, ⊎_elim (λ m. inl m) (λ f. inr (⊎_elim (λ x. inl x) (λ m. absurd m.goes_on) f)) h.1, h.2)
 
-  pub sessions_stopped : (config : Config) (sessions : List SessionConfig) (d : Disk) (e : ReadError) (s m t : S) → sessions ≡ config.sessions.items
-      → LogLeadsBy does (IsImageRead (string_bytes config.system) d) s m → LogLeadsBy does (StopsAmongSessions [] sessions e) m t → LogLeadsBy does (StopsReading config e) s t
-  sessions_stopped config sessions d e s m t is system h =
-      let g = subst (λ (ss : List SessionConfig). LogLeadsBy does (StopsAmongSessions [] ss e) m t) is h in (
+  pub sessions_stopped : (replays : List Replay) (config : Config) (sessions : List SessionConfig) (d : Disk) (e : ReadError) (s m t : S) → sessions ≡ config.sessions.items
+      → LogLeadsBy does (IsImageRead (string_bytes config.system) d) s m → LogLeadsBy does (StopsAmongSessions replays [] sessions e) m t → LogLeadsBy does (StopsReading config replays e) s t
+  sessions_stopped replays config sessions d e s m t is system h =
+      let g = subst (λ (ss : List SessionConfig). LogLeadsBy does (StopsAmongSessions replays [] ss e) m t) is h in (
         system.0 ++ g.0,
         ⊎_elim (λ no. inl (no.0, no_writes_more system.0 g.0 (need_unwritten (ImageIn (string_bytes config.system)) system.0 (d, system.1)) no.1))
             (λ f. inr (inr (record { first = system.0; rest = g.0; order = refl; begins = (d, system.1); goes_on = f }))) g.1,
@@ -182,13 +190,20 @@ module _ {S : Type 0} (does : S → StoreAccess → S → Type 0) where
   pub image_stopped_as : (name text : StoreName) (e : ReadError) (s t : S) → text ≡ name → LogLeadsBy does (StopsAmongNeeds (ImageIn text ∷ []) e) s t → LogLeadsBy does (StopsAmongNeeds (ImageIn name ∷ []) e) s t
   image_stopped_as name text e s t is h = subst (λ (n : StoreName). LogLeadsBy does (StopsAmongNeeds (ImageIn n ∷ []) e) s t) is h
 
-  pub said_stopped : (script : Option (String Global)) (name : String Global) (text : StoreName) (e : ReadError) (s t : S) → script ≡ Some name → text ≡ string_bytes name
-      → LogLeadsBy does (StopsAmongNeeds (ScriptIn text ∷ []) e) s t → LogLeadsBy does (StopsAmongNeeds (script_needs script) e) s t
-  said_stopped script name text e s t is named h =
-      subst (λ (o : Option (String Global)). LogLeadsBy does (StopsAmongNeeds (script_needs o) e) s t) (sym is) (subst (λ (n : StoreName). LogLeadsBy does (StopsAmongNeeds (ScriptIn n ∷ []) e) s t) named h)
+  pub said_stopped : (keys : SourceOfKeys) (code : KeySource) (name : Bor (List ℕ)) (e : ReadError) (s t : S) → source_view code ≡ keys → code ≡ source.Script name
+      → LogLeadsBy does (StopsAmongNeeds (ScriptIn name.now ∷ []) e) s t → LogLeadsBy does (StopsAmongNeeds (key_needs keys) e) s t
+  said_stopped keys code name e s t seen is h = subst (λ (k : SourceOfKeys). LogLeadsBy does (StopsAmongNeeds (key_needs k) e) s t) (sym (ap source_view is) ∙ seen) h
 
-  pub forked_said_stopped : (script : Option (String Global)) (name : String Global) (text : StoreName) (at before : ℕ) (e : ReadError) (s t : S) → script ≡ Some name → text ≡ string_bytes name
-      → LogLeadsBy does (StopsAmongNeeds (ForkedScriptIn text at before ∷ []) e) s t → LogLeadsBy does (StopsAmongNeeds (forked_script_needs at before script) e) s t
-  forked_said_stopped script name text at before e s t is named h =
-      subst (λ (o : Option (String Global)). LogLeadsBy does (StopsAmongNeeds (forked_script_needs at before o) e) s t) (sym is)
-      (subst (λ (n : StoreName). LogLeadsBy does (StopsAmongNeeds (ForkedScriptIn n at before ∷ []) e) s t) named h)
+  pub recorded_stopped : (keys : SourceOfKeys) (code : KeySource) (name : Bor (List ℕ)) (e : ReadError) (s t : S) → source_view code ≡ keys → code ≡ source.Recording name
+      → LogLeadsBy does (StopsAmongNeeds (RecordingIn name.now 0 ∷ []) e) s t → LogLeadsBy does (StopsAmongNeeds (key_needs keys) e) s t
+  recorded_stopped keys code name e s t seen is h = subst (λ (k : SourceOfKeys). LogLeadsBy does (StopsAmongNeeds (key_needs k) e) s t) (sym (ap source_view is) ∙ seen) h
+
+  pub forked_said_stopped : (keys : SourceOfKeys) (code : KeySource) (name : Bor (List ℕ)) (at before : ℕ) (e : ReadError) (s t : S) → source_view code ≡ keys → code ≡ source.Script name
+      → LogLeadsBy does (StopsAmongNeeds (ForkedScriptIn name.now at before ∷ []) e) s t → LogLeadsBy does (StopsAmongNeeds (forked_key_needs at before keys) e) s t
+  forked_said_stopped keys code name at before e s t seen is h =
+      subst (λ (k : SourceOfKeys). LogLeadsBy does (StopsAmongNeeds (forked_key_needs at before k) e) s t) (sym (ap source_view is) ∙ seen) h
+
+  pub forked_recorded_stopped : (keys : SourceOfKeys) (code : KeySource) (name : Bor (List ℕ)) (at before : ℕ) (e : ReadError) (s t : S) → source_view code ≡ keys → code ≡ source.Recording name
+      → LogLeadsBy does (StopsAmongNeeds (RecordingIn name.now at ∷ []) e) s t → LogLeadsBy does (StopsAmongNeeds (forked_key_needs at before keys) e) s t
+  forked_recorded_stopped keys code name at before e s t seen is h =
+      subst (λ (k : SourceOfKeys). LogLeadsBy does (StopsAmongNeeds (forked_key_needs at before k) e) s t) (sym (ap source_view is) ∙ seen) h

@@ -1,5 +1,5 @@
 -- What the sessions of a configuration need, and what is read for them. All of it is own.
-use Rattle.std.specs.Prelude.{⊤, ◌≡◌, ◌⊎◌, ℕ, List, [], ◌∷◌, ◌++◌, length, map, chars, slice_get}
+use Rattle.std.specs.Prelude.{⊤, ◌≡◌, ◌⊎◌, ℕ, is_some, if◌then◌else◌, List, [], ◌∷◌, ◌++◌, length, map, chars, slice_get}
 use Rattle.std.specs.Prelude.{Option, Some, None, option_and_then, option_map, Ok, Err, String, string_bytes}
 use Rattle.std.specs.Option.{option_map_or}
 use Rattle.std.specs.List.{concat}
@@ -25,6 +25,8 @@ use Rattle.cpm_batch.specs.declared.error.ReadError.TheVariants.{File, Image, Sc
 use Rattle.cpm_batch.specs.declared.input.Input.{Input}
 use Rattle.cpm_batch.specs.declared.input.Start.{Start}
 use Rattle.cpm_batch.specs.declared.input.Start.TheVariants as start
+use Rattle.cpm_batch.specs.declared.source.Replay.{Replay}
+use Rattle.cpm_batch.specs.Sources.{IsRecordingOf, NoSource, RecordingFile, ScriptFile, SourceOfKeys, key_source, recording_fault, replay_of}
 
 -- ---- what files hold, where the store tells it
 
@@ -52,6 +54,12 @@ pub record IsForkedScriptIn (files : Option StoreFiles) (name : StoreName) (at b
   pub found : Finds files name text
   pub read : forked_cues at before text ≡ Ok said
 
+-- the file has a recording that says this, all of it at this count or later
+pub record IsRecordingIn (files : Option StoreFiles) (name : StoreName) (at : ℕ) (said : List CueText) : Type 0 where
+  pub text : List ℕ
+  pub found : Finds files name text
+  pub read : IsRecordingOf at text said
+
 -- the file has so many bytes, which no image has
 pub record IsNoImageIn (files : Option StoreFiles) (name : StoreName) (count : ℕ) : Type 0 where
   pub bytes : List ℕ
@@ -71,6 +79,12 @@ pub record IsNoForkedScriptIn (files : Option StoreFiles) (name : StoreName) (at
   pub found : Finds files name text
   pub read : forked_cues at before text ≡ Err (line, fault)
 
+-- the same of a recording whose keys come at this count or later
+pub record IsNoRecordingIn (files : Option StoreFiles) (name : StoreName) (at line : ℕ) (fault : LineFault) : Type 0 where
+  pub text : List ℕ
+  pub found : Finds files name text
+  pub read : recording_fault at text ≡ Some (line, fault)
+
 -- ---- what is read for a session
 
 -- how a session begins: it is opened with images of its drives, A first, or forked from the session at an earlier place, at a count of its steps
@@ -85,7 +99,7 @@ start_view (start.Forked parent at) = Forks parent at
 pub record SessionInput : Type 0 where
   pub session : SessionConfig
   pub start : StartInput
-  -- what its own script says
+  -- what its own script says, or the recording in place of that
   pub said : List CueText
 
 abbrev pub given : Input → SessionInput
@@ -102,6 +116,10 @@ timed_keys (Pressed byte ∷ cs) = None
 abbrev pub known_before : ℕ → List CueText → ℕ
 known_before at said = option_map_or (λ keys. length (keys_before at keys)) (timed_keys said) 0
 
+-- how many keys a session is known to have before a count; those of a recording aren't counted, which may have any number
+abbrev pub known_of : List Replay → ℕ → SessionInput → ℕ
+known_of replays at i = if is_some (replay_of replays (string_bytes i.session.name)) then 0 else known_before at i.said
+
 -- ---- for one that is opened
 
 -- the disks are the images in these files, in order
@@ -111,16 +129,18 @@ AllImages files (name ∷ names) (d ∷ ds) = IsImageIn files (string_bytes name
 AllImages files [] (d ∷ ds) = ⊥
 AllImages files (name ∷ names) [] = ⊥
 
--- this is said by the script, if there is one
-abbrev pub HasSaid : Option StoreFiles → Option (String Global) → List CueText → Type 0
-HasSaid files None said = said ≡ []
-HasSaid files (Some name) said = IsScriptIn files (string_bytes name) said
+-- this is said by the script, or by the recording in place of it, if there is one
+abbrev pub HasSaid : Option StoreFiles → SourceOfKeys → List CueText → Type 0
+HasSaid files NoSource said = said ≡ []
+HasSaid files (ScriptFile name) said = IsScriptIn files name said
+HasSaid files (RecordingFile name) said = IsRecordingIn files name 0 said
 
-pub record IsOpenedInput (files : Option StoreFiles) (cpu : Cpu) (quota : ℕ) (names : List (String Global)) (i : SessionInput) : Type 0 where
+pub record IsOpenedInput (files : Option StoreFiles) (replays : List Replay) (cpu : Cpu) (quota : ℕ) (names : List (String Global)) (i : SessionInput)
+    : Type 0 where
   pub drives : List Disk
   pub start : i.start ≡ Opens cpu quota drives
   pub images : AllImages files names drives
-  pub said : HasSaid files i.session.keys i.said
+  pub said : HasSaid files (key_source replays i.session) i.said
 
 -- ---- for one that is forked, after what was read for the sessions before it
 
@@ -138,75 +158,81 @@ pub record IsParent (before : List SessionInput) (name : StoreName) (place : ℕ
   pub there : slice_get before place ≡ Some parent
   pub opened : IsOpened parent.start
 
--- this is said by its own script, if there is one, after so many keys before the fork
-abbrev pub HasForkedSaid : Option StoreFiles → Option (String Global) → (at before : ℕ) → List CueText → Type 0
-HasForkedSaid files None at before said = said ≡ []
-HasForkedSaid files (Some name) at before said = IsForkedScriptIn files (string_bytes name) at before said
+-- this is said by its own script, if there is one, after so many keys before the fork; or by the recording in place of it, whatever came before
+abbrev pub HasForkedSaid : Option StoreFiles → SourceOfKeys → (at before : ℕ) → List CueText → Type 0
+HasForkedSaid files NoSource at before said = said ≡ []
+HasForkedSaid files (ScriptFile name) at before said = IsForkedScriptIn files name at before said
+HasForkedSaid files (RecordingFile name) at before said = IsRecordingIn files name at said
 
-pub record IsForkedInput (files : Option StoreFiles) (before : List SessionInput) (name : StoreName) (at : ℕ) (i : SessionInput) : Type 0 where
+pub record IsForkedInput (files : Option StoreFiles) (replays : List Replay) (before : List SessionInput) (name : StoreName) (at : ℕ) (i : SessionInput)
+    : Type 0 where
   pub place : ℕ
   pub parent : SessionInput
   pub found : IsParent before name place parent
   pub start : i.start ≡ Forks place at
-  pub said : HasForkedSaid files i.session.keys at (known_before at parent.said) i.said
+  pub said : HasForkedSaid files (key_source replays i.session) at (known_of replays at parent) i.said
 
 -- ---- for each
 
 -- for a session that begins so
-abbrev pub HasInputOf : Option StoreFiles → (before : List SessionInput) → Origin → SessionInput → Type 0
-HasInputOf files before (origin.Opened cpu quota drives) i = IsOpenedInput files cpu quota drives.items i
-HasInputOf files before (origin.Forked parent at) i = IsForkedInput files before (string_bytes parent) at i
+abbrev pub HasInputOf : Option StoreFiles → List Replay → (before : List SessionInput) → Origin → SessionInput → Type 0
+HasInputOf files replays before (origin.Opened cpu quota drives) i = IsOpenedInput files replays cpu quota drives.items i
+HasInputOf files replays before (origin.Forked parent at) i = IsForkedInput files replays before (string_bytes parent) at i
 
-abbrev pub HasInput : Option StoreFiles → (before : List SessionInput) → SessionInput → Type 0
-HasInput files before i = HasInputOf files before i.session.origin i
+abbrev pub HasInput : Option StoreFiles → List Replay → (before : List SessionInput) → SessionInput → Type 0
+HasInput files replays before i = HasInputOf files replays before i.session.origin i
 
 -- for each session in order, after what was read for those before it
-abbrev pub AllInputs : Option StoreFiles → (before is : List SessionInput) → Type 0
-AllInputs files before [] = ⊤
-AllInputs files before (i ∷ is) = HasInput files before i × AllInputs files (before ++ i ∷ []) is
+abbrev pub AllInputs : Option StoreFiles → List Replay → (before is : List SessionInput) → Type 0
+AllInputs files replays before [] = ⊤
+AllInputs files replays before (i ∷ is) = HasInput files replays before i × AllInputs files replays (before ++ i ∷ []) is
 
--- the system drive and the sessions of the configuration, in its order, with what the files hold
-pub record AreInputs (files : Option StoreFiles) (config : Config) (system : Disk) (inputs : List SessionInput) : Type 0 where
+-- the system drive and the sessions of the configuration, in its order, with what the files hold; some are played by recordings in place of their scripts
+pub record AreInputs (files : Option StoreFiles) (config : Config) (replays : List Replay) (system : Disk) (inputs : List SessionInput) : Type 0 where
   pub drive : IsImageIn files (string_bytes config.system) system
   pub sessions : map (λ i. i.session) inputs ≡ config.sessions.items
-  pub all : AllInputs files [] inputs
+  pub all : AllInputs files replays [] inputs
 
 -- ---- what a session needs, in the order in which it is read
 
--- a file that is to hold an image, or a key script; one of a session that is forked at a count of steps stands after so many keys that its parent had before
+-- a file that is to hold an image, or a key script; one of a session that is forked at a count of steps stands after so many keys that its parent had before;
+-- or a recording of keys that come at this count or later
 pub data Need : Type 0 where
   ImageIn : (name : StoreName) → Need
   ScriptIn : (name : StoreName) → Need
   ForkedScriptIn : (name : StoreName) (at before : ℕ) → Need
+  RecordingIn : (name : StoreName) (at : ℕ) → Need
 
 abbrev pub image_needs : List (String Global) → List Need
 image_needs names = map (λ name. ImageIn (string_bytes name)) names
 
-abbrev pub script_needs : Option (String Global) → List Need
-script_needs None = []
-script_needs (Some name) = ScriptIn (string_bytes name) ∷ []
+abbrev pub key_needs : SourceOfKeys → List Need
+key_needs NoSource = []
+key_needs (ScriptFile name) = ScriptIn name ∷ []
+key_needs (RecordingFile name) = RecordingIn name 0 ∷ []
 
-abbrev pub forked_script_needs : (at before : ℕ) → Option (String Global) → List Need
-forked_script_needs at before None = []
-forked_script_needs at before (Some name) = ForkedScriptIn (string_bytes name) at before ∷ []
+abbrev pub forked_key_needs : (at before : ℕ) → SourceOfKeys → List Need
+forked_key_needs at before NoSource = []
+forked_key_needs at before (ScriptFile name) = ForkedScriptIn name at before ∷ []
+forked_key_needs at before (RecordingFile name) = RecordingIn name at ∷ []
 
--- what the script says that was read for a session, if it was
-abbrev pub said_if_any : Option SessionInput → List CueText
-said_if_any None = []
-said_if_any (Some i) = i.said
+-- how many keys are known before a count of a session, if it was read
+abbrev pub known_if_any : List Replay → ℕ → Option SessionInput → ℕ
+known_if_any replays at None = 0
+known_if_any replays at (Some i) = known_of replays at i
 
--- that of the first session of this name
-abbrev pub said_of_session : List SessionInput → StoreName → List CueText
-said_of_session before name = said_if_any (option_and_then (slice_get before) (session_place before name))
+-- of the first session of this name
+abbrev pub known_in : List Replay → ℕ → List SessionInput → StoreName → ℕ
+known_in replays at before name = known_if_any replays at (option_and_then (slice_get before) (session_place before name))
 
--- of a session with this script that begins so
-abbrev pub needs_from : (before : List SessionInput) → Option (String Global) → Origin → List Need
-needs_from before keys (origin.Opened cpu quota drives) = image_needs drives.items ++ script_needs keys
-needs_from before keys (origin.Forked parent at) = forked_script_needs at (known_before at (said_of_session before (string_bytes parent))) keys
+-- of a session with these keys that begins so
+abbrev pub needs_from : List Replay → (before : List SessionInput) → SourceOfKeys → Origin → List Need
+needs_from replays before keys (origin.Opened cpu quota drives) = image_needs drives.items ++ key_needs keys
+needs_from replays before keys (origin.Forked parent at) = forked_key_needs at (known_in replays at before (string_bytes parent)) keys
 
 -- of a session, after what was read for those before it
-abbrev pub needs_of : (before : List SessionInput) → SessionConfig → List Need
-needs_of before s = needs_from before s.keys s.origin
+abbrev pub needs_of : List Replay → (before : List SessionInput) → SessionConfig → List Need
+needs_of replays before s = needs_from replays before (key_source replays s) s.origin
 
 -- ---- the first fault
 
@@ -215,12 +241,14 @@ abbrev pub IsMet : Option StoreFiles → Need → Type 0
 IsMet files (ImageIn name) = (d : Disk) × IsImageIn files name d
 IsMet files (ScriptIn name) = (said : List CueText) × IsScriptIn files name said
 IsMet files (ForkedScriptIn name at before) = (said : List CueText) × IsForkedScriptIn files name at before said
+IsMet files (RecordingIn name at) = (said : List CueText) × IsRecordingIn files name at said
 
 -- the name of the file
 abbrev pub needed_name : Need → StoreName
 needed_name (ImageIn name) = name
 needed_name (ScriptIn name) = name
 needed_name (ForkedScriptIn name at before) = name
+needed_name (RecordingIn name at) = name
 
 -- the file of this name couldn't be read, as the error says with the name as it is shown
 abbrev pub IsMissed : StoreName → ReadError → Type 0
@@ -234,6 +262,7 @@ IsFault files (ImageIn name) (Image shown count) = (shown.bytes ≡ shown_of (ch
 IsFault files (ScriptIn name) (Script shown line fault) = (shown.bytes ≡ shown_of (chars name)) × IsNoScriptIn files name line fault
 IsFault files (ForkedScriptIn name at before) (Script shown line fault) =
     (shown.bytes ≡ shown_of (chars name)) × IsNoForkedScriptIn files name at before line fault
+IsFault files (RecordingIn name at) (Script shown line fault) = (shown.bytes ≡ shown_of (chars name)) × IsNoRecordingIn files name at line fault
 IsFault files need _ = ⊥
 
 -- the first of the needs that isn't met is refused so
@@ -242,26 +271,27 @@ IsFirstFault files [] e = ⊥
 IsFirstFault files (need ∷ needs) e = IsFault files need e ⊎ (IsMet files need × IsFirstFault files needs e)
 
 -- the first need that isn't met of sessions, after what was read for those before them, is refused so
-abbrev pub AreFirstFault : Option StoreFiles → (before : List SessionInput) → List SessionConfig → ReadError → Type 0
-AreFirstFault files before [] e = ⊥
-AreFirstFault files before (s ∷ ss) e =
-    IsFirstFault files (needs_of before s) e ⊎ ((i : SessionInput) × (i.session ≡ s) × HasInput files before i × AreFirstFault files (before ++ i ∷ []) ss e)
+abbrev pub AreFirstFault : Option StoreFiles → List Replay → (before : List SessionInput) → List SessionConfig → ReadError → Type 0
+AreFirstFault files replays before [] e = ⊥
+AreFirstFault files replays before (s ∷ ss) e =
+    IsFirstFault files (needs_of replays before s) e
+    ⊎ ((i : SessionInput) × (i.session ≡ s) × HasInput files replays before i × AreFirstFault files replays (before ++ i ∷ []) ss e)
 
 -- the first need of a configuration that isn't met is refused so: the image of the system drive, or what its sessions need
-abbrev pub IsInputFault : Option StoreFiles → Config → ReadError → Type 0
-IsInputFault files config e =
+abbrev pub IsInputFault : Option StoreFiles → Config → List Replay → ReadError → Type 0
+IsInputFault files config replays e =
     IsFault files (ImageIn (string_bytes config.system)) e
-    ⊎ (IsMet files (ImageIn (string_bytes config.system)) × AreFirstFault files [] config.sessions.items e)
+    ⊎ (IsMet files (ImageIn (string_bytes config.system)) × AreFirstFault files replays [] config.sessions.items e)
 
 -- how reading is refused: for the first fault, or if out of memory
 abbrev pub IsNeedRefusal : Option StoreFiles → List Need → ReadError → Type 0
 IsNeedRefusal files needs e = (e ≡ OutOfMemory) ⊎ IsFirstFault files needs e
 
-abbrev pub IsSessionRefusal : Option StoreFiles → (before : List SessionInput) → List SessionConfig → ReadError → Type 0
-IsSessionRefusal files before sessions e = (e ≡ OutOfMemory) ⊎ AreFirstFault files before sessions e
+abbrev pub IsSessionRefusal : Option StoreFiles → List Replay → (before : List SessionInput) → List SessionConfig → ReadError → Type 0
+IsSessionRefusal files replays before sessions e = (e ≡ OutOfMemory) ⊎ AreFirstFault files replays before sessions e
 
-abbrev pub IsReadRefusal : Option StoreFiles → Config → ReadError → Type 0
-IsReadRefusal files config e = (e ≡ OutOfMemory) ⊎ IsInputFault files config e
+abbrev pub IsReadRefusal : Option StoreFiles → Config → List Replay → ReadError → Type 0
+IsReadRefusal files config replays e = (e ≡ OutOfMemory) ⊎ IsInputFault files config replays e
 
 -- the code of each
 abbrev pub code_of_reading : ReadError → RefusalCode

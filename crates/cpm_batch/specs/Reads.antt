@@ -15,10 +15,12 @@ use Rattle.cpm_script.specs.Fork.{forked_cues}
 use Rattle.cpm_script.specs.declared.fault.LineFault.{LineFault}
 use Rattle.cpm_store.specs.Files.{CountsFailure, StoreFiles, StoreName}
 use Rattle.cpm_store.specs.Log.{StoreAccess, AreNoWrites, Gave, Missed, LogLeadsBy, Then}
-use Rattle.cpm_batch.specs.Inputs.{Forks, ForkedScriptIn, ImageIn, IsFileFault, IsImage, IsParent, Need, Opens, ScriptIn, SessionInput}
-use Rattle.cpm_batch.specs.Inputs.{known_before, needed_name, needs_of}
+use Rattle.cpm_batch.specs.Inputs.{Forks, ForkedScriptIn, ImageIn, IsFileFault, IsImage, IsParent, Need, Opens, RecordingIn, ScriptIn, SessionInput}
+use Rattle.cpm_batch.specs.Inputs.{known_of, needed_name, needs_of}
+use Rattle.cpm_batch.specs.Sources.{IsRecordingOf, NoSource, RecordingFile, ScriptFile, SourceOfKeys, key_source, recording_fault}
 use Rattle.cpm_batch.specs.declared.error.ReadError.{ReadError}
 use Rattle.cpm_batch.specs.declared.error.ReadError.TheVariants.{File, Image, Script, OutOfMemory}
+use Rattle.cpm_batch.specs.declared.source.Replay.{Replay}
 
 -- one read, in which the file gave the image of the disk
 pub record IsImageRead (name : StoreName) (d : Disk) (log : List StoreAccess) : Type 0 where
@@ -39,6 +41,12 @@ pub record IsForkedScriptRead (name : StoreName) (at before : ℕ) (said : List 
   pub read : forked_cues at before text ≡ Ok said
   pub calls : log ≡ Gave name text ∷ []
 
+-- one read, in which the file gave a recording that says this, all of it at this count or later
+pub record IsRecordingRead (name : StoreName) (at : ℕ) (said : List CueText) (log : List StoreAccess) : Type 0 where
+  pub text : List ℕ
+  pub read : IsRecordingOf at text said
+  pub calls : log ≡ Gave name text ∷ []
+
 -- a read of each of these files in order, in which it gave the image of its disk
 abbrev pub AreImagesRead : List (String Global) → List Disk → List StoreAccess → Type 0
 AreImagesRead [] [] log = log ≡ []
@@ -46,47 +54,51 @@ AreImagesRead (name ∷ names) (d ∷ ds) log = Then (IsImageRead (string_bytes 
 AreImagesRead [] (d ∷ ds) log = ⊥
 AreImagesRead (name ∷ names) [] log = ⊥
 
--- a read of the script, if there is one, in which it said this
-abbrev pub IsSaidRead : Option (String Global) → List CueText → List StoreAccess → Type 0
-IsSaidRead None said log = (said ≡ []) × (log ≡ [])
-IsSaidRead (Some name) said log = IsScriptRead (string_bytes name) said log
+-- a read of the script, or of the recording in place of it, if there is one, in which it said this
+abbrev pub IsSaidRead : SourceOfKeys → List CueText → List StoreAccess → Type 0
+IsSaidRead NoSource said log = (said ≡ []) × (log ≡ [])
+IsSaidRead (ScriptFile name) said log = IsScriptRead name said log
+IsSaidRead (RecordingFile name) said log = IsRecordingRead name 0 said log
 
--- a read of the script of a forked session, if there is one, in which it said this after so many keys before the fork
-abbrev pub IsForkedSaidRead : Option (String Global) → (at before : ℕ) → List CueText → List StoreAccess → Type 0
-IsForkedSaidRead None at before said log = (said ≡ []) × (log ≡ [])
-IsForkedSaidRead (Some name) at before said log = IsForkedScriptRead (string_bytes name) at before said log
+-- a read of the script of a forked session, if there is one, in which it said this after so many keys before the fork; or of the recording in place of it
+abbrev pub IsForkedSaidRead : SourceOfKeys → (at before : ℕ) → List CueText → List StoreAccess → Type 0
+IsForkedSaidRead NoSource at before said log = (said ≡ []) × (log ≡ [])
+IsForkedSaidRead (ScriptFile name) at before said log = IsForkedScriptRead name at before said log
+IsForkedSaidRead (RecordingFile name) at before said log = IsRecordingRead name at said log
 
--- the reads of a session that is opened: its drives, then its script
-pub record IsOpenedRead (cpu : Cpu) (quota : ℕ) (names : List (String Global)) (i : SessionInput) (log : List StoreAccess) : Type 0 where
+-- the reads of a session that is opened: its drives, then its script, or the recording in place of that
+pub record IsOpenedRead (replays : List Replay) (cpu : Cpu) (quota : ℕ) (names : List (String Global)) (i : SessionInput) (log : List StoreAccess)
+    : Type 0 where
   pub drives : List Disk
   pub start : i.start ≡ Opens cpu quota drives
-  pub calls : Then (AreImagesRead names drives) (IsSaidRead i.session.keys i.said) log
+  pub calls : Then (AreImagesRead names drives) (IsSaidRead (key_source replays i.session) i.said) log
 
--- those of a session that is forked, after what was read for the sessions before it: its script
-pub record IsForkedRead (before : List SessionInput) (name : StoreName) (at : ℕ) (i : SessionInput) (log : List StoreAccess) : Type 0 where
+-- those of a session that is forked, after what was read for the sessions before it: its script, or the recording in place of that
+pub record IsForkedRead (replays : List Replay) (before : List SessionInput) (name : StoreName) (at : ℕ) (i : SessionInput) (log : List StoreAccess)
+    : Type 0 where
   pub place : ℕ
   pub parent : SessionInput
   pub found : IsParent before name place parent
   pub start : i.start ≡ Forks place at
-  pub calls : IsForkedSaidRead i.session.keys at (known_before at parent.said) i.said log
+  pub calls : IsForkedSaidRead (key_source replays i.session) at (known_of replays at parent) i.said log
 
 -- those of a session that begins so
-abbrev pub IsInputReadOf : (before : List SessionInput) → Origin → SessionInput → List StoreAccess → Type 0
-IsInputReadOf before (origin.Opened cpu quota drives) i log = IsOpenedRead cpu quota drives.items i log
-IsInputReadOf before (origin.Forked parent at) i log = IsForkedRead before (string_bytes parent) at i log
+abbrev pub IsInputReadOf : List Replay → (before : List SessionInput) → Origin → SessionInput → List StoreAccess → Type 0
+IsInputReadOf replays before (origin.Opened cpu quota drives) i log = IsOpenedRead replays cpu quota drives.items i log
+IsInputReadOf replays before (origin.Forked parent at) i log = IsForkedRead replays before (string_bytes parent) at i log
 
-abbrev pub IsInputRead : (before : List SessionInput) → SessionInput → List StoreAccess → Type 0
-IsInputRead before i log = IsInputReadOf before i.session.origin i log
+abbrev pub IsInputRead : List Replay → (before : List SessionInput) → SessionInput → List StoreAccess → Type 0
+IsInputRead replays before i log = IsInputReadOf replays before i.session.origin i log
 
 -- those of each session in order, after what was read for those before them
-abbrev pub AreInputsRead : (before is : List SessionInput) → List StoreAccess → Type 0
-AreInputsRead before [] log = log ≡ []
-AreInputsRead before (i ∷ is) log = Then (IsInputRead before i) (AreInputsRead (before ++ i ∷ []) is) log
+abbrev pub AreInputsRead : List Replay → (before is : List SessionInput) → List StoreAccess → Type 0
+AreInputsRead replays before [] log = log ≡ []
+AreInputsRead replays before (i ∷ is) log = Then (IsInputRead replays before i) (AreInputsRead replays (before ++ i ∷ []) is) log
 
 -- those of a configuration: the system drive, then the sessions in its order
-pub record AreRead (config : Config) (system : Disk) (inputs : List SessionInput) (log : List StoreAccess) : Type 0 where
+pub record AreRead (config : Config) (replays : List Replay) (system : Disk) (inputs : List SessionInput) (log : List StoreAccess) : Type 0 where
   pub sessions : map (λ i. i.session) inputs ≡ config.sessions.items
-  pub calls : Then (IsImageRead (string_bytes config.system) system) (AreInputsRead [] inputs) log
+  pub calls : Then (IsImageRead (string_bytes config.system) system) (AreInputsRead replays [] inputs) log
 
 -- ---- where reading is given up
 
@@ -109,11 +121,18 @@ pub record IsNoForkedScriptRead (name : StoreName) (at before line : ℕ) (fault
   pub read : forked_cues at before text ≡ Err (line, fault)
   pub calls : log ≡ Gave name text ∷ []
 
+-- the same of a recording whose keys come at this count or later
+pub record IsNoRecordingRead (name : StoreName) (at line : ℕ) (fault : LineFault) (log : List StoreAccess) : Type 0 where
+  pub text : List ℕ
+  pub read : recording_fault at text ≡ Some (line, fault)
+  pub calls : log ≡ Gave name text ∷ []
+
 -- one read, in which the file held what is needed
 abbrev pub IsNeedRead : Need → List StoreAccess → Type 0
 IsNeedRead (ImageIn name) log = (d : Disk) × IsImageRead name d log
 IsNeedRead (ScriptIn name) log = (said : List CueText) × IsScriptRead name said log
 IsNeedRead (ForkedScriptIn name at before) log = (said : List CueText) × IsForkedScriptRead name at before said log
+IsNeedRead (RecordingIn name at) log = (said : List CueText) × IsRecordingRead name at said log
 
 -- one read, which failed, or in which the file didn't hold it, as the error says
 abbrev pub IsFaultRead : Need → ReadError → List StoreAccess → Type 0
@@ -122,6 +141,7 @@ IsFaultRead (ImageIn name) (Image shown count) log = (shown.bytes ≡ shown_of (
 IsFaultRead (ScriptIn name) (Script shown line fault) log = (shown.bytes ≡ shown_of (chars name)) × IsNoScriptRead name line fault log
 IsFaultRead (ForkedScriptIn name at before) (Script shown line fault) log =
     (shown.bytes ≡ shown_of (chars name)) × IsNoForkedScriptRead name at before line fault log
+IsFaultRead (RecordingIn name at) (Script shown line fault) log = (shown.bytes ≡ shown_of (chars name)) × IsNoRecordingRead name at line fault log
 IsFaultRead need _ log = ⊥
 
 -- a read of each of the needs in order, up to the first that isn't met, and none after it
@@ -130,27 +150,27 @@ StopsAtFault [] e log = ⊥
 StopsAtFault (need ∷ needs) e log = IsFaultRead need e log ⊎ Then (IsNeedRead need) (StopsAtFault needs e) log
 
 -- the reads of sessions in order, each after what was read for those before it, up to the first need that isn't met, and none after it
-abbrev pub StopsAtSession : (before : List SessionInput) → List SessionConfig → ReadError → List StoreAccess → Type 0
-StopsAtSession before [] e log = ⊥
-StopsAtSession before (s ∷ ss) e log =
-    StopsAtFault (needs_of before s) e log
-    ⊎ ((i : SessionInput) × (i.session ≡ s) × Then (IsInputRead before i) (StopsAtSession (before ++ i ∷ []) ss e) log)
+abbrev pub StopsAtSession : List Replay → (before : List SessionInput) → List SessionConfig → ReadError → List StoreAccess → Type 0
+StopsAtSession replays before [] e log = ⊥
+StopsAtSession replays before (s ∷ ss) e log =
+    StopsAtFault (needs_of replays before s) e log
+    ⊎ ((i : SessionInput) × (i.session ≡ s) × Then (IsInputRead replays before i) (StopsAtSession replays (before ++ i ∷ []) ss e) log)
 
 -- the reads of a configuration, the system drive and then its sessions, up to the first need that isn't met, and none after it
-abbrev pub StopsAtInput : Config → ReadError → List StoreAccess → Type 0
-StopsAtInput config e log =
+abbrev pub StopsAtInput : Config → List Replay → ReadError → List StoreAccess → Type 0
+StopsAtInput config replays e log =
     IsFaultRead (ImageIn (string_bytes config.system)) e log
-    ⊎ Then (IsNeedRead (ImageIn (string_bytes config.system))) (StopsAtSession [] config.sessions.items e) log
+    ⊎ Then (IsNeedRead (ImageIn (string_bytes config.system))) (StopsAtSession replays [] config.sessions.items e) log
 
 -- the calls of reading that is refused: if out of memory, none that writes; else those up to the first fault
 abbrev pub StopsAmongNeeds : List Need → ReadError → List StoreAccess → Type 0
 StopsAmongNeeds needs e log = ((e ≡ OutOfMemory) × AreNoWrites log) ⊎ StopsAtFault needs e log
 
-abbrev pub StopsAmongSessions : (before : List SessionInput) → List SessionConfig → ReadError → List StoreAccess → Type 0
-StopsAmongSessions before sessions e log = ((e ≡ OutOfMemory) × AreNoWrites log) ⊎ StopsAtSession before sessions e log
+abbrev pub StopsAmongSessions : List Replay → (before : List SessionInput) → List SessionConfig → ReadError → List StoreAccess → Type 0
+StopsAmongSessions replays before sessions e log = ((e ≡ OutOfMemory) × AreNoWrites log) ⊎ StopsAtSession replays before sessions e log
 
-abbrev pub StopsReading : Config → ReadError → List StoreAccess → Type 0
-StopsReading config e log = ((e ≡ OutOfMemory) × AreNoWrites log) ⊎ StopsAtInput config e log
+abbrev pub StopsReading : Config → List Replay → ReadError → List StoreAccess → Type 0
+StopsReading config replays e log = ((e ≡ OutOfMemory) × AreNoWrites log) ⊎ StopsAtInput config replays e log
 
 -- ---- what reading leaves of the store
 

@@ -4,12 +4,15 @@ ghost use Rattle.cpm_config.specs.Rules.{parent_in, session_view};
 ghost use Rattle.cpm_script.specs.Cues.{all_said, cue_text};
 ghost use Rattle.cpm_store.specs.Log.{LogLeadsBy};
 ghost use Rattle.cpm_batch.specs.Inputs.{AllInputs, ForkedScriptIn, HasForkedSaid, IsForkedInput, IsForkedScriptIn, IsNeedRefusal};
-ghost use Rattle.cpm_batch.specs.Inputs.{forked_script_needs, given, known_before, said_of_session, session_place};
+ghost use Rattle.cpm_batch.specs.Inputs.{forked_key_needs, given, known_before, known_in, known_of, session_place};
+ghost use Rattle.cpm_batch.specs.Sources.{key_source};
 ghost use Rattle.cpm_batch.specs.Reads.{IsForkedRead, IsForkedSaidRead, IsForkedScriptRead, OnlyRead, StopsAmongNeeds};
 ghost use Rattle.cpm_script.specs.Script.{most_keys};
 
 use crate::error::ReadError;
 use crate::input::{Input, Start, read_bytes};
+use crate::recording::read_replay;
+use crate::source::{KeySource, Replay, key_source, replay_of};
 use cpm_command_line::shown;
 use cpm_config::SessionConfig;
 use cpm_script::{Cue, ScriptError, read_forked_cues};
@@ -42,6 +45,16 @@ fn known_before(cues: &[Cue], at: u64) -> usize
     count
 }
 
+/// How many keys a session is known to have before a count; those of a recording aren't counted.
+fn known_of(input: &Input, replays: &[Replay<'_>], at: u64) -> usize
+    ensures { result ≡ known_of replays.now at (given input.now) }
+{
+    match replay_of(replays, input.session.name.as_str()) {
+        Some(_) => 0,
+        None => known_before(input.cues.as_slice(), at),
+    }
+}
+
 /// What the script in a file says for a session that is forked at a count of steps, after so many keys.
 fn read_forked_script<S: Store>(
     alloc: Global,
@@ -69,24 +82,30 @@ fn read_forked_script<S: Store>(
     }
 }
 
-/// What the script of a session says that is forked at a count of steps, after so many keys, if it has one.
+/// What the script of a session says that is forked at a count of steps, after so many keys, or the recording in place of it, if it has one.
 fn read_forked_cues_of<S: Store>(
     alloc: Global,
     store: &mut S,
-    name: &Option<String>,
+    session: &SessionConfig,
+    replays: &[Replay<'_>],
     at: u64,
     before: usize,
 ) -> Result<Vec<Cue>, ReadError>
     requires { before ≤ most_keys }
-    ensures cues { IfOk result (λ v. HasForkedSaid (S.files store.old) name.now at before (all_said v)) }
-    ensures log { IfOk result (λ v. LogLeadsBy S.does (IsForkedSaidRead name.now at before (all_said v)) store.old store.new) }
-    ensures refusal { IfErr result (IsNeedRefusal (S.files store.old) (forked_script_needs at before name.now)) }
-    ensures refused_log { IfErr result (λ e. LogLeadsBy S.does (StopsAmongNeeds (forked_script_needs at before name.now) e) store.old store.new) }
+    ensures cues { let keys = key_source replays.now session.now in
+        IfOk result (λ v. HasForkedSaid (S.files store.old) keys at before (all_said v)) }
+    ensures log { let keys = key_source replays.now session.now in
+        IfOk result (λ v. LogLeadsBy S.does (IsForkedSaidRead keys at before (all_said v)) store.old store.new) }
+    ensures refusal { let keys = key_source replays.now session.now in
+        IfErr result (IsNeedRefusal (S.files store.old) (forked_key_needs at before keys)) }
+    ensures refused_log { let needs = forked_key_needs at before (key_source replays.now session.now) in
+        IfErr result (λ e. LogLeadsBy S.does (StopsAmongNeeds needs e) store.old store.new) }
     ensures store { OnlyRead S.does S.files S.failed result store.old store.new }
 {
-    match name {
-        Some(name) => read_forked_script(alloc, store, name.as_str(), at, before),
-        None => Ok(Vec::new(alloc)),
+    match key_source(replays, session) {
+        KeySource::Script(name) => read_forked_script(alloc, store, name, at, before),
+        KeySource::Recording(name) => read_replay(alloc, store, name, at),
+        KeySource::Nothing => Ok(Vec::new(alloc)),
     }
 }
 
@@ -95,27 +114,29 @@ pub(crate) fn read_forked<'a, S: Store>(
     alloc: Global,
     store: &mut S,
     session: &'a SessionConfig,
+    replays: &[Replay<'_>],
     before: &[Input],
     name: &str,
     at: u64,
 ) -> Result<Input<'a>, ReadError>
-    requires before { AllInputs (S.files store.old) [] (map given before.now) }
+    requires before { AllInputs (S.files store.old) replays.now [] (map given before.now) }
     requires parent { is_some (parent_in (map (λ i. session_view i.session) (map given before.now)) name.now) ≡ true }
-    ensures input { IfOk result (λ i. IsForkedInput (S.files store.old) (map given before.now) name.now at (given i)) }
-    ensures log { IfOk result (λ i. LogLeadsBy S.does (IsForkedRead (map given before.now) name.now at (given i)) store.old store.new) }
+    ensures input { IfOk result (λ i. IsForkedInput (S.files store.old) replays.now (map given before.now) name.now at (given i)) }
+    ensures log { IfOk result (λ i. LogLeadsBy S.does (IsForkedRead replays.now (map given before.now) name.now at (given i)) store.old store.new) }
     ensures session { IfOk result (λ i. i.session.now ≡ session.entry.now) }
-    ensures refusal { let first = known_before at (said_of_session (map given before.now) name.now) in
-        IfErr result (IsNeedRefusal (S.files store.old) (forked_script_needs at first session.entry.now.keys)) }
-    ensures refused_log { let first = known_before at (said_of_session (map given before.now) name.now) in
-        let needs = forked_script_needs at first session.entry.now.keys in
+    ensures refusal { let first = known_in replays.now at (map given before.now) name.now in
+        let needs = forked_key_needs at first (key_source replays.now session.entry.now) in
+        IfErr result (IsNeedRefusal (S.files store.old) needs) }
+    ensures refused_log { let first = known_in replays.now at (map given before.now) name.now in
+        let needs = forked_key_needs at first (key_source replays.now session.entry.now) in
         IfErr result (λ e. LogLeadsBy S.does (StopsAmongNeeds needs e) store.old store.new) }
     ensures store { OnlyRead S.does S.files S.failed result store.old store.new }
 {
     let Some(parent) = session_place(before, name) else {
         unreachable!()
     };
-    let first = known_before(before[parent].cues.as_slice(), at);
-    let cues = read_forked_cues_of(alloc, store, &session.keys, at, first)?;
+    let first = known_of(&before[parent], replays, at);
+    let cues = read_forked_cues_of(alloc, store, session, replays, at, first)?;
     Ok(Input {
         session,
         start: Start::Forked { parent, at },

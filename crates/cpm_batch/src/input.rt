@@ -5,12 +5,15 @@ ghost use Rattle.cpm_script.specs.Cues.{all_said};
 ghost use Rattle.cpm_store.specs.Files.{Finds};
 ghost use Rattle.cpm_store.specs.Log.{Gave, Missed, LogLeadsBy};
 ghost use Rattle.cpm_batch.specs.Inputs.{AllImages, AllInputs, AreInputs, HasInput, HasSaid, ImageIn, IsImageIn, IsMissed, IsNeedRefusal};
-ghost use Rattle.cpm_batch.specs.Inputs.{IsOpenedInput, IsReadRefusal, IsScriptIn, IsSessionRefusal, ScriptIn, given, image_needs, needs_of, script_needs};
+ghost use Rattle.cpm_batch.specs.Inputs.{IsOpenedInput, IsReadRefusal, IsScriptIn, IsSessionRefusal, ScriptIn, given, image_needs, key_needs, needs_of};
 ghost use Rattle.cpm_batch.specs.Reads.{AreImagesRead, AreInputsRead, AreRead, IsImageRead, IsInputRead, IsOpenedRead};
+ghost use Rattle.cpm_batch.specs.Sources.{key_source};
 ghost use Rattle.cpm_batch.specs.Reads.{IsSaidRead, IsScriptRead, OnlyRead, StopsAmongNeeds, StopsAmongSessions, StopsReading};
 
 use crate::error::ReadError;
 use crate::forked::read_forked;
+use crate::recording::read_replay;
+use crate::source::{KeySource, Replay, key_source};
 use cpm_command_line::shown;
 use cpm_config::{Config, Origin, SessionConfig};
 use cpm_flags::Cpu;
@@ -41,7 +44,7 @@ pub enum Start {
 pub struct Input<'a> {
     pub session: &'a SessionConfig,
     pub start: Start,
-    /// What its own script says.
+    /// What its own script says, or the recording in place of that.
     pub cues: Vec<Cue>,
 }
 
@@ -121,21 +124,24 @@ fn read_script<S: Store>(alloc: Global, store: &mut S, name: &str) -> Result<Vec
     }
 }
 
-/// What the script of a session says, if it has one.
+/// What the script of a session says, or the recording in place of it, if it has one.
 fn read_cues_of<S: Store>(
     alloc: Global,
     store: &mut S,
-    name: &Option<String>,
+    session: &SessionConfig,
+    replays: &[Replay<'_>],
 ) -> Result<Vec<Cue>, ReadError>
-    ensures cues { IfOk result (λ v. HasSaid (S.files store.old) name.now (all_said v)) }
-    ensures log { IfOk result (λ v. LogLeadsBy S.does (IsSaidRead name.now (all_said v)) store.old store.new) }
-    ensures refusal { IfErr result (IsNeedRefusal (S.files store.old) (script_needs name.now)) }
-    ensures refused_log { IfErr result (λ e. LogLeadsBy S.does (StopsAmongNeeds (script_needs name.now) e) store.old store.new) }
+    ensures cues { IfOk result (λ v. HasSaid (S.files store.old) (key_source replays.now session.now) (all_said v)) }
+    ensures log { IfOk result (λ v. LogLeadsBy S.does (IsSaidRead (key_source replays.now session.now) (all_said v)) store.old store.new) }
+    ensures refusal { IfErr result (IsNeedRefusal (S.files store.old) (key_needs (key_source replays.now session.now))) }
+    ensures refused_log { let needs = key_needs (key_source replays.now session.now) in
+        IfErr result (λ e. LogLeadsBy S.does (StopsAmongNeeds needs e) store.old store.new) }
     ensures store { OnlyRead S.does S.files S.failed result store.old store.new }
 {
-    match name {
-        Some(name) => read_script(alloc, store, name.as_str()),
-        None => Ok(Vec::new(alloc)),
+    match key_source(replays, session) {
+        KeySource::Script(name) => read_script(alloc, store, name),
+        KeySource::Recording(name) => read_replay(alloc, store, name, 0),
+        KeySource::Nothing => Ok(Vec::new(alloc)),
     }
 }
 
@@ -144,20 +150,22 @@ fn read_opened<'a, S: Store>(
     alloc: Global,
     store: &mut S,
     session: &'a SessionConfig,
+    replays: &[Replay<'_>],
     cpu: Cpu,
     quota: u16,
     names: &[String],
 ) -> Result<Input<'a>, ReadError>
-    ensures input { IfOk result (λ i. IsOpenedInput (S.files store.old) cpu quota names.now (given i)) }
-    ensures log { IfOk result (λ i. LogLeadsBy S.does (IsOpenedRead cpu quota names.now (given i)) store.old store.new) }
+    ensures input { IfOk result (λ i. IsOpenedInput (S.files store.old) replays.now cpu quota names.now (given i)) }
+    ensures log { IfOk result (λ i. LogLeadsBy S.does (IsOpenedRead replays.now cpu quota names.now (given i)) store.old store.new) }
     ensures session { IfOk result (λ i. i.session.now ≡ session.entry.now) }
-    ensures refusal { IfErr result (IsNeedRefusal (S.files store.old) (image_needs names.now ++ script_needs session.entry.now.keys)) }
-    ensures refused_log { let needs = image_needs names.now ++ script_needs session.entry.now.keys in
+    ensures refusal { let keys = key_source replays.now session.entry.now in
+        IfErr result (IsNeedRefusal (S.files store.old) (image_needs names.now ++ key_needs keys)) }
+    ensures refused_log { let needs = image_needs names.now ++ key_needs (key_source replays.now session.entry.now) in
         IfErr result (λ e. LogLeadsBy S.does (StopsAmongNeeds needs e) store.old store.new) }
     ensures store { OnlyRead S.does S.files S.failed result store.old store.new }
 {
     let drives = read_images(alloc, store, names)?;
-    let cues = read_cues_of(alloc, store, &session.keys)?;
+    let cues = read_cues_of(alloc, store, session, replays)?;
     let start = Start::Opened { cpu, quota, drives };
     Ok(Input {
         session,
@@ -171,24 +179,38 @@ fn read_session<'a, S: Store>(
     alloc: Global,
     store: &mut S,
     session: &'a SessionConfig,
+    replays: &[Replay<'_>],
     before: &[Input],
 ) -> Result<Input<'a>, ReadError>
-    requires before { AllInputs (S.files store.old) [] (map given before.now) }
+    requires before { AllInputs (S.files store.old) replays.now [] (map given before.now) }
     requires fork { fork_field_fault (map (λ i. session_view i.session) (map given before.now)) (session_view session.now) ≡ None }
-    ensures input { IfOk result (λ i. HasInput (S.files store.old) (map given before.now) (given i)) }
-    ensures log { IfOk result (λ i. LogLeadsBy S.does (IsInputRead (map given before.now) (given i)) store.old store.new) }
+    ensures input { IfOk result (λ i. HasInput (S.files store.old) replays.now (map given before.now) (given i)) }
+    ensures log { IfOk result (λ i. LogLeadsBy S.does (IsInputRead replays.now (map given before.now) (given i)) store.old store.new) }
     ensures session { IfOk result (λ i. i.session.now ≡ session.entry.now) }
-    ensures refusal { IfErr result (IsNeedRefusal (S.files store.old) (needs_of (map given before.now) session.entry.now)) }
-    ensures refused_log { IfErr result (λ e. LogLeadsBy S.does (StopsAmongNeeds (needs_of (map given before.now) session.entry.now) e) store.old store.new) }
+    ensures refusal { IfErr result (IsNeedRefusal (S.files store.old) (needs_of replays.now (map given before.now) session.entry.now)) }
+    ensures refused_log { let needs = needs_of replays.now (map given before.now) session.entry.now in
+        IfErr result (λ e. LogLeadsBy S.does (StopsAmongNeeds needs e) store.old store.new) }
     ensures store { OnlyRead S.does S.files S.failed result store.old store.new }
 {
     match &session.origin {
-        Origin::Opened { cpu, quota, drives } => {
-            read_opened(alloc, store, session, *cpu, *quota, drives.as_slice())
-        }
-        Origin::Forked { parent, at } => {
-            read_forked(alloc, store, session, before, parent.as_str(), *at)
-        }
+        Origin::Opened { cpu, quota, drives } => read_opened(
+            alloc,
+            store,
+            session,
+            replays,
+            *cpu,
+            *quota,
+            drives.as_slice(),
+        ),
+        Origin::Forked { parent, at } => read_forked(
+            alloc,
+            store,
+            session,
+            replays,
+            before,
+            parent.as_str(),
+            *at,
+        ),
     }
 }
 
@@ -197,18 +219,19 @@ fn read_sessions<'a, S: Store>(
     alloc: Global,
     store: &mut S,
     sessions: &'a [SessionConfig],
+    replays: &[Replay<'_>],
 ) -> Result<Vec<Input<'a>>, ReadError>
     requires forks { forks_fault 1 [] (map session_view sessions.now) ≡ None }
-    ensures inputs { IfOk result (λ v. AllInputs (S.files store.old) [] (map given v.items)) }
-    ensures log { IfOk result (λ v. LogLeadsBy S.does (AreInputsRead [] (map given v.items)) store.old store.new) }
+    ensures inputs { IfOk result (λ v. AllInputs (S.files store.old) replays.now [] (map given v.items)) }
+    ensures log { IfOk result (λ v. LogLeadsBy S.does (AreInputsRead replays.now [] (map given v.items)) store.old store.new) }
     ensures sessions { IfOk result (λ v. map (λ i. i.session) (map given v.items) ≡ sessions.entry.now) }
-    ensures refusal { IfErr result (IsSessionRefusal (S.files store.old) [] sessions.entry.now) }
-    ensures refused_log { IfErr result (λ e. LogLeadsBy S.does (StopsAmongSessions [] sessions.entry.now e) store.old store.new) }
+    ensures refusal { IfErr result (IsSessionRefusal (S.files store.old) replays.now [] sessions.entry.now) }
+    ensures refused_log { IfErr result (λ e. LogLeadsBy S.does (StopsAmongSessions replays.now [] sessions.entry.now e) store.old store.new) }
     ensures store { OnlyRead S.does S.files S.failed result store.old store.new }
 {
     let mut inputs = Vec::new(alloc);
     for session in sessions {
-        let input = read_session(alloc, store, session, inputs.as_slice())?;
+        let input = read_session(alloc, store, session, replays, inputs.as_slice())?;
         inputs.push(input)?;
     }
     Ok(inputs)
@@ -220,23 +243,27 @@ fn read_sessions<'a, S: Store>(
 /// where a line of the parent's script waits. No file is changed. Its forks must break no rule, which
 /// `Config::fork_fault` tells.
 ///
+/// A session that is named in `replays` is played by the recording in that file, which is read where its script would be; that is not read. A recording may
+/// have any number of keys, and they don't count for the script of a session that is forked from it. That of a forked session begins at the fork.
+///
 /// The first fault is answered: `File` where a file can't be read, `Image` or `Script` where it holds neither. `OutOfMemory` comes only
 /// where memory is refused.
 pub fn read_inputs<'a, S: Store>(
     alloc: Global,
     config: &'a Config,
+    replays: &[Replay<'_>],
     store: &mut S,
 ) -> Result<(Image, Vec<Input<'a>>), ReadError>
     requires forks { forks_fault 1 [] (config_view config.now).sessions ≡ None }
-    ensures read { IfOk result (λ i. AreInputs (S.files store.old) config.entry.now i.0 (map given i.1.items)) }
+    ensures read { IfOk result (λ i. AreInputs (S.files store.old) config.entry.now replays.now i.0 (map given i.1.items)) }
     // The calls were these reads and no others, of whichever store.
-    ensures log { IfOk result (λ i. LogLeadsBy S.does (AreRead config.entry.now i.0 (map given i.1.items)) store.old store.new) }
-    ensures refusal { IfErr result (IsReadRefusal (S.files store.old) config.entry.now) }
+    ensures log { IfOk result (λ i. LogLeadsBy S.does (AreRead config.entry.now replays.now i.0 (map given i.1.items)) store.old store.new) }
+    ensures refusal { IfErr result (IsReadRefusal (S.files store.old) config.entry.now replays.now) }
     // It was refused at the first fault: no read but those before it and its own, of whichever store.
-    ensures refused_log { IfErr result (λ e. LogLeadsBy S.does (StopsReading config.entry.now e) store.old store.new) }
+    ensures refused_log { IfErr result (λ e. LogLeadsBy S.does (StopsReading config.entry.now replays.now e) store.old store.new) }
     ensures store { OnlyRead S.does S.files S.failed result store.old store.new }
 {
     let system = read_image(alloc, store, config.system.as_str())?;
-    let sessions = read_sessions(alloc, store, config.sessions.as_slice())?;
+    let sessions = read_sessions(alloc, store, config.sessions.as_slice(), replays)?;
     Ok((system, sessions))
 }

@@ -5,7 +5,10 @@ mod error;
 mod forked;
 mod input;
 mod output;
+mod recording;
+mod source;
 
 pub use error::ReadError;
 pub use input::{Input, Start, read_inputs};
 pub use output::{SessionFiles, outputs_of};
+pub use source::{Replay, key_file};

@@ -55,11 +55,11 @@ with_playing a = with_rule (with_rule (with_rule (with_rule (with_rule (with_rul
     (repeated_option (codes "out-disk"))) (flag (codes "keyboard"))) (value_option (codes "record")))
     (flag (codes "progress"))) (flag (codes "stop-idle"))) (flag (codes "raw"))) (flag (codes "quiet"))
 
--- own: `[--partial] [--status] [--replay RECORDING] [--pace N] [--system IMAGE]` after these
+-- own: `[--partial] [--status] [--replay RECORDING] [--pace N] [--system IMAGE] [--out-folder FOLDER]..` after these
 abbrev pub with_ending : App → App
-with_ending a = with_rule (with_rule (with_rule (with_rule (with_rule a
+with_ending a = with_rule (with_rule (with_rule (with_rule (with_rule (with_rule a
     (flag (codes "partial"))) (flag (codes "status"))) (value_option (codes "replay"))) (count_option (codes "pace")))
-    (value_option (codes "system"))
+    (value_option (codes "system"))) (repeated_option (codes "out-folder"))
 
 -- own: `com FILE [TAIL..] [--z80] [--steps N] [--keys SCRIPT] [--disk IMAGE]..` and the options after these
 abbrev pub com_app : App
@@ -84,12 +84,12 @@ abbrev pub check_app : App
 check_app = with_rule (new_app (codes "check")) (operand (codes "image"))
 
 -- own: `run CONFIG [--keyboard NAME] [--record SCRIPT] [--progress] [--stop-idle] [--record-all FOLDER] [--raw]
--- [--within FOLDER].. [--outputs-here] [--pace N]`
+-- [--within FOLDER].. [--outputs-here] [--pace N] [--replay NAME=FILE]..`
 abbrev pub run_app : App
-run_app = with_rule (with_rule (with_rule (with_rule (with_rule (with_rule (with_rule (with_rule (with_rule (with_rule (new_app (codes "run"))
+run_app = with_rule (with_rule (with_rule (with_rule (with_rule (with_rule (with_rule (with_rule (with_rule (with_rule (with_rule (new_app (codes "run"))
     (operand (codes "config"))) (value_option (codes "keyboard"))) (value_option (codes "record"))) (flag (codes "progress")))
     (flag (codes "stop-idle"))) (value_option (codes "record-all"))) (flag (codes "raw"))) (repeated_option (codes "within")))
-    (flag (codes "outputs-here"))) (count_option (codes "pace"))
+    (flag (codes "outputs-here"))) (count_option (codes "pace"))) (repeated_option (codes "replay"))
 
 -- own: `debug FILE [--z80] [--list FILE]`
 abbrev pub debug_app : App
@@ -160,6 +160,7 @@ HasPlayEntries rows task =
     × (first_of (codes "replay") rows ≡ option_map (λ t. t.now) task.replay)
     × ReadsCountIfAny (one_of (codes "pace") rows) task.pace
     × (first_of (codes "system") rows ≡ option_map (λ t. t.now) task.system)
+    × ReadsWordsIfAny (all_of (codes "out-folder") rows) task.out_folders.items
 
 -- own: the keys of `boot` are typed where `--keyboard` is given, and where neither `--keys` nor `--replay` is
 pub record IsTyped (rows : List Row) (is_live : Bool) : Type 0 where
@@ -200,6 +201,7 @@ HasEntriesOf given (Run task) =
     × ReadsWordsIfAny (all_of (codes "within") given.1) task.folders.items
     × (one_of (codes "outputs-here") given.1 ≡ Some (bool_text task.has_outputs_here))
     × ReadsCountIfAny (one_of (codes "pace") given.1) task.pace
+    × ReadsWordsIfAny (all_of (codes "replay") given.1) task.replays.items
 HasEntriesOf given (Debug file cpu list) =
     (given.0 ≡ codes "debug") × (first_of (codes "file") given.1 ≡ Some file.now)
     × (one_of (codes "z80") given.1 ≡ Some (flag_text cpu))

@@ -35,9 +35,13 @@ kinds_of fault.TooManyDisks = []
 kinds_of fault.OutWithoutDisk = []
 kinds_of fault.TooManyPlaces = []
 kinds_of fault.OutWithoutDrive = []
+kinds_of fault.FolderWithoutDisk = []
+kinds_of fault.FolderWithoutDrive = []
 kinds_of fault.PartialWithoutOut = []
 kinds_of fault.ProgressAtKeyboard = []
+kinds_of fault.ProgressAtPrompt = []
 kinds_of fault.PaceZero = []
+kinds_of fault.PaceUntyped = []
 kinds_of (fault.Other word) =
     kind.NoEquals ∷ kind.TooManyValues ∷ kind.TooFewValues ∷ kind.WrongNumberOfValues
     ∷ kind.DisplayVersion ∷ kind.Io ∷ kind.Format ∷ []

@@ -6,6 +6,7 @@ Usage: cpmhost boot [PLACE..] [--z80] [--steps N] [--keys SCRIPT]
        [--out-disk IMAGE].. [--keyboard] [--record SCRIPT] [--progress]
        [--stop-idle] [--raw] [--quiet] [--partial] [--status]
        [--replay RECORDING] [--pace N] [--system IMAGE]
+       [--out-folder FOLDER]..
 
 Start CP/M at its prompt A>. The first PLACE is in drive A, and further ones are
 in B, C and D. A PLACE is the image of a disk, or a folder, whose files are
@@ -20,7 +21,7 @@ Options:
   --steps N   stop after N steps. N is a number from 0 to 18446744073709551615.
               A step is an instruction, or a part of a system call. Without
               --steps there is a limit of 1,000,000 steps with --keys or
-              --replay, but none with --keyboard or --out-disk
+              --replay, but none with --keyboard, --out-disk or --out-folder
   --keys SCRIPT
               press the keys of SCRIPT, which is written as for com
   --replay RECORDING
@@ -37,8 +38,13 @@ Options:
               CP/M off while it computed, nothing is written without --partial,
               and it ends with HO10, status 10. The files of a folder stay as
               they are
-  --partial   write the files of --out-disk also where CP/M was cut off by its
-              limit of steps
+  --out-folder FOLDER
+              write the files of the disk in drive A that are new or changed to
+              this folder; given again, those in B, C and D. FOLDER may be the
+              PLACE itself. Files that were erased stay there, and so do those
+              of users other than 0, which are told
+  --partial   write what --out-disk and --out-folder name also where CP/M was
+              cut off by its limit of steps
   --progress  report on standard error how much of the steps is done. It goes
               only with --keys or --replay, and not with --keyboard
   --pace N    let N thousand steps pass in a second at most; N is a number from
@@ -55,6 +61,7 @@ Options:
 Examples:
   cpmhost boot
   cpmhost boot work.img games --system tools.img
+  cpmhost boot games --out-folder games
   cpmhost boot work.img --keys build.keys --out-disk work.img --stop-idle
 
 The last line on standard error says how it ended, as for com; the ends are

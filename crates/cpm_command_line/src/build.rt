@@ -58,6 +58,7 @@ const HOST_COMMANDS: [NamedCommand; 7] = [
             Argument::Value("replay", "RECORDING"),
             Argument::Count("pace"),
             Argument::Value("system", "IMAGE"),
+            Argument::Values("out-folder", "FOLDER"),
         ],
     ),
     (
@@ -79,6 +80,7 @@ const HOST_COMMANDS: [NamedCommand; 7] = [
             Argument::Value("replay", "RECORDING"),
             Argument::Count("pace"),
             Argument::Value("system", "IMAGE"),
+            Argument::Values("out-folder", "FOLDER"),
         ],
     ),
     (
@@ -107,6 +109,7 @@ const HOST_COMMANDS: [NamedCommand; 7] = [
             Argument::Values("within", "FOLDER"),
             Argument::Flag("outputs-here"),
             Argument::Count("pace"),
+            Argument::Values("replay", "NAME=FILE"),
         ],
     ),
     (

@@ -72,15 +72,27 @@ pub enum UsageFault {
     /// More drives are to be written than there are.
     #[error("'--out-disk' was given more often than there are drives")]
     OutWithoutDrive,
+    /// The files of a drive are to be written, and it has no image.
+    #[error("'--out-folder' was given more often than '--disk'; give a '--disk' for each")]
+    FolderWithoutDisk,
+    /// The files of more drives are to be written than there are.
+    #[error("'--out-folder' was given more often than there are drives")]
+    FolderWithoutDrive,
     /// Drives are to be written even where the program is cut off, and none is to be written at all.
-    #[error("'--partial' needs '--out-disk'")]
+    #[error("'--partial' needs '--out-disk' or '--out-folder'")]
     PartialWithoutOut,
     /// The terminal is to show what is typed at, and how much is done.
     #[error("'--progress' and '--keyboard' both write to the terminal; give one of them")]
     ProgressAtKeyboard,
+    /// The terminal is to show what is typed at, since neither a script nor a recording has the keys, and how much is done.
+    #[error("'--progress' needs '--keys' or '--replay', and doesn't go with '--keyboard'")]
+    ProgressAtPrompt,
     /// No steps are to pass in a second.
     #[error("'--pace' needs a number from 1")]
     PaceZero,
+    /// A pace is given to a run where nobody types.
+    #[error("'--pace' needs '--keyboard'")]
+    PaceUntyped,
     /// Anything else, in the words of the reader of command lines.
     #[error("{0}")]
     Other(ShownWord),

@@ -19,14 +19,14 @@ fn is_zero_pace(pace: Option<u64>) -> bool
     }
 }
 
-/// What is wrong first with the options that `com` and `boot` have in common.
-fn play_fault(task: &PlayTask<'_>) -> Option<UsageFault>
-    ensures { result ≡ fault_of_play task.now }
+/// What is wrong first with the options that `com` and `boot` have in common. Where it is typed at, this is wrong with `--progress`.
+fn play_fault(task: &PlayTask<'_>, progress: UsageFault) -> Option<UsageFault>
+    ensures { result ≡ fault_of_play progress task.now }
 {
-    if task.is_partial && task.outs.is_empty() {
+    if task.is_partial && task.outs.is_empty() && task.out_folders.is_empty() {
         Some(UsageFault::PartialWithoutOut)
     } else if task.has_progress && task.is_live {
-        Some(UsageFault::ProgressAtKeyboard)
+        Some(progress)
     } else if is_zero_pace(task.pace) {
         Some(UsageFault::PaceZero)
     } else {
@@ -47,8 +47,10 @@ fn com_fault(task: &PlayTask<'_>) -> Option<UsageFault>
         Some(UsageFault::TooManyDisks)
     } else if task.outs.len() > task.drives.len() {
         Some(UsageFault::OutWithoutDisk)
+    } else if task.out_folders.len() > task.drives.len() {
+        Some(UsageFault::FolderWithoutDisk)
     } else {
-        play_fault(task)
+        play_fault(task, UsageFault::ProgressAtKeyboard)
     }
 }
 
@@ -62,8 +64,10 @@ fn boot_fault(task: &PlayTask<'_>) -> Option<UsageFault>
         Some(UsageFault::TooManyPlaces)
     } else if task.outs.len() > task.drives.len().max(1) {
         Some(UsageFault::OutWithoutDrive)
+    } else if task.out_folders.len() > task.drives.len().max(1) {
+        Some(UsageFault::FolderWithoutDrive)
     } else {
-        play_fault(task)
+        play_fault(task, UsageFault::ProgressAtPrompt)
     }
 }
 
@@ -77,6 +81,8 @@ fn run_fault(task: &RunTask<'_>) -> Option<UsageFault>
         Some(UsageFault::ProgressAtKeyboard)
     } else if is_zero_pace(task.pace) {
         Some(UsageFault::PaceZero)
+    } else if task.pace.is_some() && task.keyboard.is_none() {
+        Some(UsageFault::PaceUntyped)
     } else {
         None
     }

@@ -40,6 +40,7 @@ Usage: cpmhost com FILE [TAIL..] [--z80] [--steps N] [--keys SCRIPT]
        [--disk IMAGE].. [--out-disk IMAGE].. [--keyboard] [--record SCRIPT]
        [--progress] [--stop-idle] [--raw] [--quiet] [--partial] [--status]
        [--replay RECORDING] [--pace N] [--system IMAGE]
+       [--out-folder FOLDER]..
 
 Run the CP/M program in FILE, such as a .COM file, with the words TAIL..
 after its name on the command line of CP/M, and print what it writes to its
@@ -50,7 +51,7 @@ Options:
   --steps N   stop after N steps. N is a number from 0 to 18446744073709551615.
               A step is an instruction, or a part of a system call. Without
               --steps there is a limit of 1,000,000 steps, but none with
-              --keyboard or --out-disk
+              --keyboard, --out-disk or --out-folder
   --keys SCRIPT
               press the keys of SCRIPT. A line of it is empty, a comment that
               begins with '#', or says when keys come: 'N KEYS' after N steps,
@@ -74,8 +75,11 @@ Options:
               given again, those in B, C and D; where the limit of --steps cut
               the program off while it computed, nothing is written without
               --partial, and it ends with HO10, status 10
-  --partial   write the files of --out-disk also where the program was cut off
-              by its limit of steps
+  --out-folder FOLDER
+              write the files of the disk in drive A that are new or changed to
+              this folder; given again, those in B, C and D
+  --partial   write what --out-disk and --out-folder name also where the program
+              was cut off by its limit of steps
   --keyboard  take the keys from standard input as they are typed; '^]', Control
               and ], ends it. The keys of --keys or --replay come before these.
               It doesn't go with --progress
@@ -163,7 +167,7 @@ Examples:
 pub const RUN_PAGE: &str = "\
 Usage: cpmhost run CONFIG [--keyboard NAME] [--record SCRIPT] [--progress]
        [--stop-idle] [--record-all FOLDER] [--raw] [--within FOLDER]..
-       [--outputs-here] [--pace N]
+       [--outputs-here] [--pace N] [--replay NAME=FILE]..
 
 Run the sessions of the configuration in CONFIG by turns, write their files,
 and print how each session ended.
@@ -188,8 +192,11 @@ Options:
   --outputs-here
               refuse outputs whose names are not plain names of files in the
               current folder
-  --pace N    let N thousand steps pass in a second at most; N is a number from
-              1 to 18446744073709551615
+  --pace N    let N thousand steps pass in a second at most while one types; N
+              is a number from 1 to 18446744073709551615
+  --replay NAME=FILE
+              press the keys of the recording FILE in the session NAME, in place
+              of its script; given again, in other sessions
   -h, --help  print this page
 
 Examples:
@@ -251,7 +258,7 @@ Exit status:
   9   the program in FILE has more than 58,112 bytes, or the quotas of all
       sessions exceed the frames of the configuration
   10  a program was cut off by its limit of steps, so that its drives were not
-      written
+      written, nor files of theirs
   11  with --status: the program still runs, its end was Running
   12  with --status: its end was Illegal
   13  with --status: its end was Quota

@@ -27,10 +27,12 @@ fn play_task<'a>(
     tail: Vec<&'a str>,
     drives: Vec<&'a str>,
     outs: Vec<&'a str>,
+    out_folders: Vec<&'a str>,
     is_live: bool,
 ) -> PlayTask<'a>
     requires whole { IsWholePlay (rows_of (found_of matches.now)) }
     requires outs { ReadsWordsIfAny (all_of (codes "out-disk") (rows_of (found_of matches.now))) outs.items }
+    requires folders { ReadsWordsIfAny (all_of (codes "out-folder") (rows_of (found_of matches.now))) out_folders.items }
     ensures entries { HasPlayEntries (rows_of (found_of matches.now)) result }
     ensures own { (result.file ≡ file.entry) × (result.tail ≡ tail.entry) × (result.drives ≡ drives.entry) × (result.is_live ≡ is_live) }
 {
@@ -53,6 +55,7 @@ fn play_task<'a>(
         replay: text_if_any(matches, "replay"),
         pace: count_if_any(matches, "pace"),
         system: text_if_any(matches, "system"),
+        out_folders,
     }
 }
 
@@ -64,9 +67,10 @@ fn com_task<'a>(alloc: Global, matches: &ArgMatches<'a>) -> Result<Task<'a>, All
     let tail = texts_if_any(alloc, matches, "tail")?;
     let drives = texts_if_any(alloc, matches, "disk")?;
     let outs = texts_if_any(alloc, matches, "out-disk")?;
+    let out_folders = texts_if_any(alloc, matches, "out-folder")?;
     let file = Some(text_of(matches, "file"));
     let is_live = flag_of(matches, "keyboard");
-    let task = play_task(matches, file, tail, drives, outs, is_live);
+    let task = play_task(matches, file, tail, drives, outs, out_folders, is_live);
     Ok(Task::Com(task))
 }
 
@@ -88,8 +92,10 @@ fn boot_task<'a>(alloc: Global, matches: &ArgMatches<'a>) -> Result<Task<'a>, Al
 {
     let drives = texts_if_any(alloc, matches, "place")?;
     let outs = texts_if_any(alloc, matches, "out-disk")?;
+    let out_folders = texts_if_any(alloc, matches, "out-folder")?;
     let is_live = is_typed(matches);
-    let task = play_task(matches, None, Vec::new(alloc), drives, outs, is_live);
+    let tail = Vec::new(alloc);
+    let task = play_task(matches, None, tail, drives, outs, out_folders, is_live);
     Ok(Task::Boot(task))
 }
 
@@ -133,6 +139,7 @@ fn run_task<'a>(alloc: Global, matches: &ArgMatches<'a>) -> Result<Task<'a>, All
     ensures { IfOk result (HasEntriesOf (codes "run", rows_of (found_of matches.now))) }
 {
     let folders = texts_if_any(alloc, matches, "within")?;
+    let replays = texts_if_any(alloc, matches, "replay")?;
     Ok(Task::Run(RunTask {
         config: text_of(matches, "config"),
         keyboard: text_if_any(matches, "keyboard"),
@@ -144,6 +151,7 @@ fn run_task<'a>(alloc: Global, matches: &ArgMatches<'a>) -> Result<Task<'a>, All
         folders,
         has_outputs_here: flag_of(matches, "outputs-here"),
         pace: count_if_any(matches, "pace"),
+        replays,
     }))
 }
 

@@ -45,11 +45,12 @@ pub enum Task<'a> {
 ///
 /// `com FILE [TAIL..] [--z80] [--steps N] [--keys SCRIPT] [--disk IMAGE].. [--out-disk IMAGE]..
 /// [--keyboard] [--record SCRIPT] [--progress] [--stop-idle] [--raw] [--quiet] [--partial] [--status]
-/// [--replay RECORDING] [--pace N] [--system IMAGE]`: run the program in FILE.
+/// [--replay RECORDING] [--pace N] [--system IMAGE] [--out-folder FOLDER]..`: run the program in FILE.
 ///
 /// `boot [PLACE..] [--z80] [--steps N] [--keys SCRIPT] [--out-disk IMAGE].. [--keyboard]
 /// [--record SCRIPT] [--progress] [--stop-idle] [--raw] [--quiet] [--partial] [--status]
-/// [--replay RECORDING] [--pace N] [--system IMAGE]`: start CP/M with these drives.
+/// [--replay RECORDING] [--pace N] [--system IMAGE] [--out-folder FOLDER]..`: start CP/M with these
+/// drives.
 #[derive(Debug, PartialEq, Eq, Drop)]
 pub struct PlayTask<'a> {
     /// The file that the program is in. There is one for `com`, and none for `boot`.
@@ -80,7 +81,7 @@ pub struct PlayTask<'a> {
     pub is_raw: bool,
     /// The last line, which says how the program ended, is left out.
     pub is_quiet: bool,
-    /// The files of `outs` are written also where the program was cut off by its limit of steps. Only with `outs`.
+    /// What `outs` and `out_folders` name is written also where the program was cut off by its limit of steps. Only with one of these.
     pub is_partial: bool,
     /// The exit status is that of the program's end.
     pub has_status: bool,
@@ -90,10 +91,13 @@ pub struct PlayTask<'a> {
     pub pace: Option<u64>,
     /// The image of the system drive, where one was given.
     pub system: Option<&'a str>,
+    /// The folders that the files of these drives are written to, where they are new or changed.
+    pub out_folders: Vec<&'a str>,
 }
 
 /// `run CONFIG [--keyboard NAME] [--record SCRIPT] [--progress] [--stop-idle] [--record-all FOLDER] [--raw]
-/// [--within FOLDER].. [--outputs-here] [--pace N]`: run the sessions of the configuration in CONFIG.
+/// [--within FOLDER].. [--outputs-here] [--pace N] [--replay NAME=FILE]..`: run the sessions of the
+/// configuration in CONFIG.
 #[derive(Debug, PartialEq, Eq, Drop)]
 pub struct RunTask<'a> {
     /// The file of the configuration.
@@ -114,8 +118,10 @@ pub struct RunTask<'a> {
     pub folders: Vec<&'a str>,
     /// The names of outputs are plain names of files in the current folder.
     pub has_outputs_here: bool,
-    /// How many thousands of steps pass in a second at most, from 1 on, where that was given.
+    /// How many thousands of steps pass in a second at most, from 1 on, where that was given. Only with `keyboard`.
     pub pace: Option<u64>,
+    /// The recordings whose keys are pressed in place of the scripts of sessions, each as NAME=FILE.
+    pub replays: Vec<&'a str>,
 }
 
 /// A command of `disk` with its words. The files are those of `user`, from 0 to 15.

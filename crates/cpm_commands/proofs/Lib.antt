@@ -3,6 +3,8 @@ pub mod DriveLemmas
 pub mod GetLemmas
 pub mod ListLemmas
 pub mod MessageLemmas
+pub mod OutFolderLemmas
 pub mod PlanLemmas
+pub mod ReplayWordLemmas
 pub mod RunLemmas
 pub mod TaskLemmas

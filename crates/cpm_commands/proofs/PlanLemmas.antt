@@ -4,7 +4,9 @@ use Rattle.std.specs.List.{concat, flat_map, zip}
 use Rattle.std.proofs.Common.{◌≡◌, ◌∙◌, ◌&&◌, ◌==◌, ℕ, zero, suc, Bool, true, false, if◌then◌else◌, List, [], ◌∷◌, ◌++◌, ap, arith, drop, get_or, length, map, string_bytes, subst, sym}
 use Rattle.std.proofs.Common.{Option, is_some, Some, None, option_map, String, Global, All}
 use Rattle.std.proofs.lemmas.List.Elements.{All-append, All-cons, All-contains_itself, All-head, All-map, All-nil, All-tail}
-use Rattle.cpm_batch.specs.Inputs.{SessionInput, known_before}
+use Rattle.cpm_batch.specs.Inputs.{SessionInput, known_of}
+use Rattle.cpm_batch.specs.Sources.{NoSource, RecordingFile, ScriptFile, SourceOfKeys, key_file, key_source}
+use Rattle.cpm_batch.specs.declared.source.Replay.{Replay}
 use Rattle.cpm_batch.specs.Outputs.{SessionOutput, files_of, files_of_all, image_at, image_outputs, named_bytes, named_image, named_images}
 use Rattle.cpm_batch.specs.Reads.{AreImagesRead, AreInputsRead, AreRead, IsForkedSaidRead, IsInputReadOf, IsSaidRead}
 use Rattle.cpm_command_line.specs.declared.task.RunTask.{RunTask}
@@ -12,6 +14,8 @@ use Rattle.cpm_config.specs.declared.config.Config.{Config}
 use Rattle.cpm_config.specs.declared.config.Origin.{Origin}
 use Rattle.cpm_config.specs.declared.config.Origin.TheVariants.{Opened, Forked}
 use Rattle.cpm_config.specs.declared.config.SessionConfig.{SessionConfig}
+use Rattle.cpm_command_line.specs.declared.task.PlayTask.{PlayTask}
+use Rattle.cpm_disk_commands.specs.declared.damage.NamedFile.{NamedFile}
 use Rattle.cpm_geom.specs.Disk.{Disk}
 use Rattle.cpm_host.specs.declared.error.HostError.{HostError}
 use Rattle.cpm_machine.specs.MachineState.{MachineState}
@@ -28,8 +32,9 @@ use Rattle.cpm_store.specs.Files.{StoreName}
 use Rattle.cpm_store.specs.Log.{StoreAccess, Gave, LogLeadsBy, Wrote, writes_of}
 use Rattle.cpm_store.specs.Writes.{NamedBytes}
 use Rattle.cpm_commands.specs.Drives.{AreDrivesRead, AreReadBy, IsFileRead, IsPlaceRead, files_given, inputs_of_place, inputs_of_places}
-use Rattle.cpm_commands.specs.Play.{AreCuesRead, AreKeysReadBy, AreRecordedRead, IsProgramRead, IsSystemRead, ReadActs, drive_outputs, plan_of_play, play_outputs}
-use Rattle.cpm_commands.specs.Laws.{IsAsPlanned, IsPlanned, ProgramsFollowPlans, RunsFollowPlans}
+use Rattle.cpm_commands.specs.Left.{IsLeftFor, drive_outputs, has_no_folder, outputs_with, outs_of, plan_of_left, record_of_play}
+use Rattle.cpm_commands.specs.Play.{AreCuesRead, AreKeysReadBy, AreRecordedRead, IsProgramRead, IsSystemRead, ReadActs, plan_of_play, task_starts, write_acts}
+use Rattle.cpm_commands.specs.Laws.{FollowsPlans, IsAsPlanned, IsPlanned, ProgramsFollowPlans, RunsFollowPlans}
 use Rattle.cpm_commands.specs.Plan.{Plan, PlannedName, all_planned, planned_if_any}
 use Rattle.cpm_play.specs.declared.live.PlayEnd.{PlayEnd}
 use Rattle.cpm_run.specs.declared.ending.Ending.{Ending}
@@ -40,7 +45,7 @@ use Rattle.cpm_commands.specs.declared.drives.DrivePlace.TheVariants as from
 use Rattle.cpm_commands.specs.declared.drives.PlacedFile.{PlacedFile}
 use Rattle.cpm_disk_commands.specs.declared.folder.HostFile.{HostFile}
 use Rattle.cpm_commands.specs.declared.plan.FileRole.{FileRole}
-use Rattle.cpm_commands.specs.declared.plan.FileRole.TheVariants.{Image, Plain, Script}
+use Rattle.cpm_commands.specs.declared.plan.FileRole.TheVariants.{Folder, Image, Plain, Script}
 
 -- ---- names that are such
 
@@ -176,40 +181,42 @@ module _ (plan : Plan) where
   images_read role (name ∷ names) (d ∷ ds) log h such =
       joined log h.first h.rest h.order (one_read (string_bytes name) h.begins.bytes h.first h.begins.calls such.0) (images_read role names ds h.rest h.goes_on such.1)
 
-  said_read : (role : FileRole) (keys : Option (String Global)) (cues : List CueText) (log : List StoreAccess) → IsSaidRead keys cues log
-      → AreInputs (planned_if_any role (option_map string_bytes keys)) → All (IsAsPlanned plan) log
-  said_read role None cues log h such = none_read log h.1
-  said_read role (Some name) cues log h such = one_read (string_bytes name) h.text log h.calls such.0
+  said_read : (role : FileRole) (keys : SourceOfKeys) (cues : List CueText) (log : List StoreAccess) → IsSaidRead keys cues log → AreInputs (planned_if_any role (key_file keys)) → All (IsAsPlanned plan) log
+  said_read role NoSource cues log h such = none_read log h.1
+  said_read role (ScriptFile name) cues log h such = one_read name h.text log h.calls such.0
+  said_read role (RecordingFile name) cues log h such = one_read name h.text log h.calls such.0
 
-  forked_read : (role : FileRole) (keys : Option (String Global)) (at before : ℕ) (cues : List CueText) (log : List StoreAccess) → IsForkedSaidRead keys at before cues log
-      → AreInputs (planned_if_any role (option_map string_bytes keys)) → All (IsAsPlanned plan) log
-  forked_read role None at before cues log h such = none_read log h.1
-  forked_read role (Some name) at before cues log h such = one_read (string_bytes name) h.text log h.calls such.0
+  forked_read : (role : FileRole) (keys : SourceOfKeys) (at before : ℕ) (cues : List CueText) (log : List StoreAccess) → IsForkedSaidRead keys at before cues log
+      → AreInputs (planned_if_any role (key_file keys)) → All (IsAsPlanned plan) log
+  forked_read role NoSource at before cues log h such = none_read log h.1
+  forked_read role (ScriptFile name) at before cues log h such = one_read name h.text log h.calls such.0
+  forked_read role (RecordingFile name) at before cues log h such = one_read name h.text log h.calls such.0
 
-  input_read : (before : List SessionInput) (o : Origin) (i : SessionInput) (log : List StoreAccess) → IsInputReadOf before o i log
-      → AreInputs (all_planned Image (drives_named o) ++ planned_if_any Plain (option_map string_bytes i.session.keys)) → All (IsAsPlanned plan) log
-  input_read before (Opened cpu quota drives) i log h such =
+  input_read : (replays : List Replay) (before : List SessionInput) (o : Origin) (i : SessionInput) (log : List StoreAccess) → IsInputReadOf replays before o i log
+      → AreInputs (all_planned Image (drives_named o) ++ planned_if_any Plain (key_file (key_source replays i.session))) → All (IsAsPlanned plan) log
+  input_read replays before (Opened cpu quota drives) i log h such =
       let P = IsPlanned plan.inputs in
       let named = all_planned Image (map string_bytes drives.items) in
-      let keys = planned_if_any Plain (option_map string_bytes i.session.keys) in
+      let source = key_source replays i.session in
+      let keys = planned_if_any Plain (key_file source) in
       joined log h.calls.first h.calls.rest h.calls.order (images_read Image drives.items h.drives h.calls.first h.calls.begins (such_left P named keys such))
-      (said_read Plain i.session.keys i.said h.calls.rest h.calls.goes_on (such_right P named keys such))
-  input_read before (Forked parent at) i log h such = forked_read Plain i.session.keys at (known_before at h.parent.said) i.said log h.calls such
+      (said_read Plain source i.said h.calls.rest h.calls.goes_on (such_right P named keys such))
+  input_read replays before (Forked parent at) i log h such = forked_read Plain (key_source replays i.session) at (known_of replays at h.parent) i.said log h.calls such
 
-  inputs_read : (before is : List SessionInput) (log : List StoreAccess) → AreInputsRead before is log → AreInputs (flat_map session_inputs (map (λ i. i.session) is))
-      → All (IsAsPlanned plan) log
-  inputs_read before [] log h such = none_read log h
-  inputs_read before (i ∷ is) log h such =
+  inputs_read : (replays : List Replay) (before is : List SessionInput) (log : List StoreAccess) → AreInputsRead replays before is log
+      → AreInputs (flat_map (session_inputs replays) (map (λ i. i.session) is)) → All (IsAsPlanned plan) log
+  inputs_read replays before [] log h such = none_read log h
+  inputs_read replays before (i ∷ is) log h such =
       let P = IsPlanned plan.inputs in
-      let rest = flat_map session_inputs (map (λ (x : SessionInput). x.session) is) in
-      joined log h.first h.rest h.order (input_read before i.session.origin i h.first h.begins (such_left P (session_inputs i.session) rest such))
-      (inputs_read (before ++ i ∷ []) is h.rest h.goes_on (such_right P (session_inputs i.session) rest such))
+      let rest = flat_map (session_inputs replays) (map (λ (x : SessionInput). x.session) is) in
+      joined log h.first h.rest h.order (input_read replays before i.session.origin i h.first h.begins (such_left P (session_inputs replays i.session) rest such))
+      (inputs_read replays (before ++ i ∷ []) is h.rest h.goes_on (such_right P (session_inputs replays i.session) rest such))
 
-  pub all_read : (config : Config) (system : Disk) (is : List SessionInput) (log : List StoreAccess) → AreRead config system is log
-      → IsPlanned plan.inputs (string_bytes config.system) → AreInputs (flat_map session_inputs config.sessions.items) → All (IsAsPlanned plan) log
-  all_read config system is log h drive such =
+  pub all_read : (config : Config) (replays : List Replay) (system : Disk) (is : List SessionInput) (log : List StoreAccess) → AreRead config replays system is log
+      → IsPlanned plan.inputs (string_bytes config.system) → AreInputs (flat_map (session_inputs replays) config.sessions.items) → All (IsAsPlanned plan) log
+  all_read config replays system is log h drive such =
       joined log h.calls.first h.calls.rest h.calls.order (one_read (string_bytes config.system) h.calls.begins.bytes h.calls.first h.calls.begins.calls drive)
-      (inputs_read [] is h.calls.rest h.calls.goes_on (subst (λ (ss : List SessionConfig). AreInputs (flat_map session_inputs ss)) (sym h.sessions) such))
+      (inputs_read replays [] is h.calls.rest h.calls.goes_on (subst (λ (ss : List SessionConfig). AreInputs (flat_map (session_inputs replays) ss)) (sym h.sessions) such))
 
   -- ---- and what is written
 
@@ -218,10 +225,10 @@ module _ (plan : Plan) where
 
 -- ---- a run
 
-run_calls : {F : Type 0} (does : F → StoreAccess → F → Type 0) (tells_name : F → StoreName → Bool → Type 0) (task : RunTask) (config : Config) (scripts : List (String Global)) (report : Report) (io : Streams) (old new : F)
-    → HasRunAll does tells_name task config scripts report io old new → LogLeadsBy does (All (IsAsPlanned (plan_by task config scripts))) old new
-run_calls does tells_name task config scripts report io old new h =
-    let plan = plan_by task config scripts in
+run_calls : {F : Type 0} (does : F → StoreAccess → F → Type 0) (tells_name : F → StoreName → Bool → Type 0) (task : RunTask) (config : Config) (replays : List Replay) (scripts : List (String Global)) (report : Report) (io : Streams) (old new : F)
+    → HasRunAll does tells_name task config replays scripts report io old new → LogLeadsBy does (All (IsAsPlanned (plan_by task config replays scripts))) old new
+run_calls does tells_name task config replays scripts report io old new h =
+    let plan = plan_by task config replays scripts in
     let I = IsPlanned plan.inputs in
     let O = IsPlanned plan.outputs in
     let typed = option_map (λ n. n.now) task.keyboard in
@@ -230,7 +237,8 @@ run_calls does tells_name task config scripts report io old new h =
     let kind = calls.1 in
     let ins = such_itself plan.inputs in
     let outs = such_itself plan.outputs in
-    let read = all_read plan config parts.system parts.inputs kind.first kind.begins ins.1.0 ins.1.1 in
+    let reads = subst (λ (rs : List Replay). AreRead config rs parts.system parts.inputs kind.first) h.asked.played_back kind.begins in
+    let read = all_read plan config replays parts.system parts.inputs kind.first reads ins.1.0 ins.1.1 in
     let sessions = settled_sessions parts.system h.options.stops_idle parts.typed config.sessions.items [] parts.inputs parts.settled h.accessed.played.keys ∙ kind.begins.sessions in
     let all = flat_map session_outputs config.sessions.items in
     let recorded_to = planned_if_any Plain (option_map (λ n. n.now) task.record) in
@@ -248,15 +256,17 @@ pub runs_follow : {F : Type 0} (does : F → StoreAccess → F → Type 0) (sees
     → RunsFollowPlans does sees_to gives_names tells_name ended told
 runs_follow does sees_to gives_names tells_name ended told task old new unread left before printed unrecorded record_now h = (
   h.config,
+  h.replays,
   h.scripts,
   h.prepared.known,
   h.prepared.read,
+  h.prepared.played_back,
   h.prepared.named,
   record {
     seen = h.seen;
     ended = h.ran;
     sees = h.prepared.sees;
-    calls = run_calls does tells_name task h.config h.scripts h.report (streams unread left before h.shown unrecorded record_now) h.seen h.ran h.played;
+    calls = run_calls does tells_name task h.config h.replays h.scripts h.report (streams unread left before h.shown unrecorded record_now) h.seen h.ran h.played;
     named = h.named;
   },
 )
@@ -322,14 +332,65 @@ module _ {F : Type 0} (does : F → StoreAccess → F → Type 0) (plan : Plan) 
   keys_led None replay said s t h such = recorded_led replay said s t h such
   keys_led (Some name) replay said s t h such = cues_led (Some name) said s t h (such.0, tt)
 
+planned_files : (P : StoreName → Type 0) (role : FileRole) (qs : List NamedBytes) → AreSuch P (all_planned role (map (λ q. q.0) qs)) → AreSuchFiles P qs
+planned_files P role [] such = no_files P
+planned_files P role (q ∷ qs) such = file_more P q.0 q.1 qs such.0 (planned_files P role qs such.1)
+
+-- what is written was planned
+module _ {F : Type 0} (acts : ReadActs F) (gives_names : F → Option HostError → F → Type 0) (task : PlayTask) (places : List DrivePlace)
+    (starts : List (StoreName × Option Disk)) (drives : List (Option Disk)) (old seen read new : F) (unwritten : List (List ℕ × NamedFile)) where
+  abbrev played_plan : Plan
+  played_plan = plan_of_play task places
+
+  images_led : (log : List StoreAccess) → log ≡ writes_of (drive_outputs (outs_of task) drives) → All (IsAsPlanned played_plan) log
+  images_led log calls =
+      let O = IsPlanned played_plan.outputs in
+      let images = all_planned Image (outs_of task) in
+      let folders = all_planned Folder (map (λ n. n.now) task.out_folders.items) in
+      let both = such_left O (images ++ folders) (planned_if_any Plain (record_of_play task)) (such_itself played_plan.outputs) in
+      all_written played_plan (drive_outputs (outs_of task) drives) log calls (drives_such O Image (outs_of task) drives (such_left O images folders both))
+
+  left_led : (outputs : List NamedBytes) (log : List StoreAccess) → log ≡ writes_of outputs → All (IsAsPlanned (plan_of_left outputs (record_of_play task))) log
+  left_led outputs log calls =
+      let second = plan_of_left outputs (record_of_play task) in
+      let O = IsPlanned second.outputs in
+      all_written second outputs log calls
+      (planned_files O Plain outputs (such_left O (all_planned Plain (map (λ q. q.0) outputs)) (planned_if_any Plain (record_of_play task)) (such_itself second.outputs)))
+
+  follows : (has_none : Bool) → acts.sees_to old played_plan None seen → IsLed acts.does played_plan seen read
+      → IsLeftFor has_none (write_acts acts gives_names) task starts drives read new unwritten → FollowsPlans has_none acts gives_names task played_plan old new
+  follows true sees reads left = record {
+    seen = seen;
+    ended = left.0.written;
+    sees = sees;
+    calls = led_on acts.does played_plan seen read left.0.written reads (left.0.calls.0, images_led left.0.calls.0 left.0.calls.1, left.0.calls.2);
+    named = left.0.named;
+  }
+  follows false sees reads left =
+      let w = left.written in
+      record {
+        seen = seen;
+        read = read;
+        drives = drives;
+        left = left.left;
+        sees = sees;
+        calls = reads;
+        follows = record {
+          seen = w.seen;
+          ended = w.written.written;
+          sees = w.sees;
+          calls = (w.written.calls.0, left_led (outputs_with (outs_of task) drives left.left) w.written.calls.0 w.written.calls.1, w.written.calls.2);
+          named = w.written.named;
+        };
+      }
+
 pub programs_follow : {F : Type 0} (acts : ReadActs F) (gives_names : F → Option HostError → F → Type 0) (ended : Option HostError → Type 0)
-    (told : Ending → (waits : Bool) → Option PlayEnd → Type 0) → ProgramsFollowPlans acts gives_names ended told
+    (told : List (List ℕ × NamedFile) → Ending → (waits : Bool) → Option PlayEnd → Type 0) → ProgramsFollowPlans acts gives_names ended told
 programs_follow {F} acts gives_names ended told task io old new status h =
     let p = h.played in
     let r = p.reads in
     let plan = plan_of_play task p.places in
     let I = IsPlanned plan.inputs in
-    let O = IsPlanned plan.outputs in
     let file = planned_if_any Plain (option_map (λ n. n.now) task.file) in
     let places = inputs_of_places p.places in
     let system = planned_if_any Image (option_map (λ n. n.now) task.system) in
@@ -337,7 +398,6 @@ programs_follow {F} acts gives_names ended told task io old new status h =
     let replay = option_map (λ n. n.now) task.replay in
     let script = planned_if_any Plain keys in
     let recording = planned_if_any Plain replay in
-    let outs = map (λ n. n.now) task.outs.items in
     let ins = such_itself plan.inputs in
     let scripted = such_left I (file ++ places ++ system ++ script) recording ins in
     let started = such_left I (file ++ places ++ system) script scripted in
@@ -348,17 +408,6 @@ programs_follow {F} acts gives_names ended told task io old new status h =
     let drive = system_led acts.does plan (option_map (λ n. n.now) task.system) p.g.system r.start.between r.started r.start.system (such_right I (file ++ places) system started) in
     let said = keys_led acts.does plan keys replay p.said r.started h.read r.keys
     (such_both I script recording (such_right I (file ++ places ++ system) script scripted) (such_right I (file ++ places ++ system ++ script) recording ins)) in
-    let recorded_to = planned_if_any Plain (option_map (λ n. n.now) task.record) in
-    let files = drives_such O Image outs h.play.drives (such_left O (all_planned Image outs) recorded_to (such_itself plan.outputs)) in
-    let wrote : IsLed acts.does plan h.read h.written = (h.wrote.0, all_written plan (play_outputs task h.play) h.wrote.0 h.wrote.1 files, h.wrote.2) in
-    let begun = led_on acts.does plan r.seen r.start.begun r.started program (led_on acts.does plan r.start.begun r.start.between r.started disks drive) in (
-      p.places,
-      r.prepared.found,
-      record {
-        seen = r.seen;
-        ended = h.written;
-        sees = r.prepared.sees;
-        calls = led_on acts.does plan r.seen h.read h.written (led_on acts.does plan r.seen r.started h.read begun said) wrote;
-        named = h.named;
-      },
-    )
+    let begun = led_on acts.does plan r.seen r.start.begun r.started program (led_on acts.does plan r.start.begun r.start.between r.started disks drive) in
+    let reads = led_on acts.does plan r.seen r.started h.read begun said in
+    (p.places, r.prepared.found, follows acts gives_names task p.places (task_starts task p.g) h.play.drives old r.seen h.read new h.unwritten (has_no_folder task) r.prepared.sees reads h.left)

@@ -11,40 +11,45 @@ use Rattle.cpm_run.specs.declared.report.SessionReport.{SessionReport}
 use Rattle.cpm_store.specs.Files.{StoreName}
 use Rattle.cpm_store.specs.Log.{StoreAccess}
 use Rattle.cpm_commands.specs.Plan.{Plan}
-use Rattle.cpm_commands.specs.Run.{AreScripts, HasRunAll, IsConfigRead, IsRunPrepared, IsRunStopped, IsRunUnseen, plan_by}
+use Rattle.cpm_batch.specs.declared.source.Replay.{Replay}
+use Rattle.cpm_commands.specs.Run.{ArePlayedBack, AreScripts, HasRunAll, IsConfigRead, IsRunPrepared, IsRunStopped, IsRunUnseen, plan_by}
 use Rattle.cpm_commands.specs.Run.IsRunStopped.{NotBegun, NotSeen}
 
 -- the files were seen to by the names as they are lent
 pub prepared : {F : Type 0} (does : F → StoreAccess → F → Type 0) (sees_to : F → Plan → Option HostError → F → Type 0) (task : RunTask) (old known new : F) (config : Config)
-    (lent scripts : List (String Global)) (fault : Option HostError) → IsConfigRead does task.config.now old known config → AreScripts task config scripts → lent ≡ scripts
-    → sees_to known (plan_by task config lent) fault new → IsRunPrepared does sees_to task old new config scripts fault
-prepared does sees_to task old known new config lent scripts fault read named lent_is sees = record {
+    (lent_back replays : List Replay) (lent scripts : List (String Global)) (fault : Option HostError) → IsConfigRead does task.config.now old known config → ArePlayedBack task config replays
+    → AreScripts task config scripts → lent_back ≡ replays → lent ≡ scripts → sees_to known (plan_by task config lent_back lent) fault new
+    → IsRunPrepared does sees_to task old new config replays scripts fault
+prepared does sees_to task old known new config lent_back replays lent scripts fault read back named back_is lent_is sees = record {
   known = known;
   read = read;
+  played_back = back;
   named = named;
-  sees = subst (λ (ss : List (String Global)). sees_to known (plan_by task config ss) fault new) lent_is sees;
+  sees = subst (λ (rs : List Replay). sees_to known (plan_by task config rs scripts) fault new) back_is
+      (subst (λ (ss : List (String Global)). sees_to known (plan_by task config lent_back ss) fault new) lent_is sees);
 }
 
 -- they were not, or memory was refused before
 pub unseen : {F : Type 0} (does : F → StoreAccess → F → Type 0) (sees_to : F → Plan → Option HostError → F → Type 0) (gives_names : F → Option HostError → F → Type 0) (tells_name : F → StoreName → Bool → Type 0)
     (ended : Option HostError → Type 0) (told : List SessionReport → Type 0) (task : RunTask)
-    (old known new : F) (config : Config) (lent scripts : List (String Global)) (unread left : TypingState) (before printed unrecorded record_now : Option (List ℕ)) (e : HostError)
-    → IsConfigRead does task.config.now old known config → AreScripts task config scripts → lent ≡ scripts → IsRunUnseen sees_to task config lent known new e
-    → AreUntouched (streams unread left before printed unrecorded record_now)
+    (old known new : F) (config : Config) (lent_back replays : List Replay) (lent scripts : List (String Global)) (unread left : TypingState) (before printed unrecorded record_now : Option (List ℕ)) (e : HostError)
+    → IsConfigRead does task.config.now old known config → ArePlayedBack task config replays → AreScripts task config scripts → lent_back ≡ replays → lent ≡ scripts
+    → IsRunUnseen sees_to task config lent_back lent known new e → AreUntouched (streams unread left before printed unrecorded record_now)
     → IsRunStopped does sees_to gives_names tells_name ended told task old new unread left before printed unrecorded record_now e
-unseen does sees_to gives_names tells_name ended told task old known new config lent scripts unread left before printed unrecorded record_now e read named lent_is (inl h) untouched =
+unseen does sees_to gives_names tells_name ended told task old known new config lent_back replays lent scripts unread left before printed unrecorded record_now e read back named back_is lent_is (inl h) untouched =
     NotBegun config (subst (λ x. IsConfigRead does task.config.now old x config) (sym h.1) read) h.0 untouched
-unseen does sees_to gives_names tells_name ended told task old known new config lent scripts unread left before printed unrecorded record_now e read named lent_is (inr h) untouched =
-    NotSeen config scripts (prepared does sees_to task old known new config lent scripts (Some e) read named lent_is h) untouched
+unseen does sees_to gives_names tells_name ended told task old known new config lent_back replays lent scripts unread left before printed unrecorded record_now e read back named back_is lent_is (inr h) untouched =
+    NotSeen config replays scripts (prepared does sees_to task old known new config lent_back replays lent scripts (Some e) read back named back_is lent_is h) untouched
 
 -- the record of what is typed is as it was played
-pub played : {F : Type 0} (does : F → StoreAccess → F → Type 0) (tells_name : F → StoreName → Bool → Type 0) (task : RunTask) (config : Config) (lent scripts : List (String Global)) (report : Report)
-    (unread left : TypingState) (before shown unrecorded recorded record_now : Option (List ℕ)) (seen ran : F) → lent ≡ scripts → record_now ≡ recorded
-    → HasRunAll does tells_name task config lent report (streams unread left before shown unrecorded recorded) seen ran
-    → HasRunAll does tells_name task config scripts report (streams unread left before shown unrecorded record_now) seen ran
-played does tells_name task config lent scripts report unread left before shown unrecorded recorded record_now seen ran lent_is record_is all =
-    subst (λ (r : Option (List ℕ)). HasRunAll does tells_name task config scripts report (streams unread left before shown unrecorded r) seen ran) (sym record_is)
-    (subst (λ (ss : List (String Global)). HasRunAll does tells_name task config ss report (streams unread left before shown unrecorded recorded) seen ran) lent_is all)
+pub played : {F : Type 0} (does : F → StoreAccess → F → Type 0) (tells_name : F → StoreName → Bool → Type 0) (task : RunTask) (config : Config) (lent_back replays : List Replay) (lent scripts : List (String Global))
+    (report : Report) (unread left : TypingState) (before shown unrecorded recorded record_now : Option (List ℕ)) (seen ran : F) → lent_back ≡ replays → lent ≡ scripts → record_now ≡ recorded
+    → HasRunAll does tells_name task config lent_back lent report (streams unread left before shown unrecorded recorded) seen ran
+    → HasRunAll does tells_name task config replays scripts report (streams unread left before shown unrecorded record_now) seen ran
+played does tells_name task config lent_back replays lent scripts report unread left before shown unrecorded recorded record_now seen ran back_is lent_is record_is all =
+    subst (λ (r : Option (List ℕ)). HasRunAll does tells_name task config replays scripts report (streams unread left before shown unrecorded r) seen ran) (sym record_is)
+    (subst (λ (rs : List Replay). HasRunAll does tells_name task config rs scripts report (streams unread left before shown unrecorded recorded) seen ran) back_is
+    (subst (λ (ss : List (String Global)). HasRunAll does tells_name task config lent_back ss report (streams unread left before shown unrecorded recorded) seen ran) lent_is all))
 
 -- where it went well, where it was refused, and what came of it either way
 pub done : {T E : Type 0} (r : Result T E) (P Q : Type 0) → (P → Q) → OnOk r P → OnOk r Q

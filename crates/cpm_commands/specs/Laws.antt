@@ -1,9 +1,12 @@
 -- Laws of the files that commands name. All of it is own.
-use Rattle.std.specs.Prelude.{All, Contains, ℕ, Bool, List, map, Option, None, String}
+use Rattle.std.specs.Prelude.{All, Contains, ℕ, Bool, true, false, List, map, Option, None, String}
 use Rattle.std.specs.declared.alloc.Global.{Global}
+use Rattle.cpm_batch.specs.declared.source.Replay.{Replay}
 use Rattle.cpm_command_line.specs.declared.task.PlayTask.{PlayTask}
 use Rattle.cpm_command_line.specs.declared.task.RunTask.{RunTask}
 use Rattle.cpm_config.specs.declared.config.Config.{Config}
+use Rattle.cpm_disk_commands.specs.declared.damage.NamedFile.{NamedFile}
+use Rattle.cpm_geom.specs.Disk.{Disk}
 use Rattle.cpm_host.specs.declared.error.HostError.{HostError}
 use Rattle.cpm_play.specs.Typist.{TypingState}
 use Rattle.cpm_play.specs.declared.live.PlayEnd.{PlayEnd}
@@ -12,10 +15,12 @@ use Rattle.cpm_run.specs.declared.ending.Ending.{Ending}
 use Rattle.cpm_run.specs.declared.report.SessionReport.{SessionReport}
 use Rattle.cpm_store.specs.Files.{StoreName}
 use Rattle.cpm_store.specs.Log.{StoreAccess, Gave, LogLeadsBy, Missed, Wrote}
+use Rattle.cpm_store.specs.Writes.{NamedBytes}
 use Rattle.cpm_commands.specs.Drives.{ArePlacesFound}
 use Rattle.cpm_commands.specs.Plan.{Plan, PlannedName}
+use Rattle.cpm_commands.specs.Left.{has_no_folder, outputs_with, outs_of, plan_of_left, record_of_play}
 use Rattle.cpm_commands.specs.Play.{HasPlayedTask, ReadActs, plan_of_play}
-use Rattle.cpm_commands.specs.Run.{AreScripts, HasRunSessions, IsConfigRead, plan_by}
+use Rattle.cpm_commands.specs.Run.{ArePlayedBack, AreScripts, HasRunSessions, IsConfigRead, plan_by}
 use Rattle.cpm_commands.specs.declared.drives.DrivePlace.{DrivePlace}
 
 -- one of these files has the name
@@ -43,13 +48,30 @@ abbrev pub RunsFollowPlans : {F : Type 0} → (F → StoreAccess → F → Type 
 RunsFollowPlans {F} does sees_to gives_names tells_name ended told =
     (task : RunTask) (old new : F) (unread left : TypingState) (before printed unrecorded record_now : Option (List ℕ))
     → HasRunSessions does sees_to gives_names tells_name ended told task old new unread left before printed unrecorded record_now
-    → (config : Config) × (scripts : List (String Global)) × (known : F) × IsConfigRead does task.config.now old known config
-    × AreScripts task config scripts × FollowsPlan does sees_to gives_names (plan_by task config scripts) known new
+    → (config : Config) × (replays : List Replay) × (scripts : List (String Global)) × (known : F) × IsConfigRead does task.config.now old known config
+    × ArePlayedBack task config replays × AreScripts task config scripts
+    × FollowsPlan does sees_to gives_names (plan_by task config replays scripts) known new
 
--- a program that has run has followed its plan, by where its drives come from
+-- a program that has run has read the files of its plan; and once it was played it has followed the plan of what it writes
+pub record FollowsTwoPlans {F : Type 0} (does : F → StoreAccess → F → Type 0) (sees_to : F → Plan → Option HostError → F → Type 0)
+    (gives_names : F → Option HostError → F → Type 0) (task : PlayTask) (plan : Plan) (old new : F) : Type 0 where
+  pub seen : F
+  pub read : F
+  pub drives : List (Option Disk)
+  pub left : List NamedBytes
+  pub sees : sees_to old plan None seen
+  pub calls : LogLeadsBy does (All (IsAsPlanned plan)) seen read
+  pub follows : FollowsPlan does sees_to gives_names (plan_of_left (outputs_with (outs_of task) drives left) (record_of_play task)) read new
+
+-- it follows one plan where no files of its drives go into folders, and else two
+abbrev pub FollowsPlans : {F : Type 0} → (has_none : Bool) → ReadActs F → (F → Option HostError → F → Type 0) → PlayTask → Plan → F → F → Type 0
+FollowsPlans {F} true acts gives_names task plan old new = FollowsPlan acts.does acts.sees_to gives_names plan old new
+FollowsPlans {F} false acts gives_names task plan old new = FollowsTwoPlans acts.does acts.sees_to gives_names task plan old new
+
+-- a program that has run has followed its plans, by where its drives come from
 abbrev pub ProgramsFollowPlans : {F : Type 0} → ReadActs F → (F → Option HostError → F → Type 0) → (Option HostError → Type 0)
-    → (Ending → (waits : Bool) → Option PlayEnd → Type 0) → Type 0
+    → (List (List ℕ × NamedFile) → Ending → (waits : Bool) → Option PlayEnd → Type 0) → Type 0
 ProgramsFollowPlans {F} acts gives_names ended told = (task : PlayTask) (io : Streams) (old new : F) (status : ℕ)
     → HasPlayedTask acts gives_names ended told task io old new status
     → (places : List DrivePlace) × ArePlacesFound acts.tells_folder acts.lists old (map (λ n. n.now) task.drives.items) places
-    × FollowsPlan acts.does acts.sees_to gives_names (plan_of_play task places) old new
+    × FollowsPlans (has_no_folder task) acts gives_names task (plan_of_play task places) old new

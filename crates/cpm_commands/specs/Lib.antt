@@ -6,11 +6,14 @@ pub mod Drives
 pub mod Files
 pub mod Get
 pub mod Laws
+pub mod Left
 pub mod List
 pub mod Messages
+pub mod OutFolder
 pub mod Plan
 pub mod Play
 pub mod Record
+pub mod Replays
 pub mod Report
 pub mod Run
 pub mod Task

@@ -12,6 +12,9 @@ use Rattle.cpm_play.specs.declared.typist.TypingEnd.TheVariants.{Quit, InputEnd,
 use Rattle.cpm_run.specs.Ending.{ending_text, illegal_of, illegal_text}
 use Rattle.cpm_run.specs.declared.ending.Ending.{Ending}
 use Rattle.cpm_run.specs.declared.report.SessionReport.{SessionReport}
+use Rattle.cpm_disk_commands.specs.declared.damage.NamedFile.{NamedFile}
+use Rattle.cpm_commands.specs.Drives.{AreToldBy}
+use Rattle.cpm_commands.specs.OutFolder.{IsUnwrittenTold}
 use Rattle.cpm_commands.specs.Report.{waiting_word}
 
 -- ---- of a program
@@ -74,11 +77,13 @@ AreIllegalTold {M} tells (s ∷ ss) old new = (next : M) × IsIllegalTold tells 
 
 -- ---- in a command
 
--- so it was told at last of a program
-pub record HasToldEnd {M : Type 0} (tells : M → List ℕ → M → Type 0) (is_read : M → Bool) (task : PlayTask) (e : Ending) (waits : Bool) (end : Option PlayEnd)
-    (new : M) : Type 0 where
+-- so it was told at last of a program: the files that are not written, and how it ended
+pub record HasToldEnd {M : Type 0} (tells : M → List ℕ → M → Type 0) (is_read : M → Bool) (task : PlayTask) (unwritten : List (List ℕ × NamedFile))
+    (e : Ending) (waits : Bool) (end : Option PlayEnd) (new : M) : Type 0 where
   pub before : M
-  pub told : IsEndTold tells is_read task e waits end before new
+  pub between : M
+  pub unwritten_told : AreToldBy (IsUnwrittenTold tells) unwritten before between
+  pub told : IsEndTold tells is_read task e waits end between new
 
 -- and of sessions
 pub record HasToldIllegal {M : Type 0} (tells : M → List ℕ → M → Type 0) (sessions : List SessionReport) (new : M) : Type 0 where

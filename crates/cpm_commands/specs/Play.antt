@@ -1,8 +1,8 @@
 -- What the commands `com` and `boot` do. All of it is own.
 use Rattle.std.specs.Prelude.{◌≡◌, ◌⊎◌, ◌^◌, ◌-◌, ◌==◌, ◌&&◌, ◌||◌, not, is_some, unwrap_or, if◌then◌else◌, ℕ, Bool, true, false, List, []}
-use Rattle.std.specs.Prelude.{◌++◌, length, map, flat_map, zip, option_map, Option, Some, None, Ok}
-use Rattle.cpm_batch.specs.Outputs.{named_image}
+use Rattle.std.specs.Prelude.{◌++◌, length, map, option_map, Option, Some, None, Ok}
 use Rattle.cpm_command_line.specs.declared.task.PlayTask.{PlayTask}
+use Rattle.cpm_disk_commands.specs.declared.damage.NamedFile.{NamedFile}
 use Rattle.cpm_geom.specs.Disk.{Disk}
 use Rattle.cpm_host.specs.Program.{AreRecorded, IsCueRefusal, IsRecordingRefusal, IsPlayedBy, IsProgramPlayRefusal, IsProgramRefusal, ProgramInput}
 use Rattle.cpm_host.specs.Program.{machine_of, system_disk}
@@ -21,35 +21,43 @@ use Rattle.cpm_run.specs.declared.ending.Ending.{Ending}
 use Rattle.cpm_script.specs.Cues.{cue_text, cues}
 use Rattle.cpm_script.specs.declared.cue.Cue.{Cue}
 use Rattle.cpm_store.specs.Files.{StoreName}
-use Rattle.cpm_store.specs.Log.{StoreAccess, AreWrites, Gave, LogLeadsBy, Missed}
-use Rattle.cpm_store.specs.Writes.{NamedBytes}
+use Rattle.cpm_store.specs.Log.{StoreAccess, Gave, Missed}
 use Rattle.cpm_commands.specs.Disk.{IsDiskRead, IsDiskUnread}
 use Rattle.cpm_commands.specs.Drives.{AreDrivesRead, AreDrivesRefused, ArePlacesFound, ArePlacesUnfound, inputs_of_places}
-use Rattle.cpm_commands.specs.Files.{IsUnread, IsWritingStopped}
+use Rattle.cpm_commands.specs.Files.{IsUnread}
+use Rattle.cpm_commands.specs.Left.{IsPlayLeft, IsPlayUnleft, WriteActs}
+use Rattle.cpm_commands.specs.OutFolder.{folder_view, folder_starts_of}
 use Rattle.cpm_commands.specs.Plan.{Plan, all_planned, planned_if_any}
 use Rattle.cpm_commands.specs.Record.{IsUnrecorded}
 use Rattle.cpm_commands.specs.declared.drives.DrivePlace.{DrivePlace}
-use Rattle.cpm_commands.specs.declared.plan.FileRole.TheVariants.{Image, Plain}
+use Rattle.cpm_commands.specs.declared.plan.FileRole.TheVariants.{Folder, Image, Plain}
 use Rattle.cpm_commands.specs.declared.plan.OutputNaming.TheVariants.{Replaces}
+use Rattle.cpm_commands.specs.declared.play.StartedPlay.{StartedPlay}
 
 -- ---- what is asked
 
--- the program is read and what its drives come from, the system drive, a script and a recording; its drives are written, and the record of its keys
+-- the program is read and what its drives come from, the system drive, a script and a recording; its drives are written, files of them into folders, and the
+-- record of its keys
 abbrev pub plan_of_play : PlayTask → List DrivePlace → Plan
 plan_of_play task places = record {
   inputs = planned_if_any Plain (option_map (λ n. n.now) task.file) ++ inputs_of_places places
       ++ planned_if_any Image (option_map (λ n. n.now) task.system)
       ++ planned_if_any Plain (option_map (λ n. n.now) task.keys) ++ planned_if_any Plain (option_map (λ n. n.now) task.replay);
-  outputs = all_planned Image (map (λ n. n.now) task.outs.items) ++ planned_if_any Plain (option_map (λ n. n.now) task.record);
+  outputs = all_planned Image (map (λ n. n.now) task.outs.items) ++ all_planned Folder (map (λ n. n.now) task.out_folders.items)
+      ++ planned_if_any Plain (option_map (λ n. n.now) task.record);
   naming = Replaces;
 }
 
+-- files are named for its drives, or folders
+abbrev pub writes_disks : PlayTask → Bool
+writes_disks task = not (length task.outs.items == 0) || not (length task.out_folders.items == 0)
+
 -- how many steps it has at most where nobody says: there is no limit where a person ends it, and where its disks are written
-abbrev pub unasked_steps : (is_live : Bool) → (outs : ℕ) → ℕ
-unasked_steps is_live outs = if is_live || not (outs == 0) then 2 ^ 64 - 1 else 1000000
+abbrev pub unasked_steps : (is_live writes : Bool) → ℕ
+unasked_steps is_live writes = if is_live || writes then 2 ^ 64 - 1 else 1000000
 
 abbrev pub steps_asked : PlayTask → ℕ
-steps_asked task = unwrap_or task.steps (unasked_steps task.is_live (length task.outs.items))
+steps_asked task = unwrap_or task.steps (unasked_steps task.is_live (writes_disks task))
 
 -- its keys are those of its script, and then those that are typed where that is asked
 abbrev pub source_of : PlayTask → List Cue → Source → Type 0
@@ -156,7 +164,7 @@ is_cut_off task play = is_some task.steps && is_running play.ending.ended && not
 
 -- its disks were to be written, but not in part
 abbrev pub is_kept_back : PlayTask → ProgramPlay → Bool
-is_kept_back task play = not (length task.outs.items == 0) && not task.is_partial && is_cut_off task play
+is_kept_back task play = writes_disks task && not task.is_partial && is_cut_off task play
 
 -- the exit status that tells how a program ended
 abbrev pub status_of_end : End → ℕ
@@ -170,16 +178,6 @@ status_of_end CountEnd = 14
 -- which is given where it is asked for
 abbrev pub status_of : PlayTask → Ending → ℕ
 status_of task e = if task.has_status then status_of_end e.ended else 0
-
--- ---- what is written
-
--- the image of each drive, A first, to the file that is named at its place, as far as there are both
-abbrev pub drive_outputs : List StoreName → List (Option Disk) → List NamedBytes
-drive_outputs names drives = flat_map (λ p. named_image (Some p.0) p.1) (zip names drives)
-
--- what is written once a program was played
-abbrev pub play_outputs : PlayTask → ProgramPlay → List NamedBytes
-play_outputs task play = drive_outputs (map (λ n. n.now) task.outs.items) play.drives
 
 -- ---- the command
 
@@ -237,23 +235,45 @@ pub data IsPlayStopped {F : Type 0} (acts : ReadActs F) (task : PlayTask) (io : 
   NoKeys : (places : List DrivePlace) (seen started : F) (tail : Option (List ℕ)) (g : ProgramInput) → IsPlayPrepared acts task places old seen
       → IsStartRead acts.does task places tail seen started g → AreKeysRefused acts.does task started new e → AreUntouched io
       → IsPlayStopped acts task io old new e
+  -- memory was refused for its drives as it begins with them
+  NoRoom : (places : List DrivePlace) (g : ProgramInput) (said : List Cue) → IsPlayRead acts task places old new g said → e ≡ OutOfMemory → AreUntouched io
+      → IsPlayStopped acts task io old new e
   -- it was not played to its end
   NotPlayed : (places : List DrivePlace) (g : ProgramInput) (said : List Cue) (source : Source) → IsPlayRead acts task places old new g said
       → source_of task said source → IsProgramPlayRefusal source g (steps_asked task) io e → IsPlayStopped acts task io old new e
 
--- A program was played, and then the record of its keys was ended, and its drives were written, and got their names: it was not cut off, or they are written
--- in part. It was told how it ended, and whether it was to stop where it waits, and did; and the status is given.
+-- the folders, each with its drive as the machine began with it
+abbrev pub task_starts : PlayTask → ProgramInput → List (StoreName × Option Disk)
+task_starts task g = folder_starts_of (map (λ n. n.now) task.out_folders.items) g.drives
+
+abbrev pub write_acts : {F : Type 0} → ReadActs F → (F → Option HostError → F → Type 0) → WriteActs F
+write_acts {F} acts gives_names = record {
+  does = acts.does;
+  sees_to = acts.sees_to;
+  gives_names = gives_names;
+  lists = acts.lists;
+  unlists = acts.unlists;
+}
+
+-- it was played so, and the drives at the start of it are these, as far as there are folders
+pub record HasPlayedWith {F : Type 0} (acts : ReadActs F) (task : PlayTask) (io : Streams) (old new : F) (p : StartedPlay) : Type 0 where
+  pub played : HasPlayedMachine acts task io old new p.play
+  pub starts : map folder_view p.starts.items ≡ task_starts task played.g
+
+-- A program was played, and then the record of its keys was ended, and its drives were written, or files of them, and got their names: it was not cut off, or
+-- they are written in part. It was told which files were not written, how it ended, and whether it was to stop where it waits, and did; and the status is
+-- given.
 pub record HasPlayedTask {F : Type 0} (acts : ReadActs F) (gives_names : F → Option HostError → F → Type 0) (ended : Option HostError → Type 0)
-    (told : Ending → (waits : Bool) → Option PlayEnd → Type 0) (task : PlayTask) (io : Streams) (old new : F) (status : ℕ) : Type 0 where
+    (told : List (List ℕ × NamedFile) → Ending → (waits : Bool) → Option PlayEnd → Type 0) (task : PlayTask) (io : Streams) (old new : F) (status : ℕ)
+    : Type 0 where
   pub read : F
-  pub written : F
   pub play : ProgramPlay
+  pub unwritten : List (List ℕ × NamedFile)
   pub played : HasPlayedMachine acts task io old read play
   pub recorded : ended None
   pub whole : is_kept_back task play ≡ false
-  pub wrote : LogLeadsBy acts.does (AreWrites (play_outputs task play)) read written
-  pub named : gives_names written None new
-  pub tells : told play.ending (play.waits && task.stops_idle) play.end
+  pub left : IsPlayLeft (write_acts acts gives_names) task (task_starts task played.g) play.drives read new unwritten
+  pub tells : told unwritten play.ending (play.waits && task.stops_idle) play.end
   pub gives : status ≡ status_of task play.ending
 
 -- how far it came that was refused
@@ -267,11 +287,7 @@ pub data IsPlayRefused {F : Type 0} (acts : ReadActs F) (gives_names : F → Opt
   -- it was cut off, so that nothing was written but that record
   KeptBack : (play : ProgramPlay) → HasPlayedMachine acts task io old new play → ended None → is_kept_back task play ≡ true → e ≡ CutOff play.steps
       → IsPlayRefused acts gives_names ended task io old new e
-  -- a drive can't be written
-  NotWritten : (play : ProgramPlay) (read : F) → HasPlayedMachine acts task io old read play → ended None
-      → is_kept_back task play ≡ false → IsWritingStopped acts.does (play_outputs task play) read new e
-      → IsPlayRefused acts gives_names ended task io old new e
-  -- or can't have its name
-  NotNamed : (play : ProgramPlay) (read written : F) → HasPlayedMachine acts task io old read play → ended None
-      → is_kept_back task play ≡ false → LogLeadsBy acts.does (AreWrites (play_outputs task play)) read written → gives_names written (Some e) new
+  -- what was played can't be written, or can't have its names
+  NotLeft : (play : ProgramPlay) (read : F) → (played : HasPlayedMachine acts task io old read play) → ended None → is_kept_back task play ≡ false
+      → IsPlayUnleft (write_acts acts gives_names) task (task_starts task played.g) play.drives read new e
       → IsPlayRefused acts gives_names ended task io old new e

@@ -2,6 +2,8 @@
 use Rattle.std.specs.Prelude.{◌≡◌, ◌⊎◌, ℕ, Bool, ◌&&◌, List, [], ◌∷◌, ◌++◌, codes, flat_map, is_some, map, option_map, string_bytes, zip}
 use Rattle.std.specs.Prelude.{Option, Some, None, Ok, Err, String, Vec}
 use Rattle.std.specs.declared.alloc.Global.{Global}
+use Rattle.cpm_batch.specs.Sources.{key_file, key_source}
+use Rattle.cpm_batch.specs.declared.source.Replay.{Replay}
 use Rattle.cpm_command_line.specs.declared.task.RunTask.{RunTask}
 use Rattle.cpm_config.specs.Rules.{IsRead}
 use Rattle.cpm_config.specs.declared.config.Config.{Config}
@@ -26,6 +28,7 @@ use Rattle.cpm_store.specs.Log.{StoreAccess, Gave, Missed}
 use Rattle.cpm_commands.specs.Files.{IsUnread}
 use Rattle.cpm_commands.specs.Plan.{PlannedName, Plan, all_planned, planned, planned_if_any}
 use Rattle.cpm_commands.specs.Record.{IsUnrecorded}
+use Rattle.cpm_commands.specs.Replays.{IsReplayRefusal, replay_view, replays_from}
 use Rattle.cpm_commands.specs.Report.{IsReported, IsUnprinted, report_text}
 use Rattle.cpm_commands.specs.Typed.{IsScriptKept, is_typed_at, typed_script}
 use Rattle.cpm_commands.specs.declared.plan.FileRole.TheVariants.{Configuration, Image, Plain, Script}
@@ -54,9 +57,9 @@ abbrev pub images_named : Option (Vec (String Global) Global) → List StoreName
 images_named None = []
 images_named (Some names) = map string_bytes names.items
 
--- what a session reads: its drives, and its script
-abbrev pub session_inputs : SessionConfig → List PlannedName
-session_inputs s = all_planned Image (drives_named s.origin) ++ planned_if_any Plain (option_map string_bytes s.keys)
+-- what a session reads: its drives, and its script, or the recording in place of that
+abbrev pub session_inputs : List Replay → SessionConfig → List PlannedName
+session_inputs replays s = all_planned Image (drives_named s.origin) ++ planned_if_any Plain (key_file (key_source replays s))
 
 -- what it writes: the text of its console, that of its list device, and its drives, as far as files are named for them
 abbrev pub session_outputs : SessionConfig → List PlannedName
@@ -64,17 +67,18 @@ session_outputs s =
     planned (string_bytes s.console) Plain ∷ (planned_if_any Plain (option_map string_bytes s.list) ++ all_planned Image (images_named s.out))
 
 -- what a run reads, in this order: the configuration, the system drive, and what each session does
-abbrev pub run_inputs : StoreName → Config → List PlannedName
-run_inputs file config = planned file Configuration ∷ planned (string_bytes config.system) Image ∷ flat_map session_inputs config.sessions.items
+abbrev pub run_inputs : StoreName → Config → List Replay → List PlannedName
+run_inputs file config replays =
+    planned file Configuration ∷ planned (string_bytes config.system) Image ∷ flat_map (session_inputs replays) config.sessions.items
 
 -- what it writes, in this order: what each session leaves, the record of what is typed, and the script of each session
 abbrev pub run_outputs : Config → Option StoreName → (scripts : List StoreName) → List PlannedName
 run_outputs config record_name scripts =
     flat_map session_outputs config.sessions.items ++ (planned_if_any Plain record_name ++ all_planned Script scripts)
 
-abbrev pub plan_of_run : StoreName → Config → Option StoreName → (scripts : List StoreName) → Plan
-plan_of_run file config record_name scripts = record {
-  inputs = run_inputs file config;
+abbrev pub plan_of_run : StoreName → Config → List Replay → Option StoreName → (scripts : List StoreName) → Plan
+plan_of_run file config replays record_name scripts = record {
+  inputs = run_inputs file config replays;
   outputs = run_outputs config record_name scripts;
   naming = Replaces;
 }
@@ -94,10 +98,11 @@ abbrev pub record_marks : (is_kept : Bool) → Option StoreName → List (Sessio
 record_marks is_kept typed sessions = map (λ p. (string_bytes p.1, is_typed_at typed p.0 && is_kept)) sessions
 
 -- the options of a run are those of the command line
-pub record IsAsked (tells_name : StoreName → Bool → Type 0) (task : RunTask) (sessions : List SessionConfig) (scripts : List (String Global))
-    (options : RunOptions) : Type 0 where
+pub record IsAsked (tells_name : StoreName → Bool → Type 0) (task : RunTask) (sessions : List SessionConfig) (replays : List Replay)
+    (scripts : List (String Global)) (options : RunOptions) : Type 0 where
   pub typed : option_map (λ n. n.now) options.typed ≡ option_map (λ n. n.now) task.keyboard
   pub idle : options.stops_idle ≡ task.stops_idle
+  pub played_back : options.replays.now ≡ replays
   -- the script of the session that is typed at, if something has its name
   pub kept : Option StoreName
   pub kept_is : IsScriptKept tells_name (typed_script (option_map (λ n. n.now) task.keyboard) (zip sessions scripts)) kept
@@ -107,25 +112,25 @@ pub record IsAsked (tells_name : StoreName → Bool → Type 0) (task : RunTask)
 
 -- its sessions ran so
 pub record HasRunAll {F : Type 0} (does : F → StoreAccess → F → Type 0) (tells_name : F → StoreName → Bool → Type 0) (task : RunTask) (config : Config)
-    (scripts : List (String Global)) (report : Report) (io : Streams) (old new : F) : Type 0 where
+    (replays : List Replay) (scripts : List (String Global)) (report : Report) (io : Streams) (old new : F) : Type 0 where
   pub options : RunOptions
-  pub asked : IsAsked (tells_name old) task config.sessions.items scripts options
+  pub asked : IsAsked (tells_name old) task config.sessions.items replays scripts options
   pub accessed : HasAccessed does config options report io old new
 
 -- the run was refused, and has come so far
 pub record IsRunRefused {F : Type 0} (does : F → StoreAccess → F → Type 0) (tells_name : F → StoreName → Bool → Type 0) (task : RunTask) (config : Config)
-    (scripts : List (String Global)) (io : Streams) (old new : F) (e : HostError) : Type 0 where
+    (replays : List Replay) (scripts : List (String Global)) (io : Streams) (old new : F) (e : HostError) : Type 0 where
   pub options : RunOptions
-  pub asked : IsAsked (tells_name old) task config.sessions.items scripts options
+  pub asked : IsAsked (tells_name old) task config.sessions.items replays scripts options
   pub error : RunError
   pub told : e ≡ host_error_of_run error
   pub stopped : IsStoppedRun does config options io old new error
 
 -- or memory was refused before it, and nothing was read or written
-abbrev pub IsRunAllStopped : {F : Type 0} → (F → StoreAccess → F → Type 0) → (F → StoreName → Bool → Type 0) → RunTask → Config → List (String Global)
-    → Streams → F → F → HostError → Type 0
-IsRunAllStopped {F} does tells_name task config scripts io old new e =
-    ((e ≡ OutOfMemory) × (new ≡ old) × AreUntouched io) ⊎ IsRunRefused does tells_name task config scripts io old new e
+abbrev pub IsRunAllStopped : {F : Type 0} → (F → StoreAccess → F → Type 0) → (F → StoreName → Bool → Type 0) → RunTask → Config → List Replay
+    → List (String Global) → Streams → F → F → HostError → Type 0
+IsRunAllStopped {F} does tells_name task config replays scripts io old new e =
+    ((e ≡ OutOfMemory) × (new ≡ old) × AreUntouched io) ⊎ IsRunRefused does tells_name task config replays scripts io old new e
 
 -- what was written can't have its names; or it has them, but what is told of it can't be printed
 abbrev pub IsEndStopped : {F : Type 0} → (F → Option HostError → F → Type 0) → F → F → HostError → Type 0
@@ -135,21 +140,27 @@ IsEndStopped {F} gives_names old new e = gives_names old (Some e) new ⊎ (gives
 abbrev pub AreScripts : RunTask → Config → List (String Global) → Type 0
 AreScripts task config scripts = map string_bytes scripts ≡ script_names (option_map (λ n. n.now) task.scripts) config.sessions.items
 
-abbrev pub plan_by : RunTask → Config → List (String Global) → Plan
-plan_by task config scripts = plan_of_run task.config.now config (option_map (λ n. n.now) task.record) (map string_bytes scripts)
+-- the sessions that are played by recordings are those that its words name
+abbrev pub ArePlayedBack : RunTask → Config → List Replay → Type 0
+ArePlayedBack task config replays = replays_from config.sessions.items [] (map (λ w. w.now) task.replays.items) ≡ Ok (map replay_view replays)
+
+abbrev pub plan_by : RunTask → Config → List Replay → List (String Global) → Plan
+plan_by task config replays scripts = plan_of_run task.config.now config replays (option_map (λ n. n.now) task.record) (map string_bytes scripts)
 
 -- its files can't be what they are to be, or memory was refused before
-abbrev pub IsRunUnseen : {F : Type 0} → (F → Plan → Option HostError → F → Type 0) → RunTask → Config → List (String Global) → F → F → HostError → Type 0
-IsRunUnseen {F} sees_to task config scripts old new e =
-    ((e ≡ OutOfMemory) × (new ≡ old)) ⊎ sees_to old (plan_by task config scripts) (Some e) new
+abbrev pub IsRunUnseen : {F : Type 0} → (F → Plan → Option HostError → F → Type 0) → RunTask → Config → List Replay → List (String Global) → F → F → HostError
+    → Type 0
+IsRunUnseen {F} sees_to task config replays scripts old new e =
+    ((e ≡ OutOfMemory) × (new ≡ old)) ⊎ sees_to old (plan_by task config replays scripts) (Some e) new
 
 -- the configuration was read, and its files were seen to
 pub record IsRunPrepared {F : Type 0} (does : F → StoreAccess → F → Type 0) (sees_to : F → Plan → Option HostError → F → Type 0) (task : RunTask)
-    (old new : F) (config : Config) (scripts : List (String Global)) (fault : Option HostError) : Type 0 where
+    (old new : F) (config : Config) (replays : List Replay) (scripts : List (String Global)) (fault : Option HostError) : Type 0 where
   pub known : F
   pub read : IsConfigRead does task.config.now old known config
+  pub played_back : ArePlayedBack task config replays
   pub named : AreScripts task config scripts
-  pub sees : sees_to known (plan_by task config scripts) fault new
+  pub sees : sees_to known (plan_by task config replays scripts) fault new
 
 -- And then its sessions ran, what they left got its names, and each is reported; the bytes at which one ended that are no instruction were told; and the
 -- record of what was typed was ended.
@@ -158,13 +169,14 @@ pub record HasRunSessions {F : Type 0} (does : F → StoreAccess → F → Type 
     (told : List SessionReport → Type 0) (task : RunTask) (old new : F) (unread left : TypingState)
     (before printed unrecorded record_now : Option (List ℕ)) : Type 0 where
   pub config : Config
+  pub replays : List Replay
   pub scripts : List (String Global)
   pub seen : F
   pub ran : F
   pub report : Report
   pub shown : Option (List ℕ)
-  pub prepared : IsRunPrepared does sees_to task old seen config scripts None
-  pub played : HasRunAll does tells_name task config scripts report (streams unread left before shown unrecorded record_now) seen ran
+  pub prepared : IsRunPrepared does sees_to task old seen config replays scripts None
+  pub played : HasRunAll does tells_name task config replays scripts report (streams unread left before shown unrecorded record_now) seen ran
   pub named : gives_names ran None new
   pub printed_so : IsReported shown printed (report_text (zip report.sessions.items report.idle.items))
   pub tells : told report.sessions.items
@@ -182,24 +194,31 @@ pub data IsRunStopped {F : Type 0} (does : F → StoreAccess → F → Type 0) (
   NotBegun : (config : Config) → IsConfigRead does task.config.now old new config → e ≡ OutOfMemory
       → AreUntouched (streams unread left before printed unrecorded record_now)
       → IsRunStopped does sees_to gives_names tells_name ended told task old new unread left before printed unrecorded record_now e
+  -- a recording is named wrongly
+  NoReplays : (config : Config) → IsConfigRead does task.config.now old new config
+      → IsReplayRefusal config.sessions.items (map (λ w. w.now) task.replays.items) e
+      → AreUntouched (streams unread left before printed unrecorded record_now)
+      → IsRunStopped does sees_to gives_names tells_name ended told task old new unread left before printed unrecorded record_now e
   -- its files can't be what they are to be
-  NotSeen : (config : Config) (scripts : List (String Global)) → IsRunPrepared does sees_to task old new config scripts (Some e)
+  NotSeen : (config : Config) (replays : List Replay) (scripts : List (String Global)) → IsRunPrepared does sees_to task old new config replays scripts (Some e)
       → AreUntouched (streams unread left before printed unrecorded record_now)
       → IsRunStopped does sees_to gives_names tells_name ended told task old new unread left before printed unrecorded record_now e
   -- its sessions can't run, or can't be written
-  NotRun : (config : Config) (scripts : List (String Global)) (seen : F) → IsRunPrepared does sees_to task old seen config scripts None
-      → IsRunAllStopped does tells_name task config scripts (streams unread left before printed unrecorded record_now) seen new e
+  NotRun : (config : Config) (replays : List Replay) (scripts : List (String Global)) (seen : F)
+      → IsRunPrepared does sees_to task old seen config replays scripts None
+      → IsRunAllStopped does tells_name task config replays scripts (streams unread left before printed unrecorded record_now) seen new e
       → IsRunStopped does sees_to gives_names tells_name ended told task old new unread left before printed unrecorded record_now e
   -- what they left can't have its names, or can't be told
-  NotEnded : (config : Config) (scripts : List (String Global)) (seen ran : F) (report : Report) (shown : Option (List ℕ)) (fault : Option HostError)
-      → IsRunPrepared does sees_to task old seen config scripts None
-      → HasRunAll does tells_name task config scripts report (streams unread left before shown unrecorded record_now) seen ran
+  NotEnded : (config : Config) (replays : List Replay) (scripts : List (String Global)) (seen ran : F) (report : Report) (shown : Option (List ℕ))
+      (fault : Option HostError)
+      → IsRunPrepared does sees_to task old seen config replays scripts None
+      → HasRunAll does tells_name task config replays scripts report (streams unread left before shown unrecorded record_now) seen ran
       → IsEndStopped gives_names ran new e → told report.sessions.items → ended fault
       → IsRunStopped does sees_to gives_names tells_name ended told task old new unread left before printed unrecorded record_now e
   -- it has its names and is told, but the record of what was typed can't have its own
-  NotRecorded : (config : Config) (scripts : List (String Global)) (seen ran : F) (report : Report) (shown : Option (List ℕ))
-      → IsRunPrepared does sees_to task old seen config scripts None
-      → HasRunAll does tells_name task config scripts report (streams unread left before shown unrecorded record_now) seen ran
+  NotRecorded : (config : Config) (replays : List Replay) (scripts : List (String Global)) (seen ran : F) (report : Report) (shown : Option (List ℕ))
+      → IsRunPrepared does sees_to task old seen config replays scripts None
+      → HasRunAll does tells_name task config replays scripts report (streams unread left before shown unrecorded record_now) seen ran
       → gives_names ran None new → IsReported shown printed (report_text (zip report.sessions.items report.idle.items)) → told report.sessions.items
       → ended (Some e) → IsUnrecorded e
       → IsRunStopped does sees_to gives_names tells_name ended told task old new unread left before printed unrecorded record_now e

@@ -7,6 +7,7 @@ use Rattle.cpm_command_line.specs.declared.task.DiskTask.TheVariants.{New, List 
 use Rattle.cpm_command_line.specs.declared.task.PlayTask.{PlayTask}
 use Rattle.cpm_command_line.specs.declared.task.Task.{Task}
 use Rattle.cpm_command_line.specs.declared.task.Task.TheVariants.{Com, Boot, Asm, List as Lines, Check, Run, Debug, Disk, Help}
+use Rattle.cpm_disk_commands.specs.declared.damage.NamedFile.{NamedFile}
 use Rattle.cpm_host.specs.declared.error.HostError.{HostError}
 use Rattle.cpm_play.specs.declared.live.PlayEnd.{PlayEnd}
 use Rattle.cpm_run.specs.Settled.{Streams}
@@ -43,7 +44,7 @@ pub record FileActs (F : Type 0) : Type 1 where
 pub record ToldActs : Type 1 where
   pub ended : Option HostError → Type 0
   pub told_left_out : List DrivePlace → Type 0
-  pub told_end : PlayTask → Ending → (waits : Bool) → Option PlayEnd → Type 0
+  pub told_end : PlayTask → List (List ℕ × NamedFile) → Ending → (waits : Bool) → Option PlayEnd → Type 0
   pub told_illegal : List SessionReport → Type 0
 
 -- those by which a program is read
@@ -82,14 +83,14 @@ with_status (Err e) = Err e
 abbrev pub IsDiskTaskDone : {F W : Type 0} → FileActs F → Passage F W → DiskTask → Type 0
 IsDiskTaskDone {F} {W} acts p (New image is_large) =
     HasMadeDisk acts.does acts.sees_to acts.gives_names image.now is_large p.old p.new × IsSilent p
-IsDiskTaskDone {F} {W} acts p (Listing image user) = HasListedDisk acts.does image.now user p.old p.new p.io.before p.io.written
+IsDiskTaskDone {F} {W} acts p (Listing image user) = HasListedDisk acts.does image.now user p.old p.new p.io.before.console p.io.written.console
 IsDiskTaskDone {F} {W} acts p (Put image files user is_text is_read_only is_system) =
     HasChanged acts.does acts.sees_to acts.gives_names image.now
     (ArePut acts.does user (record { is_text = is_text; is_read_only = is_read_only; is_system = is_system }) [] (map (λ w. w.now) files.items)) p.old p.new
     × IsSilent p
 IsDiskTaskDone {F} {W} acts p (Get image names user is_text to is_forced is_dry) =
     HasGot acts.does acts.sees_to acts.gives_names image.now (map (λ w. w.now) names.items) user
-    (record { is_text = is_text; to = to; is_forced = is_forced; is_dry = is_dry }) p.old p.new p.io.before p.io.written p.out p.out_now
+    (record { is_text = is_text; to = to; is_forced = is_forced; is_dry = is_dry }) p.old p.new p.io.before.console p.io.written.console p.out p.out_now
 IsDiskTaskDone {F} {W} acts p (Remove image names user) =
     HasChanged acts.does acts.sees_to acts.gives_names image.now (HasRemoved (map (λ w. w.now) names.items) user) p.old p.new × IsSilent p
 IsDiskTaskDone {F} {W} acts p (Rename image change user) =
@@ -101,15 +102,15 @@ IsPlainTaskDone {F} {W} acts told p (Com task) = ⊥
 IsPlainTaskDone {F} {W} acts told p (Boot task) = ⊥
 IsPlainTaskDone {F} {W} acts told p (Asm source out list) =
     HasAssembled acts.does acts.sees_to acts.gives_names source.now out.now (option_map (λ n. n.now) list) p.old p.new × IsSilent p
-IsPlainTaskDone {F} {W} acts told p (Lines file cpu) = HasListed acts.does file.now cpu p.old p.new p.io.before p.io.written
-IsPlainTaskDone {F} {W} acts told p (Check image) = HasChecked acts.does image.now p.old p.new p.io.before p.io.written
+IsPlainTaskDone {F} {W} acts told p (Lines file cpu) = HasListed acts.does file.now cpu p.old p.new p.io.before.console p.io.written.console
+IsPlainTaskDone {F} {W} acts told p (Check image) = HasChecked acts.does image.now p.old p.new p.io.before.console p.io.written.console
 IsPlainTaskDone {F} {W} acts told p (Run task) =
     HasRunSessions acts.does acts.sees_to acts.gives_names acts.tells_name told.ended told.told_illegal task p.old p.new
-    p.io.unread p.io.left p.io.before p.io.written p.io.unrecorded p.io.record_now
+    p.io.unread p.io.left p.io.before.console p.io.written.console p.io.unrecorded p.io.record_now
 IsPlainTaskDone {F} {W} acts told p (Debug file cpu list) =
-    HasDebugged acts.does file.now cpu (option_map (λ n. n.now) list) p.old p.new p.unread p.io.before p.io.written
+    HasDebugged acts.does file.now cpu (option_map (λ n. n.now) list) p.old p.new p.unread p.io.before.console p.io.written.console
 IsPlainTaskDone {F} {W} acts told p (Disk task) = IsDiskTaskDone acts p task
-IsPlainTaskDone {F} {W} acts told p (Help page) = (p.new ≡ p.old) × Appends p.io.before p.io.written (text_of_page page)
+IsPlainTaskDone {F} {W} acts told p (Help page) = (p.new ≡ p.old) × Appends p.io.before.console p.io.written.console (text_of_page page)
 
 -- The command that the words name, by their values, and no other; and the exit status.
 abbrev pub IsTaskDone : {F W : Type 0} → FileActs F → ToldActs → Passage F W → Task → (status : ℕ) → Type 0
@@ -150,8 +151,8 @@ IsTaskRefused {F} {W} acts told p (Lines file cpu) e = IsListRefused acts.does f
 IsTaskRefused {F} {W} acts told p (Check image) e = IsCheckRefused acts.does image.now p.old p.new p.out p.out_now e
 IsTaskRefused {F} {W} acts told p (Run task) e =
     IsRunStopped acts.does acts.sees_to acts.gives_names acts.tells_name told.ended told.told_illegal task p.old p.new
-    p.io.unread p.io.left p.io.before p.io.written p.io.unrecorded p.io.record_now e
+    p.io.unread p.io.left p.io.before.console p.io.written.console p.io.unrecorded p.io.record_now e
 IsTaskRefused {F} {W} acts told p (Debug file cpu list) e =
-    IsDebugRefused acts.does file.now cpu (option_map (λ n. n.now) list) p.old p.new p.unread p.io.before p.io.written p.out p.out_now e
+    IsDebugRefused acts.does file.now cpu (option_map (λ n. n.now) list) p.old p.new p.unread p.io.before.console p.io.written.console p.out p.out_now e
 IsTaskRefused {F} {W} acts told p (Disk task) e = IsDiskTaskRefused acts p task e
 IsTaskRefused {F} {W} acts told p (Help page) e = (p.new ≡ p.old) × IsUnprinted e

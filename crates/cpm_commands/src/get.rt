@@ -159,7 +159,7 @@ fn take_named<F: CommandFiles>(
 }
 
 /// What is written of files that were taken.
-fn outputs_of<'a>(
+pub(crate) fn outputs_of<'a>(
     alloc: Global,
     paths: &'a [String],
     contents: Vec<Vec<u8>>,

@@ -15,7 +15,8 @@ pub fn runs_follow_plans<F: CommandFiles, R: KeyRecord, T: Messages>()
         (HasEndedRecord R.ends R.contents (R.contents typed) typed) (λ sessions. HasToldIllegal T.tells sessions told) }
 {}
 
-/// The same of a program that has run, by whatever task.
+/// The same of a program that has run, by whatever task. Where files of its drives go into folders, it follows a second plan once it was played: it names all
+/// that is written.
 pub fn programs_follow_plans<F: CommandFiles, R: KeyRecord, T: Messages>()
     ensures { (typed : R) → (untold told : T) → (task : PlayTask) → ProgramsFollowPlans
         (record {
@@ -27,5 +28,5 @@ pub fn programs_follow_plans<F: CommandFiles, R: KeyRecord, T: Messages>()
           told_left_out = λ places. HasToldLeftOut T.tells untold places;
         })
         F.gives_names (HasEndedRecord R.ends R.contents (R.contents typed) typed)
-        (λ ending waits end. HasToldEnd T.tells T.is_read task ending waits end told) }
+        (λ unwritten ending waits end. HasToldEnd T.tells T.is_read task unwritten ending waits end told) }
 {}

@@ -24,6 +24,8 @@ pub enum FileRole {
     Image,
     /// A key script in the folder that a run writes its scripts to.
     Script,
+    /// A folder that files are written into.
+    Folder,
     /// Any other.
     Plain,
 }

@@ -1,29 +1,26 @@
 //! The commands `com` and `boot`: a machine is played.
-ghost use Rattle.std.specs.Prelude.{◌≡◌, ◌&&◌, ◌<◌, ◌≤◌, ◌+◌, ◌++◌, IfErr, IfOk, IsOk, OnOk, Some, map, vec_len};
-ghost use Rattle.std.specs.Vec.{vec_capacity};
-ghost use Rattle.cpm_batch.specs.Outputs.{named_image};
+ghost use Rattle.std.specs.Prelude.{◌≡◌, ◌&&◌, IfErr, IfOk};
 ghost use Rattle.cpm_commands.specs.Drives.{HasToldLeftOut};
 ghost use Rattle.cpm_commands.specs.Messages.{HasToldEnd};
 ghost use Rattle.cpm_commands.specs.Plan.{plan_view};
-ghost use Rattle.cpm_commands.specs.Play.{HasPlayedMachine, HasPlayedTask, IsPlayRefused, IsPlayStopped, drive_outputs, is_cut_off};
-ghost use Rattle.cpm_commands.specs.Play.{is_kept_back, plan_of_play, source_of, status_of, status_of_end, steps_asked};
+ghost use Rattle.cpm_commands.specs.Play.{HasPlayedTask, HasPlayedWith, IsPlayRefused, IsPlayStopped, is_cut_off, is_kept_back, plan_of_play};
+ghost use Rattle.cpm_commands.specs.Play.{source_of, status_of, status_of_end, steps_asked, writes_disks};
 ghost use Rattle.cpm_commands.specs.Record.{HasEndedRecord};
 ghost use Rattle.cpm_machine.specs.Step.{is_running};
 ghost use Rattle.cpm_run.specs.Settled.{streams};
-ghost use Rattle.cpm_store.specs.Writes.{named_output};
 
 use crate::begin::{read_keys, read_start, tail_if_any};
 use crate::drives::{DrivePlace, add_places, find_places, tell_left_out};
-use crate::files::{CommandFiles, write_outputs};
+use crate::files::CommandFiles;
+use crate::left::write_left;
 use crate::messages::{Messages, tell_end};
-use crate::plan::{FilePlan, FileRole, OutputNaming, add_all, add_file, add_if_any};
+use crate::out_folder::{FolderStart, folder_starts, tell_unwritten};
+use crate::plan::{FilePlan, FileRole, OutputNaming, add_all, add_if_any};
 use crate::record::{KeyRecord, end_record};
-use cpm_geom::Image;
 use cpm_host::{
     Cue, CuedKeys, End, Ending, HostError, PlayTask, ProgramPlay, RunStage, RunWatcher, Source,
     Typist, run_program,
 };
-use cpm_store::Output;
 use std::alloc::{AllocError, Global};
 use std::io::Write;
 
@@ -46,6 +43,7 @@ fn plan_of<'a>(
     add_if_any(&mut inputs, task.replay, FileRole::Plain)?;
     let mut outputs = Vec::new(alloc);
     add_all(&mut outputs, &task.outs, FileRole::Image)?;
+    add_all(&mut outputs, &task.out_folders, FileRole::Folder)?;
     add_if_any(&mut outputs, task.record, FileRole::Plain)?;
     Ok(FilePlan {
         inputs,
@@ -69,11 +67,18 @@ fn source_of<'a>(task: &PlayTask<'_>, cues: &'a [Cue]) -> Source<'a>
     }
 }
 
+/// Whether its disks are written, or files of them.
+fn writes_disks(task: &PlayTask<'_>) -> bool
+    ensures { result ≡ writes_disks task.now }
+{
+    !task.outs.is_empty() || !task.out_folders.is_empty()
+}
+
 /// How many steps it has at most. Where a person ends it, or its disks are written, there is no limit that nobody asked for.
 fn steps_asked(task: &PlayTask<'_>) -> u64
     ensures { result ≡ steps_asked task.now }
 {
-    let unasked = if task.is_live || !task.outs.is_empty() {
+    let unasked = if task.is_live || writes_disks(task) {
         u64::MAX
     } else {
         STEPS
@@ -112,7 +117,7 @@ fn is_cut_off(task: &PlayTask<'_>, play: &ProgramPlay) -> bool
 fn is_kept_back(task: &PlayTask<'_>, play: &ProgramPlay) -> bool
     ensures { result ≡ is_kept_back task.now play.now }
 {
-    !task.outs.is_empty() && !task.is_partial && is_cut_off(task, play)
+    writes_disks(task) && !task.is_partial && is_cut_off(task, play)
 }
 
 /// The exit status.
@@ -124,42 +129,6 @@ fn status_of(task: &PlayTask<'_>, ending: Ending) -> u8
     } else {
         0
     }
-}
-
-/// Adds the image of a drive to what is written, if there is one.
-fn add_drive<'a>(
-    outputs: &mut Vec<Output<'a>>,
-    name: &'a str,
-    drive: Option<Image>,
-) -> Result<(), AllocError>
-    ensures added { OnOk result (map named_output outputs.new.items ≡ map named_output outputs.old.items ++ named_image (Some name.now) drive) }
-    ensures grown { vec_len outputs.new ≤ vec_len outputs.old + 1 }
-    ensures capacity { vec_capacity outputs.old ≤ vec_capacity outputs.new }
-    ensures room { vec_len outputs.old < vec_capacity outputs.old → IsOk result }
-{
-    if let Some(image) = drive {
-        outputs.push(Output {
-            name,
-            bytes: image.into_bytes(),
-        })?;
-    }
-    Ok(())
-}
-
-/// Adds the images of the drives A to D, as far as files are named for them. Memory is not refused where there is room for four.
-fn add_drives<'a>(
-    outputs: &mut Vec<Output<'a>>,
-    outs: &[&'a str],
-    drives: [Option<Image>; 4],
-) -> Result<(), AllocError>
-    ensures added { OnOk result (map named_output outputs.new.items
-        ≡ map named_output outputs.old.items ++ drive_outputs (map (λ n. n.now) outs.now) drives) }
-    ensures room { vec_len outputs.old + 4 ≤ vec_capacity outputs.old → IsOk result }
-{
-    for (name, drive) in outs.iter().zip(drives) {
-        add_drive(outputs, name, drive)?;
-    }
-    Ok(())
 }
 
 /// What its run begins.
@@ -178,6 +147,13 @@ fn is_idle(waits: bool, stops_idle: bool) -> bool
     waits && stops_idle
 }
 
+/// What was played, and the drives at the start of it whose files go into folders.
+#[derive(Drop)]
+struct StartedPlay {
+    play: ProgramPlay,
+    starts: Vec<FolderStart>,
+}
+
 /// Reads what a machine begins with and its keys, and plays it. What it shows is written as it comes. What is left out of its drives is told before.
 fn play_machine<F: CommandFiles, P: Typist, W: Write, R: Write, T: RunWatcher + Messages>(
     alloc: Global,
@@ -187,8 +163,8 @@ fn play_machine<F: CommandFiles, P: Typist, W: Write, R: Write, T: RunWatcher + 
     out: &mut W,
     record: &mut R,
     watcher: &mut T,
-) -> Result<ProgramPlay, HostError>
-    ensures played { IfOk result (HasPlayedMachine
+) -> Result<StartedPlay, HostError>
+    ensures played { IfOk result (HasPlayedWith
         (record {
           does = F.does;
           sees_to = F.sees_to;
@@ -220,9 +196,10 @@ fn play_machine<F: CommandFiles, P: Typist, W: Write, R: Write, T: RunWatcher + 
     tell_left_out(places.as_slice(), watcher);
     let start = read_start(alloc, task, places.as_slice(), tail, files)?;
     let cues = read_keys(alloc, task, files)?;
-    watcher.begin(stage_of(task));
     let source = source_of(task, cues.as_slice());
-    run_program(
+    let starts = folder_starts(alloc, &task.out_folders, start.drives.as_slice())?;
+    watcher.begin(stage_of(task));
+    let play = run_program(
         alloc,
         start,
         steps_asked(task),
@@ -231,14 +208,15 @@ fn play_machine<F: CommandFiles, P: Typist, W: Write, R: Write, T: RunWatcher + 
         out,
         record,
         watcher,
-    )
+    )?;
+    Ok(StartedPlay { play, starts })
 }
 
 /// Plays a machine, by a program or from the prompt of CP/M. It shows its text as it comes, writes its drives where files are named for them, once it was
-/// played, and tells how it ended. It gives the exit status.
+/// played, and those of their files that are new or changed where folders are, and tells how it ended. It gives the exit status.
 ///
-/// One that its limit of steps has cut off is `CutOff` where files are named for its drives and these are not to be written in part: nothing is written then,
-/// but the record of its keys is.
+/// One that its limit of steps has cut off is `CutOff` where files or folders are named for its drives, and these are not to be written in part: nothing is
+/// written then, but the record of its keys is.
 pub fn do_play_task<F: CommandFiles, P: Typist, W: Write, R: KeyRecord, T: RunWatcher + Messages>(
     alloc: Global,
     task: &PlayTask<'_>,
@@ -258,7 +236,7 @@ pub fn do_play_task<F: CommandFiles, P: Typist, W: Write, R: KeyRecord, T: RunWa
           told_left_out = λ places. HasToldLeftOut T.tells watcher.old places;
         })
         F.gives_names (HasEndedRecord R.ends R.contents (R.contents «record».new) «record».new)
-        (λ ending waits end. HasToldEnd T.tells T.is_read task.now ending waits end watcher.new) task.now
+        (λ unwritten ending waits end. HasToldEnd T.tells T.is_read task.now unwritten ending waits end watcher.new) task.now
         (streams (P.typing typist.old) (P.typing typist.new) (W.contents out.old) (W.contents out.new) (R.contents «record».old) (R.contents «record».new))
         files.old files.new) }
     ensures refusal { IfErr result (IsPlayRefused
@@ -275,8 +253,10 @@ pub fn do_play_task<F: CommandFiles, P: Typist, W: Write, R: KeyRecord, T: RunWa
         (streams (P.typing typist.old) (P.typing typist.new) (W.contents out.old) (W.contents out.new) (R.contents «record».old) (R.contents «record».new))
         files.old files.new) }
 {
-    let mut outputs = Vec::with_capacity(alloc, 4)?;
-    let play = play_machine(alloc, task, files, typist, out, record, watcher)?;
+    let room = Vec::with_capacity(alloc, 4)?;
+    let StartedPlay { play, starts } = play_machine(
+        alloc, task, files, typist, out, record, watcher,
+    )?;
     end_record(record)?;
     if is_kept_back(task, &play) {
         return Err(HostError::CutOff(play.steps));
@@ -288,9 +268,8 @@ pub fn do_play_task<F: CommandFiles, P: Typist, W: Write, R: KeyRecord, T: RunWa
         end,
         ..
     } = play;
-    add_drives(&mut outputs, &task.outs, drives)?;
-    write_outputs(outputs.as_slice(), files)?;
-    files.give_names()?;
+    let unwritten = write_left(alloc, task, starts.as_slice(), room, drives, files)?;
+    tell_unwritten(unwritten.as_slice(), watcher);
     tell_end(ending, is_idle(waits, task.stops_idle), end, task, watcher);
     Ok(status_of(task, ending))
 }

@@ -4,7 +4,8 @@ ghost use Rattle.cpm_commands.specs.Messages.{HasToldIllegal};
 ghost use Rattle.cpm_commands.specs.Plan.{named_files, plan_view};
 ghost use Rattle.cpm_commands.specs.Record.{HasEndedRecord};
 ghost use Rattle.cpm_commands.specs.Report.{IsReported, report_text};
-ghost use Rattle.cpm_commands.specs.Run.{HasRunAll, HasRunSessions, IsConfigRead, IsConfigRefused, IsEndStopped, IsRunAllStopped, IsRunStopped};
+ghost use Rattle.cpm_commands.specs.Replays.{IsReplayRefusal};
+ghost use Rattle.cpm_commands.specs.Run.{ArePlayedBack, HasRunAll, HasRunSessions, IsConfigRead, IsConfigRefused, IsEndStopped, IsRunAllStopped, IsRunStopped};
 ghost use Rattle.cpm_commands.specs.Run.{IsRunUnseen, plan_by, plan_of_run, record_mark, record_marks, run_inputs, run_outputs, script_names};
 ghost use Rattle.cpm_commands.specs.Run.{session_inputs, session_outputs};
 ghost use Rattle.cpm_commands.specs.Typed.{IsScriptKept, is_typed_at, typed_script};
@@ -16,8 +17,10 @@ use crate::plan::{
     FilePlan, FileRole, OutputNaming, PlannedFile, add_file, add_if_any, add_strings,
 };
 use crate::record::{KeyRecord, end_record};
+use crate::replays::replays_of;
 use crate::report::{LineWriter, print_report};
 use crate::typed::is_typed_at;
+use cpm_batch::{Replay, key_file};
 use cpm_host::{
     Config, HostError, Origin, RecordFile, Report, RunOptions, RunTask, RunWatcher, SessionConfig,
     Typist, run_host,
@@ -66,17 +69,18 @@ fn script_names(
     Ok(names)
 }
 
-/// Adds the drives of a session that is opened, and its script.
+/// Adds the drives of a session that is opened, and its script, or the recording in place of that.
 fn add_inputs<'a>(
     files: &mut Vec<PlannedFile<'a>>,
     session: &'a SessionConfig,
+    replays: &[Replay<'a>],
 ) -> Result<(), AllocError>
-    ensures { OnOk result (named_files files.new.items ≡ named_files files.old.items ++ session_inputs session.entry.now) }
+    ensures { OnOk result (named_files files.new.items ≡ named_files files.old.items ++ session_inputs replays.now session.entry.now) }
 {
     if let Origin::Opened { drives, .. } = &session.origin {
         add_strings(files, drives, FileRole::Image)?;
     }
-    add_if_any(files, session.keys.as_deref(), FileRole::Plain)
+    add_if_any(files, key_file(replays, session), FileRole::Plain)
 }
 
 /// Adds the text of a session's console, that of its list device, and its drives, as far as files are named for them.
@@ -99,14 +103,15 @@ fn inputs_of<'a>(
     alloc: Global,
     file: &'a str,
     config: &'a Config,
+    replays: &[Replay<'a>],
 ) -> Result<Vec<PlannedFile<'a>>, AllocError>
-    ensures { IfOk result (λ v. named_files v.items ≡ run_inputs file.now config.entry.now) }
+    ensures { IfOk result (λ v. named_files v.items ≡ run_inputs file.now config.entry.now replays.now) }
 {
     let mut inputs = Vec::new(alloc);
     add_file(&mut inputs, file, FileRole::Configuration)?;
     add_file(&mut inputs, config.system.as_str(), FileRole::Image)?;
     for session in &config.sessions {
-        add_inputs(&mut inputs, session)?;
+        add_inputs(&mut inputs, session, replays)?;
     }
     Ok(inputs)
 }
@@ -135,14 +140,15 @@ fn plan_of<'a>(
     alloc: Global,
     file: &'a str,
     config: &'a Config,
+    replays: &[Replay<'a>],
     record: Option<&'a str>,
     scripts: &'a [String],
 ) -> Result<FilePlan<'a>, AllocError>
     ensures { IfOk result (λ p. plan_view p
-        ≡ plan_of_run file.now config.entry.now (option_map (λ n. n.now) «record».entry) (map string_bytes scripts.entry.now)) }
+        ≡ plan_of_run file.now config.entry.now replays.now (option_map (λ n. n.now) «record».entry) (map string_bytes scripts.entry.now)) }
 {
     Ok(FilePlan {
-        inputs: inputs_of(alloc, file, config)?,
+        inputs: inputs_of(alloc, file, config, replays)?,
         outputs: outputs_of(alloc, config, record, scripts)?,
         naming: OutputNaming::Replaces,
     })
@@ -231,37 +237,51 @@ fn end_run<F: CommandFiles, W: LineWriter, M: Messages>(
     printed
 }
 
+/// The sessions that are played by recordings.
+fn played_back<'a>(
+    alloc: Global,
+    task: &RunTask<'a>,
+    config: &Config,
+) -> Result<Vec<Replay<'a>>, HostError>
+    ensures replays { IfOk result (λ v. ArePlayedBack task.now config.now v.items) }
+    ensures refusal { IfErr result (IsReplayRefusal config.now.sessions.items (map (λ w. w.now) task.now.replays.items)) }
+{
+    replays_of(alloc, config, task.replays.as_slice())
+}
+
 /// Sees to the files of a run.
 fn see_to_run<F: CommandFiles>(
     alloc: Global,
     task: &RunTask<'_>,
     config: &Config,
+    replays: &[Replay<'_>],
     scripts: &[String],
     files: &mut F,
 ) -> Result<(), HostError>
-    ensures seen { OnOk result (F.sees_to files.old (plan_by task.now config.now scripts.now) None files.new) }
-    ensures refusal { IfErr result (λ e. IsRunUnseen F.sees_to task.now config.now scripts.now files.old files.new e) }
+    ensures seen { OnOk result (F.sees_to files.old (plan_by task.now config.now replays.now scripts.now) None files.new) }
+    ensures refusal { IfErr result (λ e. IsRunUnseen F.sees_to task.now config.now replays.now scripts.now files.old files.new e) }
 {
-    let plan = plan_of(alloc, task.config, config, task.record, scripts)?;
+    let plan = plan_of(alloc, task.config, config, replays, task.record, scripts)?;
     files.see_to(&plan)
 }
 
 /// Runs the sessions of a configuration with what was asked, and writes what they leave and their records.
-fn run_all<F: CommandFiles, P: Typist, W: Write, R: KeyRecord, T: SessionsWatcher>(
+fn run_asked<'a, F: CommandFiles, P: Typist, W: Write, R: KeyRecord, T: SessionsWatcher>(
     alloc: Global,
-    task: &RunTask<'_>,
+    task: &RunTask<'a>,
     config: &Config,
-    scripts: &[String],
+    replays: &'a [Replay<'a>],
+    scripts: &'a [String],
     files: &mut F,
     typist: &mut P,
     out: &mut W,
     record: &mut R,
     watcher: &mut T,
 ) -> Result<Report, HostError>
-    ensures ran { IfOk result (λ report. HasRunAll F.does F.tells_name task.now config.now scripts.now report
+    ensures ran { IfOk result (λ report. HasRunAll F.does F.tells_name task.now config.now replays.entry.now scripts.entry.now report
         (streams (P.typing typist.old) (P.typing typist.new) (W.contents out.old) (W.contents out.new) (R.contents «record».old) (R.contents «record».new))
         files.old files.new) }
-    ensures refusal { IfErr result (IsRunAllStopped F.does F.tells_name task.now config.now scripts.now
+    ensures refusal { IfErr result (IsRunAllStopped F.does F.tells_name task.now config.now replays.entry.now scripts.entry.now
         (streams (P.typing typist.old) (P.typing typist.new) (W.contents out.old) (W.contents out.new) (R.contents «record».old) (R.contents «record».new))
         files.old files.new) }
 {
@@ -271,6 +291,7 @@ fn run_all<F: CommandFiles, P: Typist, W: Write, R: KeyRecord, T: SessionsWatche
         typed: task.keyboard,
         stops_idle: task.stops_idle,
         records: records.as_slice(),
+        replays,
     };
     watcher.meet(config);
     let report = run_host(alloc, config, options, files, typist, out, record, watcher)?;
@@ -278,8 +299,33 @@ fn run_all<F: CommandFiles, P: Typist, W: Write, R: KeyRecord, T: SessionsWatche
     Ok(report)
 }
 
-/// Runs the sessions of the configuration in a file, one of them by the keys that are typed if that is asked; gives what they leave its names, and prints how
-/// each ended.
+/// The same of names that are lent for times of their own.
+fn run_all<F: CommandFiles, P: Typist, W: Write, R: KeyRecord, T: SessionsWatcher>(
+    alloc: Global,
+    task: &RunTask<'_>,
+    config: &Config,
+    replays: &[Replay<'_>],
+    scripts: &[String],
+    files: &mut F,
+    typist: &mut P,
+    out: &mut W,
+    record: &mut R,
+    watcher: &mut T,
+) -> Result<Report, HostError>
+    ensures ran { IfOk result (λ report. HasRunAll F.does F.tells_name task.now config.now replays.now scripts.now report
+        (streams (P.typing typist.old) (P.typing typist.new) (W.contents out.old) (W.contents out.new) (R.contents «record».old) (R.contents «record».new))
+        files.old files.new) }
+    ensures refusal { IfErr result (IsRunAllStopped F.does F.tells_name task.now config.now replays.now scripts.now
+        (streams (P.typing typist.old) (P.typing typist.new) (W.contents out.old) (W.contents out.new) (R.contents «record».old) (R.contents «record».new))
+        files.old files.new) }
+{
+    run_asked(
+        alloc, task, config, replays, scripts, files, typist, out, record, watcher,
+    )
+}
+
+/// Runs the sessions of the configuration in a file, some of them by recordings in place of their scripts, and one by the keys that are typed, as that is
+/// asked; gives what they leave its names, and prints how each ended.
 pub fn run_sessions<
     F: CommandFiles,
     P: Typist,
@@ -305,10 +351,11 @@ pub fn run_sessions<
         (R.contents «record».old) (R.contents «record».new)) }
 {
     let config = read_config(alloc, task.config, files)?;
+    let replays = played_back(alloc, task, &config)?;
     let scripts = script_names(alloc, &config, task.scripts)?;
-    see_to_run(alloc, task, &config, &scripts, files)?;
+    see_to_run(alloc, task, &config, &replays, &scripts, files)?;
     let report = run_all(
-        alloc, task, &config, &scripts, files, typist, out, record, watcher,
+        alloc, task, &config, &replays, &scripts, files, typist, out, record, watcher,
     )?;
     let ended = end_run(alloc, &report, files, out, watcher);
     // (what was typed is recorded also where what was played can't be written)

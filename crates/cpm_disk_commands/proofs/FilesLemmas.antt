@@ -22,7 +22,7 @@ use Rattle.cpm_disk_commands.specs.Folder.{host_file, AreApart, AreFilesPut, Fil
 use Rattle.cpm_disk_commands.specs.Refusals.{file_named, is_same_file, IsTold}
 use Rattle.cpm_disk_commands.specs.declared.damage.NamedFile.{NamedFile}
 use Rattle.cpm_disk_commands.specs.declared.error.DiskCommandError.{DiskCommandError}
-use Rattle.cpm_disk_commands.specs.declared.error.DiskCommandError.TheVariants.{NotName, NotPattern, NotPair, PutTwice, NotImage, Damaged}
+use Rattle.cpm_disk_commands.specs.declared.error.DiskCommandError.TheVariants.{NotName, NotPattern, NotPair, PutTwice, NotImage, Damaged, LeftDamaged}
 use Rattle.cpm_disk_commands.specs.declared.error.DiskCommandError.TheVariants.{NoFile, NoHostName, Refused, OutputUnwritable, OutOfMemory}
 use Rattle.cpm_disk_commands.specs.declared.folder.HostFile.{HostFile}
 
@@ -61,6 +61,7 @@ refused_is folder all first disk about reason (NotPair text) h t = absurd t
 refused_is folder all first disk about reason (PutTwice word other) h t = absurd t
 refused_is folder all first disk about reason (NotImage shown count) h t = absurd t
 refused_is folder all first disk about reason (Damaged shown damage) h t = absurd t
+refused_is folder all first disk about reason (LeftDamaged shown damage) h t = absurd t
 refused_is folder all first disk about reason (NoFile shown pattern user) h t = absurd t
 refused_is folder all first disk about reason (NoHostName shown other) h t = absurd t
 refused_is folder all first disk about reason (OutputUnwritable cause) h t = absurd t

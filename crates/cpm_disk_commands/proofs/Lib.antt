@@ -1,3 +1,4 @@
+pub mod ChangedLemmas
 pub mod DamageLemmas
 pub mod NameLemmas
 pub mod MatchLemmas

@@ -1,3 +1,4 @@
+pub mod Changed
 pub mod Damage
 pub mod DiskCommands
 pub mod Folder

@@ -17,7 +17,7 @@ use Rattle.cpm_disk_commands.specs.Damage.{damage_of}
 use Rattle.cpm_disk_commands.specs.Names.{one_name}
 use Rattle.cpm_disk_commands.specs.declared.damage.NamedFile.{NamedFile}
 use Rattle.cpm_disk_commands.specs.declared.error.DiskCommandError.{DiskCommandError}
-use Rattle.cpm_disk_commands.specs.declared.error.DiskCommandError.TheVariants.{NotName, NotPattern, NotPair, PutTwice, NotImage, Damaged}
+use Rattle.cpm_disk_commands.specs.declared.error.DiskCommandError.TheVariants.{NotName, NotPattern, NotPair, PutTwice, NotImage, Damaged, LeftDamaged}
 use Rattle.cpm_disk_commands.specs.declared.error.DiskCommandError.TheVariants.{NoFile, NoHostName, Refused, OutputUnwritable, OutOfMemory}
 
 -- the code of each
@@ -29,6 +29,7 @@ code_of_disk_command (PutTwice text file) = code.Usage
 code_of_disk_command (OutputUnwritable reason) = code.Unwritable
 code_of_disk_command (NotImage image count) = code.Image
 code_of_disk_command (Damaged image damage) = code.Image
+code_of_disk_command (LeftDamaged folder damage) = code.Image
 code_of_disk_command (NoFile image pattern user) = code.Image
 code_of_disk_command (Refused image file refusal) = code.Image
 code_of_disk_command (NoHostName image file) = code.Image

@@ -39,6 +39,12 @@ pub enum DiskCommandError {
         image: ShownWord,
         damage: Damage,
     },
+    /// The directory of a drive whose files were to go into a folder doesn't agree with itself.
+    #[error("the drive that '{folder}' was to get the files of: {damage}; '--out-disk' writes it as it is")]
+    LeftDamaged {
+        folder: ShownWord,
+        damage: Damage,
+    },
     /// No file of the user has a name that matches.
     #[error("'{image}' has no file '{pattern}' of user {user}; 'cpmhost disk list' shows its files")]
     NoFile {
@@ -92,6 +98,7 @@ impl DiskCommandError {
             DiskCommandError::OutputUnwritable(_) => RefusalCode::Unwritable,
             DiskCommandError::NotImage { .. }
             | DiskCommandError::Damaged { .. }
+            | DiskCommandError::LeftDamaged { .. }
             | DiskCommandError::NoFile { .. }
             | DiskCommandError::Refused { .. }
             | DiskCommandError::NoHostName { .. } => RefusalCode::Image,

@@ -49,9 +49,9 @@ pub fn text_of_name(name: &[u8; 11]) -> Option<ArrayString<12>>
     }
 }
 
-/// The text of a name.
+/// The text of a name: in small letters, with a dot before its type if it has one.
 #[tactic(auto, unfolding(crate::specs::HostNames::host_text))]
-fn host_text(name: &[u8; 11]) -> ArrayString<12>
+pub fn host_text(name: &[u8; 11]) -> ArrayString<12>
     ensures { result.bytes ≡ host_text name.now }
 {
     let (name, kind) = name.as_slice().split_at(8);
@@ -105,7 +105,7 @@ fn is_host_name(text: &str, name: &[u8; 11]) -> bool
 }
 
 /// Whether a text is read as a name.
-fn is_read_as(name: &[u8; 11], text: &str) -> bool
+pub(crate) fn is_read_as(name: &[u8; 11], text: &str) -> bool
     ensures { result ≡ is_read_as name.now (one_name text.now) }
 {
     match name_of(text) {

@@ -9,14 +9,15 @@ use Rattle.cpm_script.specs.declared.script.Key.{Key}
 use Rattle.cpm_machine.specs.MachineState.{MachineState}
 use Rattle.cpm_play.specs.Playing.{alone_by}
 use Rattle.cpm_play.specs.declared.cued.CuedKeys.{CuedKeys}
-use Rattle.cpm_host.specs.Program.{IsPlayedCued, console_text}
+use Rattle.cpm_host.specs.Program.{IsPlayedCued, console_text, printer_text}
 use Rattle.cpm_host.specs.declared.program.ProgramPlay.{ProgramPlay}
 use Rattle.cpm_run.specs.Ending.{ending_of}
 use Rattle.cpm_run.specs.Settled.{Streams}
 
--- what a program showed and left is that of the machine run alone by these keys for so many steps
+-- what a program showed, printed and left is that of the machine run alone by these keys for so many steps
 pub record IsRunBy (system : Disk) (start : MachineState) (steps : ℕ) (keys : List Key) (t : ProgramPlay) (io : Streams) : Type 0 where
-  pub text : Appends io.before io.written (console_text (alone_by system keys steps start))
+  pub text : Appends io.before.console io.written.console (console_text (alone_by system keys steps start))
+  pub list : Appends io.before.list io.written.list (printer_text (alone_by system keys steps start))
   pub ending : t.ending ≡ ending_of (alone_by system keys steps start)
   pub drives : t.drives ≡ images_of (alone_by system keys steps start).session.disks
 

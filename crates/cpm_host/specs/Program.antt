@@ -148,6 +148,10 @@ IsRecordingRefusal name text _ = ⊥
 abbrev pub console_text : MachineState → List ℕ
 console_text s = s.session.console.screen
 
+-- the list bytes of one from which none was taken
+abbrev pub printer_text : MachineState → List ℕ
+printer_text s = s.session.console.printer
+
 -- what a machine came to that was played so
 abbrev pub play_of : MachineState → LivePlay → Option PlayEnd → ProgramPlay
 play_of s live end = record {
@@ -178,23 +182,25 @@ pub record IsRehearsed (system : Disk) (start : MachineState) (steps : ℕ) (c :
   pub untyped : t.end ≡ None
   pub replays : GivesKeysAgain t.keys.items
 
--- and what it showed, and its keys as lines, went to two writers; nobody was heard
+-- and what it showed went to a console, what it printed to a list device, and its keys as lines to a record; nobody was heard
 pub record IsPlayedCued (system : Disk) (start : MachineState) (steps : ℕ) (c : CuedKeys) (t : ProgramPlay) (io : Streams) : Type 0 where
   pub rehearsed : IsRehearsed system start steps c t
-  pub text : Appends io.before io.written (console_text (alone_by system t.keys.items t.steps start))
+  pub text : Appends io.before.console io.written.console (console_text (alone_by system t.keys.items t.steps start))
+  pub list : Appends io.before.list io.written.list (printer_text (alone_by system t.keys.items t.steps start))
   pub lines : Appends io.unrecorded io.record_now (recorded t.keys.items)
   pub unread : io.left ≡ io.unread
 
--- A machine was played by a script and then by keys as they were typed: what it showed and left is that of the machine run alone by these keys, each at the
--- count at which it was accepted, for so many steps; the record got just these keys as lines, and these are a recording that gives them again; and why it
--- ended is said.
+-- A machine was played by a script and then by keys as they were typed: what it showed, printed and left is that of the machine run alone by these keys, each
+-- at the count at which it was accepted, for so many steps; the record got just these keys as lines, and these are a recording that gives them again; and why
+-- it ended is said.
 pub record IsPlayedLive (system : Disk) (start : MachineState) (steps : ℕ) (cues : List Cue) (t : ProgramPlay) (io : Streams) : Type 0 where
   pub within : t.steps ≤ steps
   pub given : AreGiven (length t.keys.items) t.steps t.keys.items
   pub end : PlayEnd
   pub told : t.end ≡ Some end
   pub played : IsTypedPlay (sitting io.unread.is_patient system start steps cues) io.unread io.left t.keys.items t.steps end
-  pub text : Appends io.before io.written (console_text (alone_by system t.keys.items t.steps start))
+  pub text : Appends io.before.console io.written.console (console_text (alone_by system t.keys.items t.steps start))
+  pub list : Appends io.before.list io.written.list (printer_text (alone_by system t.keys.items t.steps start))
   pub ending : t.ending ≡ ending_of (alone_by system t.keys.items t.steps start)
   pub drives : t.drives ≡ images_of (alone_by system t.keys.items t.steps start).session.disks
   pub waits : t.waits ≡ waits_at system start t.keys.items t.steps

@@ -5,9 +5,9 @@ use Rattle.cpm_command_line.specs.declared.fault.UsageError.{UsageError}
 use Rattle.cpm_command_line.specs.declared.fault.UsageError.TheVariants as usage
 use Rattle.cpm_host.specs.declared.error.HostError.{HostError}
 use Rattle.cpm_host.specs.declared.error.HostError.TheVariants.{Usage, NotText, CheckRefused, DiskRefused, FileUnreadable}
-use Rattle.cpm_host.specs.declared.error.HostError.TheVariants.{FileUnwritable, InputUnreadable, NotAFolder}
+use Rattle.cpm_host.specs.declared.error.HostError.TheVariants.{FileUnwritable, InputUnreadable, ListUnwritable, NotAFolder}
 use Rattle.cpm_host.specs.declared.error.HostError.TheVariants.{OutputUnwritable, SourceRefused, OutOfMemory, OpeningRefused}
-use Rattle.cpm_host.specs.declared.error.HostError.TheVariants.{CutOff, ProgramTooLong, RecordUnwritable, RunRefused, TailRefused}
+use Rattle.cpm_host.specs.declared.error.HostError.TheVariants.{CutOff, NoReplay, ProgramTooLong, RecordUnwritable, ReplayedTwice, RunRefused, TailRefused}
 use Rattle.cpm_check.specs.Check.{code_of_check}
 use Rattle.cpm_check.specs.declared.error.CheckError.{CheckError}
 use Rattle.cpm_check.specs.declared.error.CheckError.TheVariants as check
@@ -33,12 +33,15 @@ abbrev pub code_of_command : HostError → RefusalCode
 code_of_command (Usage refusal) = code.Usage
 code_of_command NotText = code.Usage
 code_of_command (TailRefused word) = code.Usage
+code_of_command (NoReplay word) = code.Usage
+code_of_command (ReplayedTwice name) = code.Usage
 code_of_command (RunRefused e) = code_of_run e
 code_of_command (DiskRefused e) = code_of_disk_command e
 code_of_command (CheckRefused e) = code_of_check e
 code_of_command (FileUnreadable name reason) = code.Unreadable
 code_of_command (InputUnreadable reason) = code.Unreadable
 code_of_command (OutputUnwritable reason) = code.Unwritable
+code_of_command (ListUnwritable reason) = code.Unwritable
 code_of_command (FileUnwritable name reason) = code.Unwritable
 code_of_command (RecordUnwritable reason) = code.Unwritable
 code_of_command (NotAFolder name) = code.Unwritable
@@ -87,6 +90,7 @@ host_error_of_disk_command (disk_error.NotPair text) = DiskRefused (disk_error.N
 host_error_of_disk_command (disk_error.PutTwice text file) = DiskRefused (disk_error.PutTwice text file)
 host_error_of_disk_command (disk_error.NotImage image count) = DiskRefused (disk_error.NotImage image count)
 host_error_of_disk_command (disk_error.Damaged image damage) = DiskRefused (disk_error.Damaged image damage)
+host_error_of_disk_command (disk_error.LeftDamaged folder damage) = DiskRefused (disk_error.LeftDamaged folder damage)
 host_error_of_disk_command (disk_error.NoFile image pattern user) = DiskRefused (disk_error.NoFile image pattern user)
 host_error_of_disk_command (disk_error.Refused image file reason) = DiskRefused (disk_error.Refused image file reason)
 host_error_of_disk_command (disk_error.NoHostName image file) = DiskRefused (disk_error.NoHostName image file)
@@ -102,6 +106,7 @@ host_error_of_run (run.FileRefused e) = RunRefused (run.FileRefused e)
 host_error_of_run (run.TooManyKeys name) = RunRefused (run.TooManyKeys name)
 host_error_of_run (run.InputUnreadable reason) = RunRefused (run.InputUnreadable reason)
 host_error_of_run (run.OutputUnwritable reason) = RunRefused (run.OutputUnwritable reason)
+host_error_of_run (run.ListUnwritable reason) = RunRefused (run.ListUnwritable reason)
 host_error_of_run (run.RecordUnwritable reason) = RunRefused (run.RecordUnwritable reason)
 host_error_of_run (run.WriteFault name) = RunRefused (run.WriteFault name)
 host_error_of_run run.OutOfMemory = OutOfMemory
@@ -125,6 +130,7 @@ host_error_of_debug debug.OutOfMemory = OutOfMemory
 abbrev pub host_error_of_live : LiveError → HostError
 host_error_of_live (live.Unreadable reason) = InputUnreadable reason
 host_error_of_live (live.Unwritable reason) = OutputUnwritable reason
+host_error_of_live (live.Unprinted reason) = ListUnwritable reason
 host_error_of_live (live.Unrecorded reason) = RecordUnwritable reason
 host_error_of_live live.OutOfMemory = OutOfMemory
 

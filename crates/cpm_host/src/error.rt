@@ -30,6 +30,12 @@ pub enum HostError {
     /// A word is no part of a command's tail.
     #[error("'{0}' is no part of a command's tail: characters from ' ' to '~' are wanted, and at most 126 in all")]
     TailRefused(ShownWord),
+    /// A word names no session with a recording of its keys.
+    #[error("'{0}' is no session with its recording: '--replay NAME=FILE' is wanted")]
+    NoReplay(ShownWord),
+    /// The session of this name is named with two recordings.
+    #[error("session '{0}' has two recordings: '--replay' names one for each session")]
+    ReplayedTwice(ShownWord),
     /// A run is refused, or what one has too: a name to type at, a configuration, a key script, a file, a session.
     #[error("{0}")]
     RunRefused(RunError),
@@ -51,6 +57,9 @@ pub enum HostError {
     /// Standard output can't be written.
     #[error("can't write to standard output: {0}")]
     OutputUnwritable(io::Error),
+    /// The list device of a machine can't be written.
+    #[error("can't write the list device: {0}")]
+    ListUnwritable(io::Error),
     /// The record of the keys can't be written.
     #[error("can't write the record of the keys: {0}")]
     RecordUnwritable(io::Error),
@@ -133,9 +142,11 @@ impl HostError {
         ensures { result ≡ code_of_command self.now }
     {
         match self {
-            HostError::Usage(_) | HostError::NotText | HostError::TailRefused(_) => {
-                RefusalCode::Usage
-            }
+            HostError::Usage(_)
+            | HostError::NotText
+            | HostError::TailRefused(_)
+            | HostError::NoReplay(_)
+            | HostError::ReplayedTwice(_) => RefusalCode::Usage,
             HostError::RunRefused(error) => error.code(),
             HostError::DiskRefused(error) => error.code(),
             HostError::CheckRefused(error) => error.code(),
@@ -143,6 +154,7 @@ impl HostError {
                 RefusalCode::Unreadable
             }
             HostError::OutputUnwritable(_)
+            | HostError::ListUnwritable(_)
             | HostError::RecordUnwritable(_)
             | HostError::FileUnwritable { .. }
             | HostError::NotAFolder(_) => RefusalCode::Unwritable,
@@ -195,6 +207,7 @@ impl From<LiveError> for HostError {
         match error {
             LiveError::Unreadable(reason) => HostError::InputUnreadable(reason),
             LiveError::Unwritable(reason) => HostError::OutputUnwritable(reason),
+            LiveError::Unprinted(reason) => HostError::ListUnwritable(reason),
             LiveError::Unrecorded(reason) => HostError::RecordUnwritable(reason),
             LiveError::OutOfMemory => HostError::OutOfMemory,
         }

@@ -12,7 +12,7 @@ mod program;
 mod tail;
 
 pub use asm::{ProgramListing, run_asm, run_asm_listed};
-pub use cpm_batch::ReadError;
+pub use cpm_batch::{ReadError, Replay};
 pub use cpm_check::{CheckError, run_check};
 pub use cpm_command_line::{
     DiskTask, Page, PlayTask, RunTask, ShownWord, Task, UsageError, UsageFault, UsageRefusal,
@@ -22,7 +22,8 @@ pub use cpm_config::{Config, ConfigError, Origin, SessionConfig};
 pub use cpm_debug::{DebugError, run_debug};
 pub use cpm_machine::{End, Tail};
 pub use cpm_play::{
-    CuedKeys, Heard, KeyNeed, KeyReader, NoWatcher, PlayEnd, Progress, TypingEnd, Typist, Watcher,
+    ConsoleAndList, CuedKeys, Heard, KeyNeed, KeyReader, NoWatcher, PlayEnd, PlayOutput, Progress,
+    TypingEnd, Typist, Watcher,
 };
 pub use cpm_refusals::RefusalCode;
 pub use cpm_run::{

@@ -8,7 +8,7 @@ ghost use Rattle.cpm_machine.specs.MachineState.{opened_with};
 ghost use Rattle.cpm_machine.specs.Opening.{program_fault, IsRefusal, most_program};
 ghost use Rattle.cpm_play.specs.Playing.{IsFresh};
 ghost use Rattle.cpm_play.specs.Typist.{TypingState};
-ghost use Rattle.cpm_run.specs.Settled.{streams};
+ghost use Rattle.cpm_run.specs.Settled.{play_streams};
 ghost use Rattle.cpm_host.specs.Program.{AreFit, AreRecorded, IsCueRefusal, IsCutCued, IsFitSource, IsLiveCut, IsPlayedBy, IsPlayedCued, IsPlayedLive};
 ghost use Rattle.cpm_host.specs.Program.{IsRecordingRefusal};
 ghost use Rattle.cpm_host.specs.Program.{IsProgramPlayRefusal, IsProgramRefusal, IsScriptTold};
@@ -23,7 +23,7 @@ use cpm_geom::{Format, Image};
 use cpm_machine::{
     Closed, MOST_DRIVES, MOST_PROGRAM, MOST_QUOTA, Machine, OpenError, Opening, Tail,
 };
-use cpm_play::{CuedKeys, LivePlay, PlayEnd, Typist, Watcher, play_cues, play_live};
+use cpm_play::{CuedKeys, LivePlay, PlayEnd, PlayOutput, Typist, Watcher, play_cues, play_live};
 use cpm_run::{Ending, RunError};
 use cpm_script::laws::{
     cues_in_order, recordings_give_their_keys_again, recordings_in_order, scripts_are_recordings,
@@ -259,22 +259,22 @@ fn play_of(machine: Machine, live: LivePlay, end: Option<PlayEnd>) -> ProgramPla
 
 /// Plays a machine by a script that may wait, for at most `steps` steps. There may be anything to read. It stands apart, so that its stack does.
 #[inline(never)]
-fn play_cued<W: Write, S: Write, T: Watcher>(
+fn play_cued<O: PlayOutput, S: Write, T: Watcher>(
     alloc: Global,
     system: &Image,
     machine: Machine,
     steps: u64,
     cued: CuedKeys<'_>,
-    out: &mut W,
+    out: &mut O,
     record: &mut S,
     watcher: &mut T,
 ) -> Result<ProgramPlay, HostError>
     requires fresh { IsFresh machine }
     requires fit { AreFit cued.cues.now }
     ensures played { IfOk result (λ t. (typing : TypingState) → IsPlayedCued system.now machine steps cued.entry t
-        (streams typing typing (W.contents out.old) (W.contents out.new) (S.contents «record».old) (S.contents «record».new))) }
+        (play_streams typing typing (O.got out.old) (O.got out.new) (S.contents «record».old) (S.contents «record».new))) }
     ensures refusal { IfErr result (λ e. (typing : TypingState) → IsCutCued system.now machine steps cued.entry
-        (streams typing typing (W.contents out.old) (W.contents out.new) (S.contents «record».old) (S.contents «record».new)) e) }
+        (play_streams typing typing (O.got out.old) (O.got out.new) (S.contents «record».old) (S.contents «record».new)) e) }
 {
     recordings_give_their_keys_again();
     scripts_are_recordings();
@@ -294,22 +294,22 @@ fn play_cued<W: Write, S: Write, T: Watcher>(
 
 /// Plays a machine by a script and then by the keys that are typed, for at most `steps` steps. It stands apart, so that its stack does.
 #[inline(never)]
-fn play_typed<P: Typist, W: Write, S: Write>(
+fn play_typed<P: Typist, O: PlayOutput, S: Write>(
     alloc: Global,
     system: &Image,
     machine: Machine,
     steps: u64,
     cues: &[Cue],
     typist: &mut P,
-    out: &mut W,
+    out: &mut O,
     record: &mut S,
 ) -> Result<ProgramPlay, HostError>
     requires fresh { IsFresh machine }
     requires fit { AreFit cues.now }
-    ensures played { IfOk result (λ t. IsPlayedLive system.now machine steps cues.entry.now t (streams (P.typing typist.old) (P.typing typist.new)
-        (W.contents out.old) (W.contents out.new) (S.contents «record».old) (S.contents «record».new))) }
-    ensures refusal { IfErr result (IsLiveCut system.now machine steps cues.entry.now (streams (P.typing typist.old) (P.typing typist.new)
-        (W.contents out.old) (W.contents out.new) (S.contents «record».old) (S.contents «record».new))) }
+    ensures played { IfOk result (λ t. IsPlayedLive system.now machine steps cues.entry.now t (play_streams (P.typing typist.old) (P.typing typist.new)
+        (O.got out.old) (O.got out.new) (S.contents «record».old) (S.contents «record».new))) }
+    ensures refusal { IfErr result (IsLiveCut system.now machine steps cues.entry.now (play_streams (P.typing typist.old) (P.typing typist.new)
+        (O.got out.old) (O.got out.new) (S.contents «record».old) (S.contents «record».new))) }
 {
     recordings_give_their_keys_again();
     scripts_are_recordings();
@@ -328,31 +328,31 @@ fn play_typed<P: Typist, W: Write, S: Write>(
 }
 
 /// Runs a program, or without one the command processor, on a machine of its own for at most `steps` steps. Its keys are what its script says, or that and
-/// then what is typed; without typing nobody is asked for a key. It writes what the machine shows as it comes, and each key to `record` as a line of a key
-/// script. What it sends to its list device is dropped. Where it goes by a script alone the watcher is told on the way how far it has come.
+/// then what is typed; without typing nobody is asked for a key. What the machine shows and prints goes to `out` as it comes, and each key to `record` as a
+/// line of a key script. Where it goes by a script alone the watcher is told on the way how far it has come.
 ///
 /// `ProgramTooLong`, `OpeningRefused` for more than four drives, and `OutOfMemory` for the machine and its system drive come before anybody is heard, or
 /// anything written.
-/// `InputUnreadable`, `OutputUnwritable` and `RecordUnwritable` have the errors of the typist and the two writers.
-pub fn run_program<P: Typist, W: Write, S: Write, T: Watcher>(
+/// `InputUnreadable`, `OutputUnwritable`, `ListUnwritable` and `RecordUnwritable` have the errors of the typist, the console, the list device and the record.
+pub fn run_program<P: Typist, O: PlayOutput, S: Write, T: Watcher>(
     alloc: Global,
     start: ProgramStart,
     steps: u64,
     source: Source<'_>,
     typist: &mut P,
-    out: &mut W,
+    out: &mut O,
     record: &mut S,
     watcher: &mut T,
 ) -> Result<ProgramPlay, HostError>
     requires fit { IsFitSource source }
     ensures played { IfOk result (λ t. IsPlayedBy source.entry (system_disk (program_given start)) (machine_of (program_given start)) steps t
-        (streams (P.typing typist.old) (P.typing typist.new) (W.contents out.old) (W.contents out.new)
+        (play_streams (P.typing typist.old) (P.typing typist.new) (O.got out.old) (O.got out.new)
         (S.contents «record».old) (S.contents «record».new))) }
     ensures fits { OnOk result ((program_length (program_given start) ≤ most_program) × (length (program_given start).drives ≤ 4)) }
     ensures too_long { IsErrOf result (HostError.ProgramTooLong (program_length (program_given start)))
         ↔ (most_program < program_length (program_given start)) }
     ensures refusal { IfErr result (IsProgramPlayRefusal source.entry (program_given start) steps
-        (streams (P.typing typist.old) (P.typing typist.new) (W.contents out.old) (W.contents out.new)
+        (play_streams (P.typing typist.old) (P.typing typist.new) (O.got out.old) (O.got out.new)
         (S.contents «record».old) (S.contents «record».new))) }
 {
     let (machine, system) = machine_of(alloc, start)?;

@@ -17,10 +17,11 @@ use Rattle.cpm_machine.proofs.PressLaws.{alone-add}
 use Rattle.cpm_play.specs.Cued.{HasEndedCued, HasIdled, HasNoWait, HasExecuted, IsCued, IsCuedFrom, IsCuedUpTo, IsCutOff, IsPressCut, IsUntaken, StaysCued, key_count, last_count, runs_at, screen_at, waits_at}
 use Rattle.cpm_play.specs.Live.{IsGoing}
 use Rattle.cpm_play.specs.declared.live.LiveError.{LiveError}
-use Rattle.cpm_play.specs.declared.live.LiveError.TheVariants.{Unreadable, Unwritable, Unrecorded, OutOfMemory}
+use Rattle.cpm_play.specs.declared.live.LiveError.TheVariants.{Unreadable, Unwritable, Unprinted, Unrecorded, OutOfMemory}
+use Rattle.cpm_play.specs.Output.{OutputState}
 use Rattle.cpm_play.specs.Playing.{presses_of, alone_by}
 use Rattle.cpm_play.proofs.AloneLemmas.{after-ended}
-use Rattle.cpm_play.proofs.GoingLemmas.{going-come, going-screen, going-text, going-turn, none-after}
+use Rattle.cpm_play.proofs.GoingLemmas.{going-come, going-list, going-screen, going-text, going-turn, none-after}
 use Rattle.cpm_play.proofs.RunLemmas.{waits-bare, waits-behind}
 
 -- ---- keys
@@ -46,7 +47,7 @@ not-running Exited other = refl
 
 -- ---- the machine run alone, from where the session is
 
-module _ {system : Disk} {steps most : ℕ} {start now : MachineState} {before written unrecorded record_now : Option (List ℕ)} {keys : List Key} {done : ℕ}
+module _ {system : Disk} {steps most : ℕ} {start now : MachineState} {before written : OutputState} {unrecorded record_now : Option (List ℕ)} {keys : List Key} {done : ℕ}
     (going : IsGoing system steps most start now before written unrecorded record_now keys done) where
   pub going-state : (i : ℕ) → alone_by system keys (done + i) start ≡ state_behind going.console going.list (after system i now)
   going-state i =
@@ -68,21 +69,21 @@ module _ {system : Disk} {steps most : ℕ} {start now : MachineState} {before w
       ∙ ap (λ xs. xs ++ (after system i now).session.console.screen) (going-screen system steps most start now before written unrecorded record_now keys done going)
 
   -- steps whose text is taken
-  pub going-run : (k : ℕ) (next : MachineState) (written_then : Option (List ℕ)) → k ≤ steps - done → HasExecuted system k now next written written_then →
+  pub going-run : (k : ℕ) (next : MachineState) (written_then : OutputState) → k ≤ steps - done → HasExecuted system k now next written written_then →
       IsGoing system steps most start next before written_then unrecorded record_now keys (done + k)
   going-run k next written_then fits run =
-      going-turn system steps most start now before written unrecorded record_now keys done going k (after system k now) next written_then fits refl run.state run.text
+      going-turn system steps most start now before written unrecorded record_now keys done going k (after system k now) next written_then fits refl run.state run.output
 
   -- where it ends
-  run-ended : (k : ℕ) (next : MachineState) (written_then : Option (List ℕ)) → HasExecuted system k now next written written_then → is_running now.ended ≡ false → is_running next.ended ≡ false
+  run-ended : (k : ℕ) (next : MachineState) (written_then : OutputState) → HasExecuted system k now next written written_then → is_running now.ended ≡ false → is_running next.ended ≡ false
   run-ended k next written_then run ended = ap (λ (s : MachineState). is_running s.ended) run.state ∙ after-ended system k now ended
 
-  run-waits : (k : ℕ) (next : MachineState) (written_then : Option (List ℕ)) → HasExecuted system k now next written written_then → waits_at system start keys (done + k) ≡ (look_of next).waiting
+  run-waits : (k : ℕ) (next : MachineState) (written_then : OutputState) → HasExecuted system k now next written written_then → waits_at system start keys (done + k) ≡ (look_of next).waiting
   run-waits k next written_then run =
       going-waits k ∙ sym (waits-bare (after system k now)) ∙ sym (ap (λ (s : MachineState). (look_of s).waiting) run.state)
 
   -- steps up to a wait that counts
-  module _ {waits_from done_now : ℕ} {next : MachineState} {written_then : Option (List ℕ)} (idled : HasIdled system steps waits_from done done_now now next written written_then) where
+  module _ {waits_from done_now : ℕ} {next : MachineState} {written_then : OutputState} (idled : HasIdled system steps waits_from done done_now now next written written_then) where
     past : done + (done_now - done) ≡ done_now
     past = let low = idled.low in omega arith
 
@@ -153,16 +154,24 @@ cued-whole system start steps done waits_from cues keys within cued =
     let all : min steps (steps + 1) ≡ steps = omega arith in
     subst (λ n. IsCuedFrom system start steps n waits_from [] 0 0 cues keys) all (cued steps within (omega arith))
 
-module _ {system : Disk} {steps : ℕ} (waits_from : ℕ) (cues : List Cue) {start now : MachineState} {before written unrecorded record_now : Option (List ℕ)} {keys : List Key} {done : ℕ}
+module _ {system : Disk} {steps : ℕ} (waits_from : ℕ) (cues : List Cue) {start now : MachineState} {before written : OutputState} {unrecorded record_now : Option (List ℕ)} {keys : List Key} {done : ℕ}
     (going : IsGoing system steps (key_count cues) start now before written unrecorded record_now keys done) where
   -- after so many steps more, where these are the keys so far
-  pub going-cut : (next : MachineState) (written_then : Option (List ℕ)) (e : LiveError) (k : ℕ) → k ≤ steps - done → IsUntaken (after system k now) next written written_then e →
+  pub going-cut : (next : MachineState) (written_then : OutputState) (e : LiveError) (k : ℕ) → k ≤ steps - done → IsUntaken (after system k now) next written written_then e →
       IsCuedUpTo system start steps (done + k) waits_from cues keys → IsCutOff system steps waits_from cues start next before written_then unrecorded record_now e
-  unfolding going-come going-text
+  unfolding going-come going-list going-text
   going-cut next written_then (Unreadable e) k fits cut cued = cut
   going-cut next written_then (Unrecorded e) k fits cut cued = absurd cut
   going-cut next written_then (Unwritable e) k fits cut cued =
       (keys, record { text = going-text system steps (key_count cues) start now before written unrecorded record_now keys done going k (after system k now) fits refl cut; cued = cued }, going.noted)
+  going-cut next written_then (Unprinted e) k fits cut cued = (
+    keys,
+    record {
+      list = going-list system steps (key_count cues) start now before written unrecorded record_now keys done going k (after system k now) written_then fits refl cut.0 cut.1;
+      cued = cued;
+    },
+    going.noted,
+  )
   going-cut next written_then OutOfMemory k fits cut cued = (
     keys,
     record { come = going-come system steps (key_count cues) start next before written_then unrecorded record_now keys (done + k) (going-run going k next written_then fits cut); cued = cued },
@@ -170,7 +179,7 @@ module _ {system : Disk} {steps : ℕ} (waits_from : ℕ) (cues : List Cue) {sta
   )
 
   -- on the way to a key
-  pub going-press-cut : (key : Key) (next : MachineState) (written_then record_then : Option (List ℕ)) (e : LiveError) → done ≤ key.count → key.count < steps →
+  pub going-press-cut : (key : Key) (next : MachineState) (written_then : OutputState) (record_then : Option (List ℕ)) (e : LiveError) → done ≤ key.count → key.count < steps →
       IsPressCut system (key.count - done) now next written written_then record_now record_then e →
       ((until : ℕ) → done ≤ until → until ≤ key.count → IsCuedUpTo system start steps until waits_from cues keys) →
       (runs_at system start keys key.count ≡ true → takes_key (alone_by system keys key.count start) ≡ true → IsCuedUpTo system start steps key.count waits_from cues (keys ++ key ∷ [])) →
@@ -201,6 +210,10 @@ module _ {system : Disk} {steps : ℕ} (waits_from : ℕ) (cues : List Cue) {sta
       let less = cut.0.1 in
       subst (λ r. IsCutOff system steps waits_from cues start next before written_then unrecorded r (Unwritable e)) (sym cut.1)
       (going-cut next written_then (Unwritable e) cut.0.0 (omega arith) cut.0.2 (cued (done + cut.0.0) (omega arith) (omega arith)))
+  going-press-cut key next written_then record_then (Unprinted e) low early cut cued comes =
+      let less = cut.0.1 in
+      subst (λ r. IsCutOff system steps waits_from cues start next before written_then unrecorded r (Unprinted e)) (sym cut.1)
+      (going-cut next written_then (Unprinted e) cut.0.0 (omega arith) cut.0.2 (cued (done + cut.0.0) (omega arith) (omega arith)))
   going-press-cut key next written_then record_then OutOfMemory low early cut cued comes =
       let less = cut.0.1 in
       subst (λ r. IsCutOff system steps waits_from cues start next before written_then unrecorded r OutOfMemory) (sym cut.1)

@@ -16,6 +16,7 @@ use Rattle.cpm_machine.proofs.GrantLaws.{after-add}
 use Rattle.cpm_machine.proofs.PressLaws.{alone-pressed}
 use Rattle.cpm_play.specs.Cued.{AreAscii, Comes, HasIdled, HasMissed, HasNoWait, HasPressed, HasShown, IsBusyFrom, IsCuedFrom, IsCuedUpTo, IsCueMet, StaysCued, key_count, last_count, looks_back, runs_at, screen_at, waits_at}
 use Rattle.cpm_play.specs.Live.{IsGoing}
+use Rattle.cpm_play.specs.Output.{OutputState}
 use Rattle.cpm_play.specs.Playing.{presses_of, alone_by, IsFresh}
 use Rattle.cpm_play.specs.Shown.{HasGrown, IsAwaited, IsKeptOrFound, StandsFor}
 use Rattle.cpm_play.specs.declared.shown.Shown.{Shown}
@@ -63,7 +64,7 @@ abbrev pub Awaits : Shown → List Cue → Type 0
 Awaits shown cues = (text : List ℕ) → IsAwaited text cues → IsAwaited text shown.cues.now
 
 -- The session goes, its keys are those of the cues so far, and those of the other cues make them the script's.
-pub record IsFollowing (system : Disk) (start : MachineState) (steps waits_from most : ℕ) (cues : List Cue) (now : MachineState) (before written unrecorded record_now : Option (List ℕ))
+pub record IsFollowing (system : Disk) (start : MachineState) (steps waits_from most : ℕ) (cues : List Cue) (now : MachineState) (before written : OutputState) (unrecorded record_now : Option (List ℕ))
     (keys : List Key) (done : ℕ) (rest : List Cue) (shown : Shown) : Type 0 where
   pub going : IsGoing system steps most start now before written unrecorded record_now keys done
   pub mark : ℕ
@@ -74,7 +75,7 @@ pub record IsFollowing (system : Disk) (start : MachineState) (steps waits_from 
   pub ascii : AreAscii rest
   pub room : length keys + key_count rest ≤ most
 
-pub follow-start : (system : Disk) (start : MachineState) (steps waits_from : ℕ) (cues : List Cue) (written record_now : Option (List ℕ)) (keys : List Key) (shown : Shown) → IsFresh start → AreAscii cues → keys ≡ [] → StandsFor shown [] → shown.cues.now ≡ cues →
+pub follow-start : (system : Disk) (start : MachineState) (steps waits_from : ℕ) (cues : List Cue) (written : OutputState) (record_now : Option (List ℕ)) (keys : List Key) (shown : Shown) → IsFresh start → AreAscii cues → keys ≡ [] → StandsFor shown [] → shown.cues.now ≡ cues →
     IsFollowing system start steps waits_from (key_count cues) cues start written written record_now record_now keys 0 cues shown
 follow-start system start steps waits_from cues written record_now keys shown fresh ascii none nothing same =
     let P : List Key → Type 0 = λ ks. IsFollowing system start steps waits_from (key_count cues) cues start written written record_now record_now ks 0 cues shown in
@@ -104,7 +105,7 @@ pub record IsKeyCue (system : Disk) (start : MachineState) (steps waits_from mos
       × IsCuedFrom system start until (min steps (until + 1)) waits_from (keys ++ key ∷ []) key.count (length (screen_at system start keys key.count)) others ks)
       ⊎ ((Comes system start until keys key.count → ⊥) × (ks ≡ keys)) → IsCuedUpTo system start steps until waits_from cues ks
 
-module _ {system : Disk} {start : MachineState} {steps waits_from most : ℕ} {cues : List Cue} {now : MachineState} {before written unrecorded record_now : Option (List ℕ)}
+module _ {system : Disk} {start : MachineState} {steps waits_from most : ℕ} {cues : List Cue} {now : MachineState} {before written : OutputState} {unrecorded record_now : Option (List ℕ)}
     {keys : List Key} {done : ℕ} {shown : Shown} where
   -- the next cue is this one
   at-cue : (x y : Cue) (rest others : List Cue) → rest ≡ x ∷ others → x ≡ y → IsFollowing system start steps waits_from most cues now before written unrecorded record_now keys done rest shown →
@@ -151,7 +152,7 @@ module _ {system : Disk} {start : MachineState} {steps waits_from most : ℕ} {c
         (inl ((omega arith, runs, takes), cued-stops system start key.count (min steps (key.count + 1)) waits_from more key.count mark others (omega arith)))
 
     -- a key that comes
-    pub follow-pressed : (next : MachineState) (written_then record_then : Option (List ℕ)) (more : List Key) (count : ℕ) (left : Shown) → key.count < steps → steps < 2 ^ 64 → count ≡ key.count →
+    pub follow-pressed : (next : MachineState) (written_then : OutputState) (record_then : Option (List ℕ)) (more : List Key) (count : ℕ) (left : Shown) → key.count < steps → steps < 2 ^ 64 → count ≡ key.count →
         HasPressed system key (key.count - done) now next written written_then record_now record_then → more ≡ keys ++ key ∷ [] → StandsFor left [] → left.cues.now ≡ others →
         IsFollowing system start steps waits_from most cues next before written_then unrecorded record_then more count others left
     follow-pressed next written_then record_then more count left within fits at pressed is nothing awaits =
@@ -162,7 +163,7 @@ module _ {system : Disk} {start : MachineState} {steps waits_from most : ℕ} {c
         let reached : MachineState = bare (after system k now) in
         let P : ℕ → Type 0 = λ n. IsGoing system steps most start reached before written_then unrecorded record_now keys n in
         let went : IsGoing system steps most start reached before written_then unrecorded record_now keys key.count =
-        subst P there (going-run going k reached written_then (omega arith) (record { state = refl; text = pressed.text })) in
+        subst P there (going-run going k reached written_then (omega arith) (record { state = refl; output = pressed.output })) in
         let count_room = cue.room in
         let same = screen-pressed system start keys more key is in
         let mark : ℕ = length (screen_at system start keys key.count) in
@@ -185,7 +186,7 @@ module _ {system : Disk} {start : MachineState} {steps waits_from most : ℕ} {c
         })
 
     -- a key that does not
-    module _ {next : MachineState} {written_then record_then : Option (List ℕ)} {more : List Key} {done_now : ℕ} (missed : HasMissed system key steps done done_now now next written written_then)
+    module _ {next : MachineState} {written_then : OutputState} {record_then : Option (List ℕ)} {more : List Key} {done_now : ℕ} (missed : HasMissed system key steps done done_now now next written written_then)
         (still : (more ≡ keys) × (record_then ≡ record_now)) where
       ended-never : done_now ≤ key.count → is_running next.ended ≡ false → Comes system start steps keys key.count → ⊥
       ended-never high ended comes =
@@ -270,7 +271,7 @@ module _ {system : Disk} {start : MachineState} {steps waits_from most : ℕ} {c
 
   -- steps up to a wait that counts, whose text was kept if it is looked for
   module _ {text : Vec ℕ Global} {others : List Cue} (following : IsFollowing system start steps waits_from most cues now before written unrecorded record_now keys done (Wait text ∷ others) shown)
-      {done_now : ℕ} {next : MachineState} {written_then : Option (List ℕ)} (left : Shown) (within_steps : done_now ≤ steps)
+      {done_now : ℕ} {next : MachineState} {written_then : OutputState} (left : Shown) (within_steps : done_now ≤ steps)
       (idled : HasIdled system steps waits_from done done_now now next written written_then)
       (kept : looks_back (Wait text ∷ others) ≡ true → HasGrown shown left (after system (done_now - done) now).session.console.screen) where
     pub wait-going : IsGoing system steps most start next before written_then unrecorded record_now keys done_now
@@ -393,7 +394,7 @@ module _ {system : Disk} {start : MachineState} {steps waits_from most : ℕ} {c
     past-cued past = unmet-cued (inl past)
 
 -- behind the last cue
-pub follow-end : {system : Disk} {start : MachineState} {steps waits_from most : ℕ} {cues : List Cue} {now : MachineState} {before written unrecorded record_now : Option (List ℕ)}
+pub follow-end : {system : Disk} {start : MachineState} {steps waits_from most : ℕ} {cues : List Cue} {now : MachineState} {before written : OutputState} {unrecorded record_now : Option (List ℕ)}
     {keys : List Key} {done : ℕ} {rest : List Cue} {shown : Shown} → rest ≡ [] → IsFollowing system start steps waits_from most cues now before written unrecorded record_now keys done rest shown → StaysCued system start steps done waits_from cues keys
 follow-end {system} {start} {steps} {waits_from} {most} {cues} {now} {before} {written} {unrecorded} {record_now} {keys} {done} {rest} {shown} none following until past high =
     let P : List Cue → Type 0 = λ r. IsCuedFrom system start until (min steps (until + 1)) waits_from keys done following.mark r keys in

@@ -13,12 +13,13 @@ use Rattle.cpm_machine.specs.Step.{after}
 use Rattle.cpm_machine.proofs.AloneLaws.{after-behind}
 use Rattle.cpm_machine.proofs.PressLaws.{alone-add, alone-pressed, with_keys-nil}
 use Rattle.cpm_play.specs.Cued.{waits_at}
-use Rattle.cpm_play.specs.Live.{AreBy, AreGiven, HadText, HasCome, HasGone, IsGoing}
+use Rattle.cpm_play.specs.Live.{AreBy, AreGiven, HadList, HadText, HasCome, HasGone, IsGoing}
+use Rattle.cpm_play.specs.Output.{GetsOutput, OutputState}
 use Rattle.cpm_play.specs.Pacing.{without_list, without_text}
-use Rattle.cpm_play.specs.Playing.{presses_of, alone_by, EndsAs, HasText, IsFresh, IsQuiet}
+use Rattle.cpm_play.specs.Playing.{presses_of, alone_by, EndsAs, HasList, HasText, IsFresh, IsQuiet}
 use Rattle.cpm_play.proofs.AloneLemmas.{presses-more}
 use Rattle.cpm_play.proofs.RunLemmas.{waits-behind}
-use Rattle.cpm_play.proofs.TextLemmas.{appends_more, appends_none, both_empty, keeps_all}
+use Rattle.cpm_play.proofs.TextLemmas.{appends_more, appends_none, both_empty}
 
 -- ---- keys
 
@@ -79,19 +80,20 @@ gone-taken system start keys done console list now gone = record {
   typed = gone.typed;
 }
 
-pub going-start : (system : Disk) (steps most : ℕ) (start : MachineState) (written record_now : Option (List ℕ)) → IsFresh start → IsGoing system steps most start start written written record_now record_now [] 0
+pub going-start : (system : Disk) (steps most : ℕ) (start : MachineState) (written : OutputState) (record_now : Option (List ℕ)) → IsFresh start → IsGoing system steps most start start written written record_now record_now [] 0
 going-start system steps most start written record_now fresh = record {
   console = [];
   list = [];
   gone = record { state = sym (with_keys-nil start); come = tt; typed = tt };
-  shown = appends_none written;
+  shown = appends_none written.console;
+  printed = appends_none written.list;
   quiet = record { screen = fresh.screen; printer = fresh.printer };
   within = omega arith;
   few = omega arith;
   noted = appends_none record_now;
 }
 
-module _ (system : Disk) (steps most : ℕ) (start now : MachineState) (before written unrecorded record_now : Option (List ℕ)) (keys : List Key) (done : ℕ)
+module _ (system : Disk) (steps most : ℕ) (start now : MachineState) (before written : OutputState) (unrecorded record_now : Option (List ℕ)) (keys : List Key) (done : ℕ)
     (going : IsGoing system steps most start now before written unrecorded record_now keys done) where
   -- a key more
   pub going-key : (byte : ℕ) (next : MachineState) (record_then : Option (List ℕ)) (more : List Key) → byte < 128 → done < 2 ^ 64 → length keys < most →
@@ -106,16 +108,17 @@ module _ (system : Disk) (steps most : ℕ) (start now : MachineState) (before w
         list = going.list;
         gone = subst (λ s. HasGone system start (keys ++ key ∷ []) done going.console going.list s) (sym pressed) (gone-key system start keys done byte going.console going.list now ascii fits going.gone);
         shown = going.shown;
+        printed = going.printed;
         quiet = subst IsQuiet (sym pressed) (record { screen = going.quiet.screen; printer = going.quiet.printer });
         within = going.within;
         few = let longer : length (keys ++ key ∷ []) ≡ length keys + 1 = length_push keys key in omega arith;
         noted = subst (λ v. Appends unrecorded record_then v) (sym (recorded-more keys key))
-            (appends_more unrecorded record_now record_then record_then (recorded keys) (key_line key) going.noted notes (keeps_all record_then));
+            (appends_more unrecorded record_now record_then (recorded keys) (key_line key) going.noted notes);
       })
 
-  -- steps whose text is taken
-  pub going-turn : (k : ℕ) (turned last : MachineState) (written_then : Option (List ℕ)) → k ≤ steps - done → turned ≡ after system k now →
-      last ≡ without_list (without_text turned) → Appends written written_then turned.session.console.screen →
+  -- steps whose output is taken
+  pub going-turn : (k : ℕ) (turned last : MachineState) (written_then : OutputState) → k ≤ steps - done → turned ≡ after system k now →
+      last ≡ without_list (without_text turned) → GetsOutput written written_then turned →
       IsGoing system steps most start last before written_then unrecorded record_now keys (done + k)
   going-turn k turned last written_then fits is taken writes =
       let within = going.within in
@@ -126,14 +129,15 @@ module _ (system : Disk) (steps most : ℕ) (start now : MachineState) (before w
         list = going.list ++ turned.session.console.printer;
         gone = subst (λ s. HasGone system start keys (done + k) (going.console ++ turned.session.console.screen) (going.list ++ turned.session.console.printer) s) (sym taken)
             (gone-taken system start keys (done + k) going.console going.list turned there);
-        shown = appends_more before written written_then written_then going.console turned.session.console.screen going.shown writes (keeps_all written_then);
+        shown = appends_more before.console written.console written_then.console going.console turned.session.console.screen going.shown writes.text;
+        printed = appends_more before.list written.list written_then.list going.list turned.session.console.printer going.printed writes.list;
         quiet = record { screen = ap (λ (s : MachineState). s.session.console.screen) taken; printer = ap (λ (s : MachineState). s.session.console.printer) taken };
         within = omega arith;
         few = going.few;
         noted = going.noted;
       }
 
-  -- which there was, where the writer fails
+  -- of which there was text, where the console fails
   unfoldable pub going-text : (k : ℕ) (turned : MachineState) → k ≤ steps - done → turned ≡ after system k now → HasText turned → HadText system steps most start keys
   going-text k turned fits is text =
       let within = going.within in
@@ -146,15 +150,40 @@ module _ (system : Disk) (steps most : ℕ) (start now : MachineState) (before w
         text = λ none. shown (both_empty going.console (after system k now).session.console.screen (ap (λ (s : MachineState). s.session.console.screen) there.state ∙ none));
       }
 
+  -- and list bytes, where the list device fails, whose text is shown
+  unfoldable pub going-list : (k : ℕ) (turned : MachineState) (written_then : OutputState) → k ≤ steps - done → turned ≡ after system k now → HasList turned →
+      Appends written.console written_then.console turned.session.console.screen → HadList system steps most start before written_then keys
+  going-list k turned written_then fits is list writes =
+      let within = going.within in
+      let far : MachineState = after system k now in
+      let there = gone-turn system start keys done k going.console going.list now going.gone in
+      let printed : HasList far = subst HasList is list in
+      let grown : Appends written.console written_then.console far.session.console.screen =
+      subst (λ (s : MachineState). Appends written.console written_then.console s.session.console.screen) is writes in
+      record {
+        done = done + k;
+        within = omega arith;
+        given = record { typed = there.typed; come = there.come; few = going.few };
+        list = λ none. printed (both_empty going.list far.session.console.printer (ap (λ (s : MachineState). s.session.console.printer) there.state ∙ none));
+        text = subst (Appends before.console written_then.console) (ap (λ (s : MachineState). s.session.console.screen) there.state)
+            (appends_more before.console written.console written_then.console going.console far.session.console.screen going.shown grown);
+      }
+
   pub going-screen : going.console ≡ (alone_by system keys done start).session.console.screen
   going-screen = sym (append-nil going.console) ∙ ap (λ xs. going.console ++ xs) (sym going.quiet.screen) ∙ ap (λ (s : MachineState). s.session.console.screen) going.gone.state
+
+  going-printer : going.list ≡ (alone_by system keys done start).session.console.printer
+  going-printer = sym (append-nil going.list) ∙ ap (λ xs. going.list ++ xs) (sym going.quiet.printer) ∙ ap (λ (s : MachineState). s.session.console.printer) going.gone.state
 
   -- what it is now
   pub going-given : AreGiven most done keys
   going-given = record { typed = going.gone.typed; come = going.gone.come; few = going.few }
 
-  pub going-shown : Appends before written (alone_by system keys done start).session.console.screen
-  going-shown = subst (λ xs. Appends before written xs) going-screen going.shown
+  pub going-shown : Appends before.console written.console (alone_by system keys done start).session.console.screen
+  going-shown = subst (λ xs. Appends before.console written.console xs) going-screen going.shown
+
+  pub going-printed : Appends before.list written.list (alone_by system keys done start).session.console.printer
+  going-printed = subst (λ xs. Appends before.list written.list xs) going-printer going.printed
 
   pub going-ending : EndsAs (alone_by system keys done start) now
   going-ending = record {
@@ -170,4 +199,10 @@ module _ (system : Disk) (steps most : ℕ) (start now : MachineState) (before w
   going-waiting = sym (waits-behind going.console going.list now) ∙ ap (λ (s : MachineState). (look_of s).waiting) going.gone.state
 
   unfoldable pub going-come : HasCome system steps most start now before written keys
-  going-come = record { done = done; within = going.within; given = going-given; text = going-shown; ending = going-ending }
+  going-come = record {
+    done = done;
+    within = going.within;
+    given = going-given;
+    output = record { text = going-shown; list = going-printed };
+    ending = going-ending;
+  }

@@ -1,12 +1,11 @@
 -- A session that is typed at: what is heard, one more key, turn and take, and its end.
-use Rattle.std.proofs.Common.{◌≡◌, ℕ, ◌+◌, ◌-◌, ◌*◌, ◌^◌, ◌<◌, ◌≤◌, ◌==◌, ◌&&◌, nat_le, if◌then◌else◌, Bool, true, false, true≢false, ⊎_elim, inl, inr, Option, Some, None, List, [], ◌∷◌, ◌++◌, length, refl, sym, ap, ap₂, ◌∙◌, subst, arith, append-nil}
+use Rattle.std.proofs.Common.{◌≡◌, ℕ, ◌+◌, ◌-◌, ◌*◌, ◌^◌, ◌<◌, ◌≤◌, ◌==◌, ◌&&◌, nat_le, if◌then◌else◌, Bool, true, false, true≢false, ⊎_elim, Option, Some, None, List, [], ◌∷◌, ◌++◌, length, refl, sym, ap, ap₂, ◌∙◌, subst, arith, append-nil}
 use Rattle.std.proofs.lemmas.Bool.Decides.{nat_tests}
 use Rattle.std.proofs.lemmas.List.{append_assoc, length_push}
 use Rattle.std.specs.Io.KnownBytes.{Appends}
 use Rattle.cpm_geom.specs.Disk.{Disk}
 use Rattle.cpm_console.specs.Terminal.{Terminal, has_room}
 use Rattle.cpm_script.specs.Recording.{key_line, recorded}
-use Rattle.cpm_script.specs.declared.cue.Cue.{Cue}
 use Rattle.cpm_script.specs.declared.script.Key.{Key}
 use Rattle.cpm_machine.specs.MachineState.{MachineState}
 use Rattle.cpm_machine.specs.Serve.{keyed, look_of, takes_key}
@@ -15,23 +14,24 @@ use Rattle.cpm_machine.specs.ToWait.{executed_to_wait}
 use Rattle.cpm_machine.specs.Until.{can_go_on, executed_until}
 use Rattle.cpm_machine.proofs.GrantLaws.{longest-is}
 use Rattle.cpm_play.specs.Cued.{IsCued}
-use Rattle.cpm_play.specs.Live.{IsGoing, IsNotGiven, IsUnreadable, IsUnwritable, bytes_of}
+use Rattle.cpm_play.specs.Live.{IsGoing, IsNotGiven, IsUnreadable, IsUnshown, bytes_of}
+use Rattle.cpm_play.specs.Output.{GetsOutput, OutputState}
 use Rattle.cpm_play.specs.declared.live.LiveError.{LiveError}
-use Rattle.cpm_play.specs.declared.live.LiveError.TheVariants.{Unreadable, Unwritable, Unrecorded, OutOfMemory}
+use Rattle.cpm_play.specs.declared.live.LiveError.TheVariants.{Unreadable, Unwritable, Unprinted, Unrecorded, OutOfMemory}
 use Rattle.cpm_play.specs.declared.live.PlayEnd.TheVariants.{Steps, Ended, Typing}
 use Rattle.cpm_play.specs.Pacing.{without_list, without_text}
-use Rattle.cpm_play.specs.Playing.{HasText, IsQuiet, last_count, runs_at, screen_at, waits_at}
-use Rattle.cpm_play.specs.Sitting.{HasHeardOneMore, HasListened, HasPaused, IsCutShort, IsTypedPlay, IsWantedByPatient, Sitting, sitting}
+use Rattle.cpm_play.specs.Playing.{IsQuiet, last_count, screen_at, waits_at}
+use Rattle.cpm_play.specs.Sitting.{HasHeardOneMore, HasListened, HasPaused, IsCutShort, IsTypedPlay, IsWantedByPatient, Sitting}
 use Rattle.cpm_play.specs.Typing.{HasReadKeys}
-use Rattle.cpm_play.specs.Typist.{AreOften, HasHeard, HasHeardNothing, Hearing, IsHeard, IsHeardPatiently, IsReadAs, TypingState, hearing, wants_key, key_heard, keys_heard}
+use Rattle.cpm_play.specs.Typist.{AreOften, HasHeard, HasHeardNothing, Hearing, IsHeard, IsHeardPatiently, TypingState, hearing, wants_key, key_heard, keys_heard}
 use Rattle.cpm_play.specs.declared.typist.Heard.{Heard}
 use Rattle.cpm_play.specs.declared.typist.Heard.TheVariants as heard
 use Rattle.cpm_play.specs.declared.typist.KeyNeed.{KeyNeed}
 use Rattle.cpm_play.specs.declared.typist.KeyNeed.TheVariants.{Pending, Possible, Wanted}
 use Rattle.cpm_play.specs.declared.typist.TypingEnd.{TypingEnd}
-use Rattle.cpm_play.specs.Wanting.{AreWantedAfter, HasNoLongWait, HasPolled, HasWatched, IsKeyWanted, longest_turn}
+use Rattle.cpm_play.specs.Wanting.{HasNoLongWait, HasPolled, HasWatched, IsKeyWanted, longest_turn}
 use Rattle.cpm_play.specs.declared.watch.Watch.{Watch}
-use Rattle.cpm_play.proofs.GoingLemmas.{going-come, going-ending, going-key, going-text, going-turn}
+use Rattle.cpm_play.proofs.GoingLemmas.{going-come, going-ending, going-key, going-list, going-text, going-turn}
 use Rattle.cpm_play.proofs.RunLemmas.{stopped-waits}
 use Rattle.cpm_play.proofs.TypingLemmas.{read_more, read_none}
 use Rattle.cpm_play.proofs.WantingLemmas.{IsWatched, wanted-append, watched-key, watched-start, watched-turn}
@@ -144,14 +144,14 @@ not-wanted need e wanted = absurd (true≢false (sym (ap wants_key wanted) ∙ e
 -- ---- the session
 
 -- it goes, this was heard, and so much was watched
-pub record IsLive (s : Sitting) (now : MachineState) (written_before written unrecorded record_now : Option (List ℕ)) (before latest : TypingState) (keys : List Key) (done : ℕ) (watch : Watch)
+pub record IsLive (s : Sitting) (now : MachineState) (written_before written : OutputState) (unrecorded record_now : Option (List ℕ)) (before latest : TypingState) (keys : List Key) (done : ℕ) (watch : Watch)
     : Type 0 where
   pub going : IsGoing s.system s.steps (length keys) s.start now written_before written unrecorded record_now keys done
   pub listened : HasListened s before latest keys done
   pub polled : HasPolled s.system s.start keys watch.polls (last_count 0 keys) (done + 1) (screen_at s.system s.start keys done)
 
 -- with other bounds of the number of its keys
-going-wide : {system : Disk} {steps most : ℕ} {start now : MachineState} {before written unrecorded record_now : Option (List ℕ)} {keys : List Key} {done : ℕ} →
+going-wide : {system : Disk} {steps most : ℕ} {start now : MachineState} {before written : OutputState} {unrecorded record_now : Option (List ℕ)} {keys : List Key} {done : ℕ} →
     IsGoing system steps most start now before written unrecorded record_now keys done → (other : ℕ) → length keys ≤ other →
     IsGoing system steps other start now before written unrecorded record_now keys done
 going-wide going other fits = record {
@@ -159,13 +159,14 @@ going-wide going other fits = record {
   list = going.list;
   gone = going.gone;
   shown = going.shown;
+  printed = going.printed;
   quiet = going.quiet;
   within = going.within;
   few = fits;
   noted = going.noted;
 }
 
-pub live-start : (s : Sitting) (most : ℕ) (now : MachineState) (written_before written unrecorded record_now : Option (List ℕ)) (typing : TypingState) (keys : List Key) (done : ℕ) (watch : Watch) →
+pub live-start : (s : Sitting) (most : ℕ) (now : MachineState) (written_before written : OutputState) (unrecorded record_now : Option (List ℕ)) (typing : TypingState) (keys : List Key) (done : ℕ) (watch : Watch) →
     IsGoing s.system s.steps most s.start now written_before written unrecorded record_now keys done → IsCued s.system s.start s.steps 0 s.cues keys → (s.cues ≡ [] → done ≡ 0) →
     watch.polls ≡ 0 → IsLive s now written_before written unrecorded record_now typing typing keys done watch
 live-start s most now written_before written unrecorded record_now typing keys done watch going cued first none =
@@ -190,15 +191,15 @@ live-start s most now written_before written unrecorded record_now typing keys d
       polled = watched.polled;
     }
 
-module _ {s : Sitting} {now : MachineState} {written_before written unrecorded record_now : Option (List ℕ)} {before latest : TypingState} {keys : List Key} {done : ℕ} {watch : Watch}
+module _ {s : Sitting} {now : MachineState} {written_before written : OutputState} {unrecorded record_now : Option (List ℕ)} {before latest : TypingState} {keys : List Key} {done : ℕ} {watch : Watch}
     (live : IsLive s now written_before written unrecorded record_now before latest keys done watch) where
   pub live-watched : IsWatched s.system s.start keys live.listened.begun done watch
   live-watched = record { polled = live.polled; brief = live.listened.brief }
 
   -- nothing was typed, and the steps of a turn follow, whose text is taken
-  pub live-turn : (next : TypingState) (k : ℕ) (turned last : MachineState) (written_then : Option (List ℕ)) (watch_then : Watch) → IsHeard done latest next heard.Nothing →
+  pub live-turn : (next : TypingState) (k : ℕ) (turned last : MachineState) (written_then : OutputState) (watch_then : Watch) → IsHeard done latest next heard.Nothing →
       0 < k → k ≤ s.steps - done → k ≤ longest_turn → waits_at s.system s.start keys done ≡ false →
-      turned ≡ after s.system k now → HasWatched watch watch_then k turned → last ≡ without_list (without_text turned) → Appends written written_then turned.session.console.screen →
+      turned ≡ after s.system k now → HasWatched watch watch_then k turned → last ≡ without_list (without_text turned) → GetsOutput written written_then turned →
       IsLive s last written_before written_then unrecorded record_now before next keys (done + k) watch_then
   live-turn next k turned last written_then watch_then is some fits few busy there watches taken writes =
       let watched = watched-turn live.going live-watched k turned watch_then some few busy there watches in
@@ -212,22 +213,31 @@ module _ {s : Sitting} {now : MachineState} {written_before written unrecorded r
   pub live-still : (next : TypingState) → IsHeard done latest next heard.Nothing → IsLive s now written_before written unrecorded record_now before next keys done watch
   live-still next is = record { going = live.going; listened = listened-still live.listened next is; polled = live.polled }
 
-  -- the writer failed
-  pub live-unshown : (next : TypingState) (k : ℕ) (turned last : MachineState) (written_then : Option (List ℕ)) (e : LiveError) → IsHeard done latest next heard.Nothing →
-      k ≤ s.steps - done → turned ≡ after s.system k now → IsUnwritable e × HasText turned →
+  -- the console or the list device failed
+  pub live-unshown : (next : TypingState) (k : ℕ) (turned last : MachineState) (written_then : OutputState) (e : LiveError) → IsHeard done latest next heard.Nothing →
+      k ≤ s.steps - done → turned ≡ after s.system k now → IsUnshown turned written written_then e →
       IsCutShort s last written_before written_then unrecorded record_now before next e
-  live-unshown next k turned last written_then (Unreadable e) is fits there text = absurd text.0
-  live-unshown next k turned last written_then (Unwritable e) is fits there text = (
+  live-unshown next k turned last written_then (Unreadable e) is fits there cut = absurd cut
+  live-unshown next k turned last written_then (Unwritable e) is fits there cut = (
     keys,
     record {
       at = done;
       listened = listened-still live.listened next is;
-      text = going-text s.system s.steps (length keys) s.start now written_before written unrecorded record_now keys done live.going k turned fits there text.1;
+      text = going-text s.system s.steps (length keys) s.start now written_before written unrecorded record_now keys done live.going k turned fits there cut;
     },
     live.going.noted,
   )
-  live-unshown next k turned last written_then (Unrecorded e) is fits there text = absurd text.0
-  live-unshown next k turned last written_then OutOfMemory is fits there text = absurd text.0
+  live-unshown next k turned last written_then (Unprinted e) is fits there cut = (
+    keys,
+    record {
+      at = done;
+      listened = listened-still live.listened next is;
+      list = going-list s.system s.steps (length keys) s.start now written_before written unrecorded record_now keys done live.going k turned written_then fits there cut.0 cut.1;
+    },
+    live.going.noted,
+  )
+  live-unshown next k turned last written_then (Unrecorded e) is fits there cut = absurd cut
+  live-unshown next k turned last written_then OutOfMemory is fits there cut = absurd cut
 
   -- a key more
   pub live-key : (next : TypingState) (byte : ℕ) (pressed : MachineState) (record_then : Option (List ℕ)) (more : List Key) (watch_then : Watch) → IsHeard done latest next (heard.Key byte) →
@@ -260,6 +270,7 @@ module _ {s : Sitting} {now : MachineState} {written_before written unrecorded r
   unfolding going-come live-paused
   live-unheard next (Unreadable e) is listened wants = (keys, live-paused next listened, wants, live.going.noted)
   live-unheard next (Unwritable e) is listened wants = absurd is
+  live-unheard next (Unprinted e) is listened wants = absurd is
   live-unheard next (Unrecorded e) is listened wants = absurd is
   live-unheard next OutOfMemory is listened wants = absurd is
 
@@ -281,6 +292,7 @@ module _ {s : Sitting} {now : MachineState} {written_before written unrecorded r
           IsCutShort s same written_before written unrecorded record_then before next e
       by_error (Unreadable e) one is = absurd is
       by_error (Unwritable e) one is = absurd is
+      by_error (Unprinted e) one is = absurd is
       by_error (Unrecorded e) one is = (keys, one)
       by_error OutOfMemory one is = (keys, one, subst (λ o. Appends unrecorded o (recorded keys)) (sym is) live.going.noted)
 

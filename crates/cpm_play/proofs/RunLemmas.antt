@@ -1,5 +1,5 @@
 -- Steps that are executed in turns, whose output is taken after each, and those up to a wait.
-use Rattle.std.proofs.Common.{◌≡◌, ℕ, ◌+◌, ◌-◌, ◌<◌, ◌≤◌, ◌&&◌, nat_le, not, max, min, Bool, true, false, true≢false, ◌⊎◌, inl, inr, ⊎_elim, Option, List, [], ◌++◌, length, refl, sym, ap, ap₂, ◌∙◌, subst, arith, append-nil}
+use Rattle.std.proofs.Common.{◌≡◌, ℕ, ◌+◌, ◌-◌, ◌<◌, ◌≤◌, ◌&&◌, nat_le, not, max, min, Bool, true, false, true≢false, ◌⊎◌, inl, inr, ⊎_elim, List, [], ◌++◌, length, refl, sym, ap, ap₂, ◌∙◌, subst, arith, append-nil}
 use Rattle.std.proofs.lemmas.Bool.{cases_lt}
 use Rattle.std.specs.Io.KnownBytes.{Appends}
 use Rattle.cpm_geom.specs.Disk.{Disk}
@@ -14,7 +14,8 @@ use Rattle.cpm_machine.proofs.AloneLaws.{after-behind}
 use Rattle.cpm_machine.proofs.GrantLaws.{after-add, longest-is}
 use Rattle.cpm_play.specs.Cued.{HasIdled, HasExecuted, HasStopped, IsBusyFor, IsBusyFrom, IsIdleCut, IsRunCut, IsOutputTaken, IsUntaken}
 use Rattle.cpm_play.specs.declared.live.LiveError.{LiveError}
-use Rattle.cpm_play.specs.declared.live.LiveError.TheVariants.{Unreadable, Unwritable, Unrecorded, OutOfMemory}
+use Rattle.cpm_play.specs.declared.live.LiveError.TheVariants.{Unreadable, Unwritable, Unprinted, Unrecorded, OutOfMemory}
+use Rattle.cpm_play.specs.Output.{OutputState}
 use Rattle.cpm_play.specs.Pacing.{without_list, without_text}
 use Rattle.cpm_play.specs.Playing.{IsQuiet}
 use Rattle.cpm_play.specs.Shown.{HasGrown}
@@ -22,7 +23,7 @@ use Rattle.cpm_play.specs.declared.shown.Shown.{Shown}
 use Rattle.cpm_play.proofs.AloneLemmas.{after-ended}
 use Rattle.cpm_play.proofs.WaitLemmas.{waits-output}
 use Rattle.cpm_play.proofs.ShownLemmas.{grown-none, grown-on}
-use Rattle.cpm_play.proofs.TextLemmas.{appends_more, appends_none, both_empty, keeps_all}
+use Rattle.cpm_play.proofs.TextLemmas.{appends_more, appends_none, both_empty}
 
 -- ---- output that is taken
 
@@ -35,7 +36,7 @@ behind-bare s =
     ap₂ (λ (xs ys : List ℕ). record s { session = record s.session { console = record s.session.console { screen = xs; printer = ys } } })
     (append-nil s.session.console.screen) (append-nil s.session.console.printer)
 
-pub quiet-taken : (old now : MachineState) (before written : Option (List ℕ)) → IsOutputTaken old now before written → IsQuiet now
+pub quiet-taken : (old now : MachineState) (before written : OutputState) → IsOutputTaken old now before written → IsQuiet now
 quiet-taken old now before written taken = record {
   screen = ap (λ (s : MachineState). s.session.console.screen) taken.state;
   printer = ap (λ (s : MachineState). s.session.console.printer) taken.state;
@@ -43,16 +44,19 @@ quiet-taken old now before written taken = record {
 
 -- ---- one turn more
 
-pub run-none : (system : Disk) (s : MachineState) (written : Option (List ℕ)) → IsQuiet s → HasExecuted system 0 s s written written
+pub run-none : (system : Disk) (s : MachineState) (written : OutputState) → IsQuiet s → HasExecuted system 0 s s written written
 run-none system s written quiet = record {
   state = ap₂ (λ (xs ys : List ℕ). record s { session = record s.session { console = record s.session.console { screen = xs; printer = ys } } }) quiet.screen quiet.printer;
-  text = subst (λ xs. Appends written written xs) (sym quiet.screen) (appends_none written);
+  output = record {
+    text = subst (λ xs. Appends written.console written.console xs) (sym quiet.screen) (appends_none written.console);
+    list = subst (λ xs. Appends written.list written.list xs) (sym quiet.printer) (appends_none written.list);
+  };
 }
 
 pub kept-none : (s : MachineState) (old : Shown) → IsQuiet s → HasGrown old old s.session.console.screen
 kept-none s old quiet = grown-none old s.session.console.screen quiet.screen
 
-module _ (system : Disk) (k : ℕ) (old mid : MachineState) (before middle : Option (List ℕ)) (run : HasExecuted system k old mid before middle) where
+module _ (system : Disk) (k : ℕ) (old mid : MachineState) (before middle : OutputState) (run : HasExecuted system k old mid before middle) where
   -- with the output that was taken put back in front the steps go on
   pub run-on : (j : ℕ) → after system (k + j) old ≡ state_behind (after system k old).session.console.screen (after system k old).session.console.printer (after system j mid)
   run-on j =
@@ -60,12 +64,22 @@ module _ (system : Disk) (k : ℕ) (old mid : MachineState) (before middle : Opt
       after-add system k j old ∙ ap (after system j) (sym (behind-bare far)) ∙ after-behind system far.session.console.screen far.session.console.printer j (bare far)
       ∙ ap (λ s. state_behind far.session.console.screen far.session.console.printer (after system j s)) (sym run.state)
 
-  pub run-more : (j : ℕ) (turned next : MachineState) (written : Option (List ℕ)) → turned ≡ after system j mid → IsOutputTaken turned next middle written → HasExecuted system (k + j) old next before written
+  -- more text is shown
+  shown-on : (j : ℕ) (written : OutputState) → Appends middle.console written.console (after system j mid).session.console.screen →
+      Appends before.console written.console (after system (k + j) old).session.console.screen
+  shown-on j written writes =
+      subst (λ xs. Appends before.console written.console xs) (sym (ap (λ (s : MachineState). s.session.console.screen) (run-on j)))
+      (appends_more before.console middle.console written.console (after system k old).session.console.screen (after system j mid).session.console.screen run.output.text writes)
+
+  pub run-more : (j : ℕ) (turned next : MachineState) (written : OutputState) → turned ≡ after system j mid → IsOutputTaken turned next middle written → HasExecuted system (k + j) old next before written
   run-more j turned next written is taken = record {
     state = taken.state ∙ ap bare is ∙ sym (ap bare (run-on j));
-    text = subst (λ xs. Appends before written xs) (sym (ap (λ (s : MachineState). s.session.console.screen) (run-on j)))
-        (appends_more before middle written written (after system k old).session.console.screen (after system j mid).session.console.screen run.text
-        (subst (λ (s : MachineState). Appends middle written s.session.console.screen) is taken.text) (keeps_all written));
+    output = record {
+      text = shown-on j written (subst (λ (s : MachineState). Appends middle.console written.console s.session.console.screen) is taken.output.text);
+      list = subst (λ xs. Appends before.list written.list xs) (sym (ap (λ (s : MachineState). s.session.console.printer) (run-on j)))
+          (appends_more before.list middle.list written.list (after system k old).session.console.printer (after system j mid).session.console.printer run.output.list
+          (subst (λ (s : MachineState). Appends middle.list written.list s.session.console.printer) is taken.output.list));
+    };
   }
 
   -- one that makes no step
@@ -75,16 +89,21 @@ module _ (system : Disk) (k : ℕ) (old mid : MachineState) (before middle : Opt
       subst (λ s. HasExecuted system k old s before middle) (sym same) run
 
   -- one that is cut short
-  run-untaken : (j : ℕ) (turned next : MachineState) (written : Option (List ℕ)) (e : LiveError) → turned ≡ after system j mid → IsUntaken turned next middle written e →
+  run-untaken : (j : ℕ) (turned next : MachineState) (written : OutputState) (e : LiveError) → turned ≡ after system j mid → IsUntaken turned next middle written e →
       IsUntaken (after system (k + j) old) next before written e
   run-untaken j turned next written (Unreadable e) is cut = absurd cut
   run-untaken j turned next written (Unrecorded e) is cut = absurd cut
   run-untaken j turned next written (Unwritable e) is cut =
       λ none. cut (ap (λ (s : MachineState). s.session.console.screen) is
       ∙ both_empty (after system k old).session.console.screen (after system j mid).session.console.screen (sym (ap (λ (s : MachineState). s.session.console.screen) (run-on j)) ∙ none))
+  run-untaken j turned next written (Unprinted e) is cut = (
+    λ none. cut.0 (ap (λ (s : MachineState). s.session.console.printer) is
+        ∙ both_empty (after system k old).session.console.printer (after system j mid).session.console.printer (sym (ap (λ (s : MachineState). s.session.console.printer) (run-on j)) ∙ none)),
+    shown-on j written (subst (λ (s : MachineState). Appends middle.console written.console s.session.console.screen) is cut.1),
+  )
   run-untaken j turned next written OutOfMemory is cut = run-more j turned next written is cut
 
-  pub run-cut : (to_wait : Bool) (steps j : ℕ) (turned next : MachineState) (written : Option (List ℕ)) (e : LiveError) → k + j ≤ steps → turned ≡ after system j mid → IsUntaken turned next middle written e →
+  pub run-cut : (to_wait : Bool) (steps j : ℕ) (turned next : MachineState) (written : OutputState) (e : LiveError) → k + j ≤ steps → turned ≡ after system j mid → IsUntaken turned next middle written e →
       (to_wait ≡ true → IsBusyFor system (k + j) old) → IsRunCut to_wait system steps old next before written e
   run-cut to_wait steps j turned next written e fits is cut busy = (k + j, fits, run-untaken j turned next written e is cut, busy)
 
@@ -109,7 +128,7 @@ pub ended-waits : (s : MachineState) → is_running s.ended ≡ false → (look_
 unfolding look_of
 ended-waits s ended = ap (λ b. b && is_waiting s.session s.memory) ended
 
-pub busy-more : (system : Disk) (k j : ℕ) (old mid : MachineState) (before middle : Option (List ℕ)) → HasExecuted system k old mid before middle →
+pub busy-more : (system : Disk) (k j : ℕ) (old mid : MachineState) (before middle : OutputState) → HasExecuted system k old mid before middle →
     IsBusyFor system k old → IsBusyFor system j mid → IsBusyFor system (k + j) old
 busy-more system k j old mid before middle run first second i below = ⊎_elim (λ less. first i less)
     (λ past.
@@ -219,13 +238,13 @@ run-all true system steps k old now busy all = (busy refl, inl all)
 -- ---- a pause, and then steps up to a wait
 
 -- where those of the pause are cut short
-pub pause-short : (system : Disk) (steps waits_from done pause : ℕ) (old next : MachineState) (before written : Option (List ℕ)) (e : LiveError) → done ≤ steps → pause ≡ min waits_from steps - done →
+pub pause-short : (system : Disk) (steps waits_from done pause : ℕ) (old next : MachineState) (before written : OutputState) (e : LiveError) → done ≤ steps → pause ≡ min waits_from steps - done →
     IsRunCut false system pause old next before written e → IsIdleCut system steps waits_from done old next before written e
 pause-short system steps waits_from done pause old next before written e within paused cut =
     let less = cut.1 in
     (cut.0, omega arith, cut.2, λ i low high. absurd (omega arith))
 
-module _ (system : Disk) (steps waits_from done pause k j : ℕ) (old mid next : MachineState) (before middle written : Option (List ℕ))
+module _ (system : Disk) (steps waits_from done pause k j : ℕ) (old mid next : MachineState) (before middle written : OutputState)
     (within_steps : done ≤ steps) (paused : pause ≡ min waits_from steps - done) (fits : k ≤ pause) (run : HasExecuted system k old mid before middle) where
   -- none of the steps behind the pause waits
   pause-busy : (n : ℕ) → IsBusyFor system n mid → IsBusyFrom system (max waits_from done) (done + k + n) done old

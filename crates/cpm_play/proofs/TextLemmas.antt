@@ -1,10 +1,11 @@
 -- Moving the bytes that wait out of a machine.
 use Rattle.std.proofs.Common.{◌≡◌, ◌∙◌, ◌++◌, ◌≤◌, ap, ap₂, sym, refl, Result, Ok, Err, OnErr, OnOk, Bool, true, ℕ, List, [], ◌∷◌, Option, Some, None, length, take, drop, min, arith, append-nil}
 use Rattle.std.proofs.lemmas.List.{append_assoc, length-take-le, take-append-drop, take_at}
-use Rattle.std.specs.Io.KnownBytes.{Appends, Keeps}
+use Rattle.std.specs.Io.KnownBytes.{Appends}
 use Rattle.cpm_machine.specs.MachineState.{MachineState}
-use Rattle.cpm_machine.specs.Serve.{taken}
-use Rattle.cpm_play.specs.Playing.{HasText}
+use Rattle.cpm_machine.specs.Serve.{taken, taken_list}
+use Rattle.cpm_play.specs.Output.{OutputState}
+use Rattle.cpm_play.specs.Playing.{HasList, HasText}
 use Rattle.cpm_play.specs.Shown.{HasGrown}
 use Rattle.cpm_play.specs.declared.shown.Shown.{Shown}
 use Rattle.cpm_play.proofs.ShownLemmas.{grown-none, grown-on}
@@ -16,63 +17,91 @@ with_text xs s = record s { session = record s.session { console = record s.sess
 abbrev pub with_list : List ℕ → MachineState → MachineState
 with_list xs s = record s { session = record s.session { console = record s.session.console { printer = xs } } }
 
--- some of the console bytes were moved to the writer
-pub record IsMoved (start now : MachineState) (before after : Option (List ℕ)) : Type 0 where
+-- some of the console bytes were moved to the console
+pub record IsMoved (start now : MachineState) (before after : OutputState) : Type 0 where
   pub text : List ℕ
-  pub written : Appends before after text
+  pub written : Appends before.console after.console text
+  pub still : after.list ≡ before.list
   pub whole : text ++ now.session.console.screen ≡ start.session.console.screen
   pub state : now ≡ with_text now.session.console.screen start
 
--- known bytes grow twice, and then stay
-pub appends_more : (before middle grown kept : Option (List ℕ)) (xs ys : List ℕ) → Appends before middle xs → Appends middle grown ys → Keeps grown kept
-    → Appends before kept (xs ++ ys)
-appends_more None middle grown kept xs ys a b k = tt
-appends_more (Some w) None grown kept xs ys a b k = absurd a
-appends_more (Some w) (Some x) None kept xs ys a b k = absurd b
-appends_more (Some w) (Some x) (Some y) None xs ys a b k = absurd k
-appends_more (Some w) (Some x) (Some y) (Some z) xs ys a b k = k ∙ b ∙ ap (λ v. v ++ ys) a ∙ append_assoc w xs ys
+-- some of the list bytes were moved to the list device
+pub record IsPrinted (start now : MachineState) (before after : OutputState) : Type 0 where
+  pub bytes : List ℕ
+  pub written : Appends before.list after.list bytes
+  pub still : after.console ≡ before.console
+  pub whole : bytes ++ now.session.console.printer ≡ start.session.console.printer
+  pub state : now ≡ with_list now.session.console.printer start
+
+-- known bytes grow twice
+pub appends_more : (before middle grown : Option (List ℕ)) (xs ys : List ℕ) → Appends before middle xs → Appends middle grown ys → Appends before grown (xs ++ ys)
+appends_more None middle grown xs ys a b = tt
+appends_more (Some w) None grown xs ys a b = absurd a
+appends_more (Some w) (Some x) None xs ys a b = absurd b
+appends_more (Some w) (Some x) (Some y) xs ys a b = b ∙ ap (λ v. v ++ ys) a ∙ append_assoc w xs ys
 
 pub appends_none : (o : Option (List ℕ)) → Appends o o []
 appends_none None = tt
 appends_none (Some xs) = sym (append-nil xs)
 
-pub keeps_all : (o : Option (List ℕ)) → Keeps o o
-keeps_all None = tt
-keeps_all (Some xs) = refl
+-- nothing was moved so far
+pub moved_none : (start : MachineState) (written : OutputState) → IsMoved start start written written
+moved_none start written = record { text = []; written = appends_none written.console; still = refl; whole = refl; state = refl }
+
+pub printed_none : (start : MachineState) (written : OutputState) → IsPrinted start start written written
+printed_none start written = record { bytes = []; written = appends_none written.list; still = refl; whole = refl; state = refl }
 
 -- one chunk more
-pub moved_more : (start now next : MachineState) (before middle grown kept : Option (List ℕ)) (room : ℕ) (chunk : List ℕ) → IsMoved start now before middle
-    → chunk ≡ take (min room (length now.session.console.screen)) now.session.console.screen → next ≡ taken room now → Appends middle grown chunk → Keeps grown kept
-    → IsMoved start next before kept
-moved_more start now next before middle grown kept room chunk moved is state writes keeps =
+pub moved_more : (start now next : MachineState) (before middle grown : OutputState) (room : ℕ) (chunk : List ℕ) → IsMoved start now before middle
+    → chunk ≡ take (min room (length now.session.console.screen)) now.session.console.screen → next ≡ taken room now → Appends middle.console grown.console chunk
+    → grown.list ≡ middle.list → IsMoved start next before grown
+moved_more start now next before middle grown room chunk moved is state writes stays =
     let screen = now.session.console.screen in
     let count = min room (length screen) in
     let left : next.session.console.screen ≡ drop count screen = ap (λ (s : MachineState). s.session.console.screen) state in
     record {
       text = moved.text ++ chunk;
-      written = appends_more before middle grown kept moved.text chunk moved.written writes keeps;
+      written = appends_more before.console middle.console grown.console moved.text chunk moved.written writes;
+      still = stays ∙ moved.still;
       whole = ap₂ (λ a b. (moved.text ++ a) ++ b) is left ∙ append_assoc moved.text (take count screen) (drop count screen)
           ∙ ap (λ v. moved.text ++ v) (take-append-drop count screen) ∙ moved.whole;
       state = state ∙ ap (taken room) moved.state ∙ ap (λ v. with_text v start) (sym left);
     }
 
+pub printed_more : (start now next : MachineState) (before middle grown : OutputState) (room : ℕ) (chunk : List ℕ) → IsPrinted start now before middle
+    → chunk ≡ take (min room (length now.session.console.printer)) now.session.console.printer → next ≡ taken_list room now → Appends middle.list grown.list chunk
+    → grown.console ≡ middle.console → IsPrinted start next before grown
+printed_more start now next before middle grown room chunk moved is state writes stays =
+    let printer = now.session.console.printer in
+    let count = min room (length printer) in
+    let left : next.session.console.printer ≡ drop count printer = ap (λ (s : MachineState). s.session.console.printer) state in
+    record {
+      bytes = moved.bytes ++ chunk;
+      written = appends_more before.list middle.list grown.list moved.bytes chunk moved.written writes;
+      still = stays ∙ moved.still;
+      whole = ap₂ (λ a b. (moved.bytes ++ a) ++ b) is left ∙ append_assoc moved.bytes (take count printer) (drop count printer)
+          ∙ ap (λ v. moved.bytes ++ v) (take-append-drop count printer) ∙ moved.whole;
+      state = state ∙ ap (taken_list room) moved.state ∙ ap (λ v. with_list v start) (sym left);
+    }
+
 -- some of them, which were kept too if there was memory for them
-pub record IsMovedKept (start now : MachineState) (before after : Option (List ℕ)) (old held : Shown) (whole : Bool) : Type 0 where
+pub record IsMovedKept (start now : MachineState) (before after : OutputState) (old held : Shown) (whole : Bool) : Type 0 where
   pub moved : IsMoved start now before after
   pub kept : whole ≡ true → HasGrown old held moved.text
 
-pub kept_none : (start : MachineState) (written : Option (List ℕ)) (old : Shown) (whole : Bool) → IsMovedKept start start written written old old whole
+pub kept_none : (start : MachineState) (written : OutputState) (old : Shown) (whole : Bool) → IsMovedKept start start written written old old whole
+unfolding moved_none
 kept_none start written old whole = record {
-  moved = record { text = []; written = appends_none written; whole = refl; state = refl };
+  moved = moved_none start written;
   kept = λ yes. grown-none old [] refl;
 }
 
-pub kept_more : (start now next : MachineState) (before middle grown held : Option (List ℕ)) (room : ℕ) (chunk : List ℕ) (old kept more : Shown) (had whole : Bool) → IsMovedKept start now before middle old kept had
-    → chunk ≡ take (min room (length now.session.console.screen)) now.session.console.screen → next ≡ taken room now → Appends middle grown chunk → Keeps grown held
-    → (whole ≡ true → had ≡ true) → (whole ≡ true → HasGrown kept more chunk) → IsMovedKept start next before held old more whole
+pub kept_more : (start now next : MachineState) (before middle grown : OutputState) (room : ℕ) (chunk : List ℕ) (old kept more : Shown) (had whole : Bool) → IsMovedKept start now before middle old kept had
+    → chunk ≡ take (min room (length now.session.console.screen)) now.session.console.screen → next ≡ taken room now → Appends middle.console grown.console chunk
+    → grown.list ≡ middle.list → (whole ≡ true → had ≡ true) → (whole ≡ true → HasGrown kept more chunk) → IsMovedKept start next before grown old more whole
 unfolding moved_more
-kept_more start now next before middle grown held room chunk old kept more had whole so_far is state writes keeps all keeps_it = record {
-  moved = moved_more start now next before middle grown held room chunk so_far.moved is state writes keeps;
+kept_more start now next before middle grown room chunk old kept more had whole so_far is state writes stays all keeps_it = record {
+  moved = moved_more start now next before middle grown room chunk so_far.moved is state writes stays;
   kept = λ yes. grown-on (so_far.kept (all yes)) (keeps_it yes);
 }
 
@@ -97,9 +126,16 @@ both_empty [] ys e = e
 both_empty (x ∷ xs) ys e = absurd (let bad : ⊥ = cc in bad)
 
 -- bytes were there to be taken
-pub moved_text : (start now : MachineState) (before written : Option (List ℕ)) (room count : ℕ) → IsMoved start now before written
+pub moved_text : (start now : MachineState) (before written : OutputState) (room count : ℕ) → IsMoved start now before written
     → count ≡ min room (length now.session.console.screen) → (count ≡ 0 → ⊥) → HasText start
 moved_text start now before written room count moved is some none =
     let left : now.session.console.screen ≡ [] = both_empty moved.text now.session.console.screen (moved.whole ∙ none) in
     let zero : length now.session.console.screen ≡ 0 = ap length left in
+    some (omega arith)
+
+pub printed_list : (start now : MachineState) (before written : OutputState) (room count : ℕ) → IsPrinted start now before written
+    → count ≡ min room (length now.session.console.printer) → (count ≡ 0 → ⊥) → HasList start
+printed_list start now before written room count moved is some none =
+    let left : now.session.console.printer ≡ [] = both_empty moved.bytes now.session.console.printer (moved.whole ∙ none) in
+    let zero : length now.session.console.printer ≡ 0 = ap length left in
     some (omega arith)

@@ -17,6 +17,7 @@ use Rattle.cpm_machine.specs.declared.reply.Why.{Why}
 use Rattle.cpm_machine.specs.declared.reply.Why.TheVariants.{All, Stopped, Break, Blocked}
 use Rattle.cpm_machine.proofs.PressLaws.{alone-late}
 use Rattle.cpm_play.specs.Live.{AreBy, IsGoing}
+use Rattle.cpm_play.specs.Output.{OutputState}
 use Rattle.cpm_play.specs.Playing.{alone_by, last_count, presses_of, screen_at, waits_at}
 use Rattle.cpm_play.specs.Typist.{CanBeHeard}
 use Rattle.cpm_play.specs.Wanting.{AreWantedAfter, HasAsked, HasNoLongWait, HasPolled, HasWatched, IsKeyWanted, asks_for_key, console_status_address, is_poll, longest_turn, need_of, polls_by, polls_enough, polls_kept, polls_more, polls_seen, watched_address}
@@ -136,7 +137,7 @@ watched-start system start keys done watch none = record {
   brief = λ n low below. absurd (omega arith);
 }
 
-module _ {system : Disk} {steps most : ℕ} {start now : MachineState} {before written unrecorded record_now : Option (List ℕ)} {keys : List Key} {begun done : ℕ} {watch : Watch}
+module _ {system : Disk} {steps most : ℕ} {start now : MachineState} {before written : OutputState} {unrecorded record_now : Option (List ℕ)} {keys : List Key} {begun done : ℕ} {watch : Watch}
     (going : IsGoing system steps most start now before written unrecorded record_now keys done) (watched : IsWatched system start keys begun done watch) where
   -- a key more
   pub watched-key : (next : Watch) (more : List Key) (key : Key) → next.polls ≡ 0 → more ≡ keys ++ key ∷ [] → key.count ≡ done → IsWatched system start more begun done next

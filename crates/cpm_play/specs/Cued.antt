@@ -13,11 +13,12 @@ use Rattle.cpm_script.specs.declared.script.Key.{Key}
 use Rattle.cpm_machine.specs.MachineState.{MachineState}
 use Rattle.cpm_machine.specs.Serve.{keyed, look_of, takes_key}
 use Rattle.cpm_machine.specs.Step.{after, is_running}
-use Rattle.cpm_play.specs.Live.{HadText, HasCome}
+use Rattle.cpm_play.specs.Live.{HadList, HadText, HasCome, IsUnshown}
 use Rattle.cpm_play.specs.declared.live.LiveError.{LiveError}
-use Rattle.cpm_play.specs.declared.live.LiveError.TheVariants.{Unreadable, Unwritable, Unrecorded, OutOfMemory}
+use Rattle.cpm_play.specs.declared.live.LiveError.TheVariants.{Unreadable, Unwritable, Unprinted, Unrecorded, OutOfMemory}
+use Rattle.cpm_play.specs.Output.{GetsOutput, OutputState}
 use Rattle.cpm_play.specs.Pacing.{without_list, without_text}
-use Rattle.cpm_play.specs.Playing.{HasText, alone_by}
+use Rattle.cpm_play.specs.Playing.{alone_by}
 pub use Rattle.cpm_play.specs.Playing.{last_count, runs_at, screen_at, waits_at}
 
 -- ---- the machine run alone
@@ -108,14 +109,14 @@ HasEndedCued system start steps waits_from true keys done now =
 
 -- ---- where one was cut short
 
--- it has come so far by the script's keys so far, and showed all of its text
-pub record HasComeByCues (system : Disk) (steps waits_from : ℕ) (cues : List Cue) (start now : MachineState) (before written : Option (List ℕ))
+-- it has come so far by the script's keys so far, and gave on all of its output
+pub record HasComeByCues (system : Disk) (steps waits_from : ℕ) (cues : List Cue) (start now : MachineState) (before written : OutputState)
     (keys : List Key) : Type 0 where
   pub come : HasCome system steps (key_count cues) start now before written keys
   pub cued : IsCuedUpTo system start steps come.done waits_from cues keys
 
 -- and so far a key comes
-pub record HasComeToKey (system : Disk) (steps waits_from : ℕ) (cues : List Cue) (start now : MachineState) (before written : Option (List ℕ))
+pub record HasComeToKey (system : Disk) (steps waits_from : ℕ) (cues : List Cue) (start now : MachineState) (before written : OutputState)
     (keys : List Key) : Type 0 where
   pub by : HasComeByCues system steps waits_from cues start now before written keys
   pub key : Key
@@ -126,14 +127,23 @@ pub record HadTextByCues (system : Disk) (steps waits_from : ℕ) (cues : List C
   pub text : HadText system steps (key_count cues) start keys
   pub cued : IsCuedUpTo system start steps text.done waits_from cues keys
 
--- Why it was not played to its end, and what it had come to. The writer fails where there is text, and all keys are recorded.
--- The record fails at a key that comes and is not pressed, and all is shown; where memory is refused all is shown and recorded.
+-- it had bytes for its list device by the script's keys so far, and showed all of its text
+pub record HadListByCues (system : Disk) (steps waits_from : ℕ) (cues : List Cue) (start : MachineState) (before written : OutputState)
+    (keys : List Key) : Type 0 where
+  pub list : HadList system steps (key_count cues) start before written keys
+  pub cued : IsCuedUpTo system start steps list.done waits_from cues keys
+
+-- Why it was not played to its end, and what it had come to. The console fails where there is text, and all keys are recorded.
+-- The list device fails where there are list bytes, and all text is shown and all keys are recorded.
+-- The record fails at a key that comes and is not pressed, and all is shown and printed; where memory is refused all is shown, printed and recorded.
 abbrev pub IsCutOff : Disk → (steps waits_from : ℕ) → List Cue → (start now : MachineState)
-    → (before written unrecorded record_now : Option (List ℕ)) → LiveError → Type 0
+    → (before written : OutputState) → (unrecorded record_now : Option (List ℕ)) → LiveError → Type 0
 IsCutOff system steps waits_from cues start now before written unrecorded record_now OutOfMemory =
     (keys : List Key) × HasComeByCues system steps waits_from cues start now before written keys × Appends unrecorded record_now (recorded keys)
 IsCutOff system steps waits_from cues start now before written unrecorded record_now (Unwritable e) =
     (keys : List Key) × HadTextByCues system steps waits_from cues start keys × Appends unrecorded record_now (recorded keys)
+IsCutOff system steps waits_from cues start now before written unrecorded record_now (Unprinted e) =
+    (keys : List Key) × HadListByCues system steps waits_from cues start before written keys × Appends unrecorded record_now (recorded keys)
 IsCutOff system steps waits_from cues start now before written unrecorded record_now (Unrecorded e) =
     (keys : List Key) × HasComeToKey system steps waits_from cues start now before written keys
 IsCutOff system steps waits_from cues start now before written unrecorded record_now (Unreadable e) = ⊥
@@ -144,20 +154,18 @@ IsCutOff system steps waits_from cues start now before written unrecorded record
 abbrev pub StaysCued : Disk → MachineState → (steps done waits_from : ℕ) → List Cue → List Key → Type 0
 StaysCued system start steps done waits_from cues keys = (until : ℕ) → done ≤ until → until ≤ steps → IsCuedUpTo system start steps until waits_from cues keys
 
--- the output of a state was taken: a writer got the console bytes
-pub record IsOutputTaken (old now : MachineState) (before written : Option (List ℕ)) : Type 0 where
+-- the output of a state was taken: console and list device got it
+pub record IsOutputTaken (old now : MachineState) (before written : OutputState) : Type 0 where
   pub state : now ≡ without_list (without_text old)
-  pub text : Appends before written old.session.console.screen
+  pub output : GetsOutput before written old
 
--- why it was not: the writer failed, and there was text; or it was, but memory was refused in which to keep it
-abbrev pub IsUntaken : (old now : MachineState) → (before written : Option (List ℕ)) → LiveError → Type 0
-IsUntaken old now before written (Unwritable e) = HasText old
+-- why it was not: one of them failed; or it was, but memory was refused in which to keep it
+abbrev pub IsUntaken : (old now : MachineState) → (before written : OutputState) → LiveError → Type 0
 IsUntaken old now before written OutOfMemory = IsOutputTaken old now before written
-IsUntaken old now before written (Unreadable e) = ⊥
-IsUntaken old now before written (Unrecorded e) = ⊥
+IsUntaken old now before written e = IsUnshown old before written e
 
 -- so many steps were executed, and their output taken
-abbrev pub HasExecuted : Disk → ℕ → (old now : MachineState) → (before written : Option (List ℕ)) → Type 0
+abbrev pub HasExecuted : Disk → ℕ → (old now : MachineState) → (before written : OutputState) → Type 0
 HasExecuted system k old now before written = IsOutputTaken (after system k old) now before written
 
 -- the first of these steps did not wait for a key
@@ -169,44 +177,49 @@ abbrev pub IsBusyFrom : Disk → (from until done : ℕ) → MachineState → Ty
 IsBusyFrom system from until done s = (i : ℕ) → from ≤ i → i < until → (look_of (after system (i - done) s)).waiting ≡ false
 
 -- the steps up to where it waits for a key and waits count, or to its end; else all
-pub record HasIdled (system : Disk) (steps waits_from done done_now : ℕ) (old now : MachineState) (before written : Option (List ℕ)) : Type 0 where
+pub record HasIdled (system : Disk) (steps waits_from done done_now : ℕ) (old now : MachineState) (before written : OutputState) : Type 0 where
   pub low : done ≤ done_now
   pub run : HasExecuted system (done_now - done) old now before written
   pub busy : IsBusyFrom system (max waits_from done) done_now done old
   pub why : (done_now ≡ steps) ⊎ (is_running now.ended ≡ false) ⊎ ((waits_from ≤ done_now) × ((look_of now).waiting ≡ true))
 
 -- why not all of so many steps were executed, and what was: where they are to go up to a wait, there was none so far
-abbrev pub IsRunCut : (to_wait : Bool) → Disk → ℕ → (old now : MachineState) → (before written : Option (List ℕ)) → LiveError → Type 0
+abbrev pub IsRunCut : (to_wait : Bool) → Disk → ℕ → (old now : MachineState) → (before written : OutputState) → LiveError → Type 0
 IsRunCut to_wait system steps old now before written e =
     (k : ℕ) × (k ≤ steps) × IsUntaken (after system k old) now before written e × (to_wait ≡ true → IsBusyFor system k old)
 
 -- why those up to a wait that counts were not, and what was: it did not wait so far, where waits count
-abbrev pub IsIdleCut : Disk → (steps waits_from done : ℕ) → (old now : MachineState) → (before written : Option (List ℕ)) → LiveError → Type 0
+abbrev pub IsIdleCut : Disk → (steps waits_from done : ℕ) → (old now : MachineState) → (before written : OutputState) → LiveError → Type 0
 IsIdleCut system steps waits_from done old now before written e =
     (k : ℕ) × (k ≤ steps - done) × IsUntaken (after system k old) now before written e × IsBusyFrom system (max waits_from done) (done + k) done old
 
 -- so many steps were executed, after which the machine still runs and has room, and a key was recorded and pressed
-pub record HasPressed (system : Disk) (key : Key) (k : ℕ) (old now : MachineState) (before written unrecorded record_now : Option (List ℕ)) : Type 0 where
+pub record HasPressed (system : Disk) (key : Key) (k : ℕ) (old now : MachineState) (before written : OutputState) (unrecorded record_now : Option (List ℕ))
+    : Type 0 where
   pub runs : is_running (after system k old).ended ≡ true
   pub room : takes_key (after system k old) ≡ true
   pub state : now ≡ keyed key.byte (without_list (without_text (after system k old)))
-  pub text : Appends before written (after system k old).session.console.screen
+  pub output : GetsOutput before written (after system k old)
   pub noted : Appends unrecorded record_now (key_line key)
 
--- a key does not come: its count is past the steps, and nothing was done; or the machine ends before it, or has no room for it there, and has shown all
-pub record HasMissed (system : Disk) (key : Key) (steps done done_now : ℕ) (old now : MachineState) (before written : Option (List ℕ)) : Type 0 where
+-- a key does not come: its count is past the steps, and nothing was done; or the machine ends before it, or has no room for it there, and all is shown and
+-- printed
+pub record HasMissed (system : Disk) (key : Key) (steps done done_now : ℕ) (old now : MachineState) (before written : OutputState) : Type 0 where
   pub low : done ≤ done_now
   pub run : HasExecuted system (done_now - done) old now before written
   pub why : ((steps ≤ key.count) × (done_now ≡ done)) ⊎ ((key.count < steps) × (done_now ≤ key.count) × (is_running now.ended ≡ false))
       ⊎ ((key.count < steps) × (done_now ≡ key.count) × (takes_key now ≡ false))
 
 -- why a key was not pressed after so many steps: not all of them were executed, or memory was refused, and nothing was recorded;
--- or it can't be recorded where the machine runs and has room, and all is shown
-abbrev pub IsPressCut : Disk → ℕ → (old now : MachineState) → (before written unrecorded record_now : Option (List ℕ)) → LiveError → Type 0
+-- or it can't be recorded where the machine runs and has room, and all is shown and printed
+abbrev pub IsPressCut : Disk → ℕ → (old now : MachineState) → (before written : OutputState) → (unrecorded record_now : Option (List ℕ))
+    → LiveError → Type 0
 IsPressCut system steps old now before written unrecorded record_now (Unrecorded e) =
     HasExecuted system steps old now before written × (is_running now.ended ≡ true) × (takes_key now ≡ true)
 IsPressCut system steps old now before written unrecorded record_now (Unwritable e) =
     IsRunCut false system steps old now before written (Unwritable e) × (record_now ≡ unrecorded)
+IsPressCut system steps old now before written unrecorded record_now (Unprinted e) =
+    IsRunCut false system steps old now before written (Unprinted e) × (record_now ≡ unrecorded)
 IsPressCut system steps old now before written unrecorded record_now OutOfMemory =
     IsRunCut false system steps old now before written OutOfMemory × (record_now ≡ unrecorded)
 IsPressCut system steps old now before written unrecorded record_now (Unreadable e) = ⊥

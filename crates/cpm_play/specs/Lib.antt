@@ -8,5 +8,6 @@ pub mod Wanting
 pub mod Typist
 pub mod Live
 pub mod Cued
+pub mod Output
 pub mod Sitting
 pub mod Shown

@@ -7,8 +7,9 @@ use Rattle.cpm_script.specs.declared.script.Key.{Key}
 use Rattle.cpm_machine.specs.Calls.{state_behind}
 use Rattle.cpm_machine.specs.MachineState.{MachineState}
 use Rattle.cpm_play.specs.declared.live.LiveError.{LiveError}
-use Rattle.cpm_play.specs.declared.live.LiveError.TheVariants.{Unreadable, Unwritable, Unrecorded, OutOfMemory}
-use Rattle.cpm_play.specs.Playing.{EndsAs, HasText, IsQuiet, alone_by}
+use Rattle.cpm_play.specs.declared.live.LiveError.TheVariants.{Unreadable, Unwritable, Unprinted, Unrecorded, OutOfMemory}
+use Rattle.cpm_play.specs.Output.{GetsOutput, OutputState}
+use Rattle.cpm_play.specs.Playing.{EndsAs, HasList, HasText, IsQuiet, alone_by}
 
 -- ---- the keys
 
@@ -36,13 +37,14 @@ pub record HasGone (system : Disk) (start : MachineState) (keys : List Key) (don
   pub come : AreBy done keys
   pub typed : AreTyped 0 keys
 
--- and the writer got its text, and the record its keys
+-- and its console got its text, its list device the list bytes, and the record its keys
 pub record IsGoing (system : Disk) (steps most : ℕ) (start now : MachineState)
-    (before written unrecorded record_now : Option (List ℕ)) (keys : List Key) (done : ℕ) : Type 0 where
+    (before written : OutputState) (unrecorded record_now : Option (List ℕ)) (keys : List Key) (done : ℕ) : Type 0 where
   pub console : List ℕ
   pub list : List ℕ
   pub gone : HasGone system start keys done console list now
-  pub shown : Appends before written console
+  pub shown : Appends before.console written.console console
+  pub printed : Appends before.list written.list list
   pub quiet : IsQuiet now
   pub within : done ≤ steps
   pub few : length keys ≤ most
@@ -50,12 +52,12 @@ pub record IsGoing (system : Disk) (steps most : ℕ) (start now : MachineState)
 
 -- ---- as far as it came
 
--- it has come so far by these keys, all of them and no other, and showed all of its text
-pub record HasCome (system : Disk) (steps most : ℕ) (start now : MachineState) (before written : Option (List ℕ)) (keys : List Key) : Type 0 where
+-- it has come so far by these keys, all of them and no other, and gave on all of its output
+pub record HasCome (system : Disk) (steps most : ℕ) (start now : MachineState) (before written : OutputState) (keys : List Key) : Type 0 where
   pub done : ℕ
   pub within : done ≤ steps
   pub given : AreGiven most done keys
-  pub text : Appends before written (alone_by system keys done start).session.console.screen
+  pub output : GetsOutput before written (alone_by system keys done start)
   pub ending : EndsAs (alone_by system keys done start) now
 
 -- it had text to show by these keys
@@ -64,6 +66,14 @@ pub record HadText (system : Disk) (steps most : ℕ) (start : MachineState) (ke
   pub within : done ≤ steps
   pub given : AreGiven most done keys
   pub text : HasText (alone_by system keys done start)
+
+-- it had bytes for its list device by these keys, and showed all of its text
+pub record HadList (system : Disk) (steps most : ℕ) (start : MachineState) (before written : OutputState) (keys : List Key) : Type 0 where
+  pub done : ℕ
+  pub within : done ≤ steps
+  pub given : AreGiven most done keys
+  pub list : HasList (alone_by system keys done start)
+  pub text : Appends before.console written.console (alone_by system keys done start).session.console.screen
 
 -- ---- the errors of its parts
 
@@ -77,6 +87,8 @@ abbrev pub IsUnreadable : LiveError → Type 0
 IsUnreadable (Unreadable e) = ⊤
 IsUnreadable _ = ⊥
 
-abbrev pub IsUnwritable : LiveError → Type 0
-IsUnwritable (Unwritable e) = ⊤
-IsUnwritable _ = ⊥
+-- why the output of a state is not given on: its text can't be written; or the list bytes can't, and its text was
+abbrev pub IsUnshown : MachineState → (before written : OutputState) → LiveError → Type 0
+IsUnshown s before written (Unwritable e) = HasText s
+IsUnshown s before written (Unprinted e) = HasList s × Appends before.console written.console s.session.console.screen
+IsUnshown s before written _ = ⊥

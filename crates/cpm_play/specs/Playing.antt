@@ -77,3 +77,7 @@ pub record IsQuiet (s : MachineState) : Type 0 where
 -- the machine run alone shows some text
 abbrev pub HasText : MachineState → Type 0
 HasText s = s.session.console.screen ≢ []
+
+-- or has bytes for its list device
+abbrev pub HasList : MachineState → Type 0
+HasList s = s.session.console.printer ≢ []

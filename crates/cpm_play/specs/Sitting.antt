@@ -1,5 +1,5 @@
 -- A machine that is typed at, behind a script or from its start: which keys it has, when the typist is asked, and why it ends. All of it is own.
-use Rattle.std.specs.Prelude.{◌≡◌, ℕ, Bool, true, false, List, [], ◌∷◌, ◌++◌, length, Option, ◌⊎◌}
+use Rattle.std.specs.Prelude.{◌≡◌, ℕ, Bool, true, false, List, [], ◌++◌, length, Option, ◌⊎◌}
 use Rattle.std.specs.Io.KnownBytes.{Appends}
 use Rattle.cpm_geom.specs.Disk.{Disk}
 use Rattle.cpm_script.specs.Recording.{recorded}
@@ -7,13 +7,14 @@ use Rattle.cpm_script.specs.declared.cue.Cue.{Cue}
 use Rattle.cpm_script.specs.declared.script.Key.{Key}
 use Rattle.cpm_machine.specs.MachineState.{MachineState}
 use Rattle.cpm_play.specs.Cued.{IsCued, IsCutOff}
-use Rattle.cpm_play.specs.Live.{HadText, HasCome, bytes_of}
+use Rattle.cpm_play.specs.Live.{HadList, HadText, HasCome, bytes_of}
+use Rattle.cpm_play.specs.Output.{OutputState}
 use Rattle.cpm_play.specs.Playing.{runs_at}
 use Rattle.cpm_play.specs.Typing.{HasReadKeys}
 use Rattle.cpm_play.specs.Typist.{AreOften, HasHeard, Hearing, IsHeard, TypingState, keys_heard}
 use Rattle.cpm_play.specs.Wanting.{AreWantedAfter, HasNoLongWait, IsKeyWanted}
 use Rattle.cpm_play.specs.declared.live.LiveError.{LiveError}
-use Rattle.cpm_play.specs.declared.live.LiveError.TheVariants.{Unreadable, Unwritable, Unrecorded, OutOfMemory}
+use Rattle.cpm_play.specs.declared.live.LiveError.TheVariants.{Unreadable, Unwritable, Unprinted, Unrecorded, OutOfMemory}
 use Rattle.cpm_play.specs.declared.live.PlayEnd.{PlayEnd}
 use Rattle.cpm_play.specs.declared.live.PlayEnd.TheVariants.{Steps, Ended, Typing}
 use Rattle.cpm_play.specs.declared.typist.Heard.TheVariants as heard
@@ -68,12 +69,12 @@ pub record IsTypedPlay (s : Sitting) (before after : TypingState) (keys : List K
 -- ---- one that was not played to its end
 
 -- it has come so far by these keys, which are those of the script and those that were typed
-pub record HasPaused (s : Sitting) (now : MachineState) (written_before written : Option (List ℕ)) (before after : TypingState) (keys : List Key) : Type 0 where
+pub record HasPaused (s : Sitting) (now : MachineState) (written_before written : OutputState) (before after : TypingState) (keys : List Key) : Type 0 where
   pub come : HasCome s.system s.steps (length keys) s.start now written_before written keys
   pub listened : HasListened s before after keys come.done
 
 -- and then one more key was heard
-pub record HasHeardOneMore (s : Sitting) (now : MachineState) (written_before written : Option (List ℕ)) (before after : TypingState) (keys : List Key)
+pub record HasHeardOneMore (s : Sitting) (now : MachineState) (written_before written : OutputState) (before after : TypingState) (keys : List Key)
     : Type 0 where
   pub asked : TypingState
   pub paused : HasPaused s now written_before written before asked keys
@@ -87,11 +88,18 @@ pub record HadTextToShow (s : Sitting) (before after : TypingState) (keys : List
   pub listened : HasListened s before after keys at
   pub text : HadText s.system s.steps (length keys) s.start keys
 
--- Why it was cut short where keys were typed, and what it had come to. The typist fails, and all is shown and recorded; a patient one fails where a key is
--- wanted. The writer fails where there is text, and all keys are recorded. The record fails at a key that was heard and is not pressed, and all is shown.
--- Memory is refused for such a key, and all is shown and recorded.
-abbrev pub IsCutShort : Sitting → (now : MachineState) → (written_before written unrecorded record_now : Option (List ℕ)) → (before after : TypingState)
-    → LiveError → Type 0
+-- it had bytes for its list device after these keys, of which the last was heard before, and showed all of its text
+pub record HadListToPrint (s : Sitting) (written_before written : OutputState) (before after : TypingState) (keys : List Key) : Type 0 where
+  pub at : ℕ
+  pub listened : HasListened s before after keys at
+  pub list : HadList s.system s.steps (length keys) s.start written_before written keys
+
+-- Why it was cut short where keys were typed, and what it had come to. The typist fails, and all is shown, printed and recorded; a patient one fails where a
+-- key is wanted. The console fails where there is text, and all keys are recorded. The list device fails where there are list bytes, and all text is shown
+-- and all keys are recorded. The record fails at a key that was heard and is not pressed, and all is shown and printed. Memory is refused for such a key, and
+-- all is shown, printed and recorded.
+abbrev pub IsCutShort : Sitting → (now : MachineState) → (written_before written : OutputState) → (unrecorded record_now : Option (List ℕ))
+    → (before after : TypingState) → LiveError → Type 0
 IsCutShort s now written_before written unrecorded record_now before after (Unreadable e) =
     (keys : List Key) × (p : HasPaused s now written_before written before after keys) × IsWantedByPatient s keys p.come.done
     × Appends unrecorded record_now (recorded keys)
@@ -99,17 +107,19 @@ IsCutShort s now written_before written unrecorded record_now before after OutOf
     (keys : List Key) × HasHeardOneMore s now written_before written before after keys × Appends unrecorded record_now (recorded keys)
 IsCutShort s now written_before written unrecorded record_now before after (Unwritable e) =
     (keys : List Key) × HadTextToShow s before after keys × Appends unrecorded record_now (recorded keys)
+IsCutShort s now written_before written unrecorded record_now before after (Unprinted e) =
+    (keys : List Key) × HadListToPrint s written_before written before after keys × Appends unrecorded record_now (recorded keys)
 IsCutShort s now written_before written unrecorded record_now before after (Unrecorded e) =
     (keys : List Key) × HasHeardOneMore s now written_before written before after keys
 
 -- or the script was cut off, and nobody was heard
-pub record IsScriptCut (s : Sitting) (now : MachineState) (written_before written unrecorded record_now : Option (List ℕ)) (before after : TypingState)
-    (e : LiveError) : Type 0 where
+pub record IsScriptCut (s : Sitting) (now : MachineState) (written_before written : OutputState) (unrecorded record_now : Option (List ℕ))
+    (before after : TypingState) (e : LiveError) : Type 0 where
   pub off : IsCutOff s.system s.steps 0 s.cues s.start now written_before written unrecorded record_now e
   pub unheard : after ≡ before
 
-abbrev pub IsPlayCut : Sitting → (now : MachineState) → (written_before written unrecorded record_now : Option (List ℕ)) → (before after : TypingState)
-    → LiveError → Type 0
+abbrev pub IsPlayCut : Sitting → (now : MachineState) → (written_before written : OutputState) → (unrecorded record_now : Option (List ℕ))
+    → (before after : TypingState) → LiveError → Type 0
 IsPlayCut s now written_before written unrecorded record_now before after e =
     IsScriptCut s now written_before written unrecorded record_now before after e
     ⊎ IsCutShort s now written_before written unrecorded record_now before after e

@@ -7,7 +7,7 @@ use Rattle.cpm_play.specs.Wanting.{longest_turn}
 use Rattle.cpm_play.specs.declared.typist.Heard.{Heard}
 use Rattle.cpm_play.specs.declared.typist.Heard.TheVariants as heard
 use Rattle.cpm_play.specs.declared.typist.KeyNeed.{KeyNeed}
-use Rattle.cpm_play.specs.declared.typist.KeyNeed.TheVariants.{Pending, Possible, Wanted}
+use Rattle.cpm_play.specs.declared.typist.KeyNeed.TheVariants.{Pending, Wanted}
 use Rattle.cpm_play.specs.declared.typist.TypingEnd.TheVariants.{Quit, InputEnd, Signal}
 
 -- what was heard of a typist that was asked after so many steps

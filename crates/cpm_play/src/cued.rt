@@ -14,7 +14,8 @@ ghost use Rattle.cpm_play.specs.Playing.{EndsAs, HasText, HaveRoom, IsFresh, IsQ
 ghost use Rattle.cpm_play.specs.Shown.{HasGrown, IsKeptOrFound};
 
 use crate::live::{LiveError, LivePlay, show};
-use crate::machine::{CHUNK, QUANTUM, drop_list, quantum_of};
+use crate::machine::{CHUNK, QUANTUM, move_list, quantum_of};
+use crate::output::PlayOutput;
 use crate::progress::{Watcher, progress_of_one};
 use crate::shown::Shown;
 use cpm_console::KEYS;
@@ -61,14 +62,15 @@ fn keep(shown: &mut Shown<'_>, whole: bool, bytes: &[u8]) -> bool
     shown.add(bytes) && whole
 }
 
-/// Moves all console bytes to the writer, and keeps them; says whether there was memory for all.
-fn move_kept<W: Write>(
+/// Moves all console bytes to the console, and keeps them; says whether there was memory for all.
+fn move_kept<O: PlayOutput>(
     machine: &mut Machine,
     shown: &mut Shown<'_>,
-    out: &mut W,
+    out: &mut O,
 ) -> io::Result<bool>
     ensures state { OnOk result (machine.new ≡ without_text machine.old) }
-    ensures text { OnOk result (Appends (W.contents out.old) (W.contents out.new) machine.old.session.console.screen) }
+    ensures text { OnOk result (Appends (O.got out.old).console (O.got out.new).console machine.old.session.console.screen) }
+    ensures list { (O.got out.new).list ≡ (O.got out.old).list }
     ensures kept { IfOk result (λ whole. whole ≡ true → HasGrown shown.old shown.new machine.old.session.console.screen) }
     ensures refused { OnErr result (HasText machine.old) }
 {
@@ -79,67 +81,63 @@ fn move_kept<W: Write>(
         if count == 0 {
             return Ok(whole);
         }
-        out.write_all(&chunk[..count])?;
-        out.flush()?;
+        out.show(&chunk[..count])?;
         whole = keep(shown, whole, &chunk[..count]);
     }
 }
 
-/// Moves all console bytes to the writer, and keeps them if so asked. List bytes are dropped.
-fn show_kept<W: Write>(
+/// Moves all console bytes to the console, and keeps them if so asked. Then it moves all list bytes to the list device.
+fn show_kept<O: PlayOutput>(
     machine: &mut Machine,
     keeps: bool,
     shown: &mut Shown<'_>,
-    out: &mut W,
+    out: &mut O,
 ) -> Result<(), LiveError>
-    ensures taken { OnOk result (IsOutputTaken machine.old machine.new (W.contents out.old) (W.contents out.new)) }
+    ensures taken { OnOk result (IsOutputTaken machine.old machine.new (O.got out.old) (O.got out.new)) }
     ensures kept { OnOk result (keeps ≡ true → HasGrown shown.old shown.new machine.old.session.console.screen) }
-    ensures refused { IfErr result (IsUntaken machine.old machine.new (W.contents out.old) (W.contents out.new)) }
+    ensures refused { IfErr result (IsUntaken machine.old machine.new (O.got out.old) (O.got out.new)) }
 {
     if !keeps {
         return show(machine, out);
     }
     match move_kept(machine, shown, out) {
         Err(error) => Err(LiveError::Unwritable(error)),
-        Ok(whole) => {
-            drop_list(machine);
-            if whole {
-                Ok(())
-            } else {
-                Err(LiveError::OutOfMemory)
-            }
-        }
+        Ok(whole) => match move_list(machine, out) {
+            Err(error) => Err(LiveError::Unprinted(error)),
+            Ok(()) if whole => Ok(()),
+            Ok(()) => Err(LiveError::OutOfMemory),
+        },
     }
 }
 
-/// Executes so many steps, or those up to the machine's end, or with `to_wait` to where it waits for a key. Shows their text, and keeps it if
+/// Executes so many steps, or those up to the machine's end, or with `to_wait` to where it waits for a key. Gives on their output, and keeps the text if
 /// so asked; says how many. The watcher is told after each turn how many of `until` steps the machine has made.
-fn run<W: Write, T: Watcher>(
+fn run<O: PlayOutput, T: Watcher>(
     system: &Image,
     machine: &mut Machine,
     steps: u64,
     to_wait: bool,
     keeps: bool,
     shown: &mut Shown<'_>,
-    out: &mut W,
+    out: &mut O,
     until: u64,
     watcher: &mut T,
 ) -> Result<u64, LiveError>
     requires { IsQuiet machine.old }
     ensures within { IfOk result (λ k. k ≤ steps) }
-    ensures run { IfOk result (λ k. HasExecuted system.now k machine.old machine.new (W.contents out.old) (W.contents out.new)) }
+    ensures run { IfOk result (λ k. HasExecuted system.now k machine.old machine.new (O.got out.old) (O.got out.new)) }
     ensures stopped { IfOk result (λ k. HasStopped to_wait system.now steps k machine.old machine.new) }
     ensures kept { IfOk result (λ k. keeps ≡ true → HasGrown shown.old shown.new (after system.now k machine.old).session.console.screen) }
-    ensures refused { IfErr result (IsRunCut to_wait system.now steps machine.old machine.new (W.contents out.old) (W.contents out.new)) }
+    ensures refused { IfErr result (IsRunCut to_wait system.now steps machine.old machine.new (O.got out.old) (O.got out.new)) }
 {
     let mut executed = 0;
     while executed < steps {
-        let left = steps - executed;
+        let most = watcher.most_steps().min(steps - executed);
         let granted = if to_wait {
-            machine.grant_to_wait(system, QUANTUM.min(left))
+            machine.grant_to_wait(system, QUANTUM.min(most))
         } else {
             machine
-                .grant(system, quantum_of(machine).min(left))
+                .grant(system, quantum_of(machine).min(most))
                 .executed
         };
         if granted == 0 {
@@ -179,14 +177,14 @@ fn has_met(machine: &Machine, text: &[u8], shown: &Shown<'_>) -> bool
 
 impl LivePlay {
     /// Presses a key at its count, if the machine then runs and has room for it, and that is within the steps; says whether it is so.
-    fn press<W: Write, S: Write, T: Watcher>(
+    fn press<O: PlayOutput, S: Write, T: Watcher>(
         &mut self,
         system: &Image,
         machine: &mut Machine,
         key: Key,
         steps: u64,
         shown: &mut Shown<'_>,
-        out: &mut W,
+        out: &mut O,
         record: &mut S,
         watcher: &mut T,
     ) -> Result<bool, LiveError>
@@ -194,14 +192,14 @@ impl LivePlay {
         requires later { self.old.steps ≤ key.count }
         requires quiet { IsQuiet machine.old }
         ensures pressed { IfOk result (λ comes. comes ≡ true → HasPressed system.now key (key.count - self.old.steps) machine.old machine.new
-            (W.contents out.old) (W.contents out.new) (S.contents record.old) (S.contents record.new)) }
+            (O.got out.old) (O.got out.new) (S.contents record.old) (S.contents record.new)) }
         ensures count { IfOk result (λ comes. comes ≡ true → (key.count < steps) × (self.new.steps ≡ key.count)) }
         ensures keys { IfOk result (λ comes. comes ≡ true → self.new.keys.items ≡ self.old.keys.items ++ key ∷ []) }
         ensures missed { IfOk result (λ comes. comes ≡ false → HasMissed system.now key steps self.old.steps self.new.steps machine.old machine.new
-            (W.contents out.old) (W.contents out.new)) }
+            (O.got out.old) (O.got out.new)) }
         ensures still { IfOk result (λ comes. comes ≡ false → (self.new.keys.items ≡ self.old.keys.items) × (S.contents record.new ≡ S.contents record.old)) }
         ensures refused { IfErr result (IsPressCut system.now (key.count - self.old.steps) machine.old machine.new
-            (W.contents out.old) (W.contents out.new) (S.contents record.old) (S.contents record.new)) }
+            (O.got out.old) (O.got out.new) (S.contents record.old) (S.contents record.new)) }
         ensures early { OnErr result (key.count < steps) }
     {
         if key.count >= steps {
@@ -218,8 +216,8 @@ impl LivePlay {
         Ok(true)
     }
 
-    /// Executes steps up to where the machine waits for a key, not before `waits_from`, or has ended. Shows their text, and keeps it if so asked.
-    fn idle<W: Write, T: Watcher>(
+    /// Executes steps up to where the machine waits for a key, not before `waits_from`, or has ended. Gives on their output, and keeps the text if so asked.
+    fn idle<O: PlayOutput, T: Watcher>(
         &mut self,
         system: &Image,
         machine: &mut Machine,
@@ -227,19 +225,19 @@ impl LivePlay {
         waits_from: u64,
         keeps: bool,
         shown: &mut Shown<'_>,
-        out: &mut W,
+        out: &mut O,
         watcher: &mut T,
     ) -> Result<(), LiveError>
         requires quiet { IsQuiet machine.old }
         requires within { self.old.steps ≤ steps }
         ensures idled { OnOk result (HasIdled system.now steps waits_from self.old.steps self.new.steps
-            machine.old machine.new (W.contents out.old) (W.contents out.new)) }
+            machine.old machine.new (O.got out.old) (O.got out.new)) }
         ensures within { OnOk result (self.new.steps ≤ steps) }
         ensures still { self.new.keys.items ≡ self.old.keys.items }
         ensures kept { OnOk result (keeps ≡ true
             → HasGrown shown.old shown.new (after system.now (self.new.steps - self.old.steps) machine.old).session.console.screen) }
         ensures refused { IfErr result (IsIdleCut system.now steps waits_from self.old.steps
-            machine.old machine.new (W.contents out.old) (W.contents out.new)) }
+            machine.old machine.new (O.got out.old) (O.got out.new)) }
     {
         let pause = waits_from.min(steps).saturating_sub(self.steps);
         self.steps += run(
@@ -254,25 +252,25 @@ impl LivePlay {
 }
 
 /// Plays a machine by a script as far as its keys come.
-pub(crate) fn follow<W: Write, S: Write, T: Watcher>(
+pub(crate) fn follow<O: PlayOutput, S: Write, T: Watcher>(
     alloc: Global,
     system: &Image,
     machine: &mut Machine,
     steps: u64,
     cued: CuedKeys<'_>,
-    out: &mut W,
+    out: &mut O,
     record: &mut S,
     watcher: &mut T,
 ) -> Result<LivePlay, LiveError>
     requires fresh { IsFresh machine.old }
     requires ascii { AreAscii cued.cues.now }
     ensures going { IfOk result (λ live. IsGoing system.now steps (key_count cued.entry.cues.now) machine.old machine.new
-        (W.contents out.old) (W.contents out.new) (S.contents record.old) (S.contents record.new) live.keys.items live.steps) }
+        (O.got out.old) (O.got out.new) (S.contents record.old) (S.contents record.new) live.keys.items live.steps) }
     ensures keys { IfOk result (λ live. StaysCued system.now machine.old steps live.steps cued.entry.waits_from cued.entry.cues.now live.keys.items) }
     ensures busy { IfOk result (λ live. (is_running machine.new.ended ≡ false)
         ⊎ HasNoWait system.now machine.old live.keys.items (max cued.entry.waits_from (last_count 0 live.keys.items)) live.steps) }
     ensures refused { IfErr result (IsCutOff system.now steps cued.entry.waits_from cued.entry.cues.now machine.old machine.new
-        (W.contents out.old) (W.contents out.new) (S.contents record.old) (S.contents record.new)) }
+        (O.got out.old) (O.got out.new) (S.contents record.old) (S.contents record.new)) }
 {
     let mut live = LivePlay {
         keys: Vec::new(alloc),
@@ -314,18 +312,18 @@ pub(crate) fn follow<W: Write, S: Write, T: Watcher>(
     Ok(live)
 }
 
-/// Plays one machine by a script that may wait, for at most so many steps, and writes its console bytes as they come. List bytes
-/// are dropped. A key for which there is no room, where 4,096 are pending, is the end of the script, as one that comes past the machine's end.
+/// Plays one machine by a script that may wait, for at most so many steps. Its console bytes and its list bytes go to `out` as they come. A key for which there
+/// is no room, where 4,096 are pending, is the end of the script, as one that comes past the machine's end.
 ///
 /// Each key is written to `record` as a line of a key script: by that script the machine shows and does the same again. The watcher is told after each turn how
 /// far it has come.
-pub fn play_cues<W: Write, S: Write, T: Watcher>(
+pub fn play_cues<O: PlayOutput, S: Write, T: Watcher>(
     alloc: Global,
     system: &Image,
     machine: &mut Machine,
     steps: u64,
     cued: CuedKeys<'_>,
-    out: &mut W,
+    out: &mut O,
     record: &mut S,
     watcher: &mut T,
 ) -> Result<LivePlay, LiveError>
@@ -335,15 +333,17 @@ pub fn play_cues<W: Write, S: Write, T: Watcher>(
     ensures keys { IfOk result (λ live. IsCued system.now machine.old steps cued.entry.waits_from cued.entry.cues.now live.keys.items) }
     ensures room { IfOk result (λ live. HaveRoom system.now machine.old live.keys.items) }
     ensures given { IfOk result (λ live. AreGiven (key_count cued.entry.cues.now) live.steps live.keys.items) }
-    ensures text { IfOk result (λ live. Appends (W.contents out.old) (W.contents out.new)
+    ensures text { IfOk result (λ live. Appends (O.got out.old).console (O.got out.new).console
         (alone_by system.now live.keys.items live.steps machine.old).session.console.screen) }
+    ensures list { IfOk result (λ live. Appends (O.got out.old).list (O.got out.new).list
+        (alone_by system.now live.keys.items live.steps machine.old).session.console.printer) }
     ensures ending { IfOk result (λ live. EndsAs (alone_by system.now live.keys.items live.steps machine.old) machine.new) }
     ensures record { IfOk result (λ live. Appends (S.contents record.old) (S.contents record.new) (recorded live.keys.items)) }
     ensures ends { IfOk result (λ live. HasEndedCued system.now machine.old steps cued.entry.waits_from cued.entry.stops_idle
         live.keys.items live.steps machine.new) }
     ensures waits { IfOk result (λ live. (look_of machine.new).waiting ≡ waits_at system.now machine.old live.keys.items live.steps) }
     ensures refused { IfErr result (IsCutOff system.now steps cued.entry.waits_from cued.entry.cues.now machine.old machine.new
-        (W.contents out.old) (W.contents out.new) (S.contents record.old) (S.contents record.new)) }
+        (O.got out.old) (O.got out.new) (S.contents record.old) (S.contents record.new)) }
 {
     let mut live = follow(alloc, system, machine, steps, cued, out, record, watcher)?;
     // One that does not stop where it is idle runs on as if waits counted from its end on.

@@ -3,11 +3,11 @@
 ghost use Rattle.std.specs.Prelude.{◌≡◌, ◌<◌, OnOk, OnErr};
 ghost use Rattle.std.specs.Io.KnownBytes.{Appends};
 ghost use Rattle.cpm_play.specs.Pacing.{without_list, without_text};
-ghost use Rattle.cpm_play.specs.Playing.{HasText};
+ghost use Rattle.cpm_play.specs.Playing.{HasList, HasText};
 
+use crate::output::PlayOutput;
 use cpm_machine::Machine;
 use std::io;
-use std::io::Write;
 
 /// How many steps a turn has at most, so that output appears as it comes.
 pub(crate) const QUANTUM: u64 = 100_000;
@@ -26,11 +26,11 @@ pub(crate) fn quantum_of(machine: &Machine) -> u64
 /// How many bytes are taken at once.
 pub(crate) const CHUNK: usize = 8192;
 
-/// Moves all console bytes to the writer.
-pub(crate) fn move_text<W: Write>(machine: &mut Machine, out: &mut W) -> io::Result<()>
+/// Moves all console bytes to the console.
+pub(crate) fn move_text<O: PlayOutput>(machine: &mut Machine, out: &mut O) -> io::Result<()>
     ensures state { OnOk result (machine.new ≡ without_text machine.old) }
-    ensures text { OnOk result (Appends (W.contents out.old) (W.contents out.new)
-        machine.old.session.console.screen) }
+    ensures text { OnOk result (Appends (O.got out.old).console (O.got out.new).console machine.old.session.console.screen) }
+    ensures list { (O.got out.new).list ≡ (O.got out.old).list }
     ensures refused { OnErr result (HasText machine.old) }
 {
     let mut chunk = [0u8; CHUNK];
@@ -39,15 +39,23 @@ pub(crate) fn move_text<W: Write>(machine: &mut Machine, out: &mut W) -> io::Res
         if count == 0 {
             return Ok(());
         }
-        out.write_all(&chunk[..count])?;
-        out.flush()?;
+        out.show(&chunk[..count])?;
     }
 }
 
-/// Takes all list bytes and drops them.
-pub(crate) fn drop_list(machine: &mut Machine)
-    ensures { machine.new ≡ without_list machine.old }
+/// Moves all list bytes to the list device.
+pub(crate) fn move_list<O: PlayOutput>(machine: &mut Machine, out: &mut O) -> io::Result<()>
+    ensures state { OnOk result (machine.new ≡ without_list machine.old) }
+    ensures list { OnOk result (Appends (O.got out.old).list (O.got out.new).list machine.old.session.console.printer) }
+    ensures console { (O.got out.new).console ≡ (O.got out.old).console }
+    ensures refused { OnErr result (HasList machine.old) }
 {
     let mut chunk = [0u8; CHUNK];
-    while machine.take_list(&mut chunk) > 0 {}
+    loop {
+        let count = machine.take_list(&mut chunk);
+        if count == 0 {
+            return Ok(());
+        }
+        out.print(&chunk[..count])?;
+    }
 }

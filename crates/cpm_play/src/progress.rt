@@ -1,5 +1,7 @@
 //! How far sessions have come, for whoever wants to be told.
 
+ghost use Rattle.std.specs.Prelude.{◌<◌};
+
 use crate::player::Player;
 
 /// How far sessions have come.
@@ -22,6 +24,10 @@ pub trait Watcher {
     /// Whether it is to be told at all. For one that isn't, nothing is counted.
     fn is_watching(&self) -> bool;
 
+    /// How many steps a turn of a machine that is played alone has at most, after which it is told.
+    fn most_steps(&self) -> u64
+        ensures { 0 < result };
+
     fn see(&mut self, progress: Progress);
 }
 
@@ -32,6 +38,10 @@ pub struct NoWatcher;
 impl Watcher for NoWatcher {
     fn is_watching(&self) -> bool {
         false
+    }
+
+    fn most_steps(&self) -> u64 {
+        u64::MAX
     }
 
     fn see(&mut self, _progress: Progress) {}

@@ -3,9 +3,10 @@ use Rattle.std.proofs.Common.{◌≡◌, ◌∙◌, ◌≤◌, ◌<◌, ◌+◌,
 use Rattle.std.specs.Prelude.{IfSome, if◌then◌else◌, nat_lt, ◌||◌, chars, option_map}
 use Rattle.std.proofs.lemmas.Bool.Decides.{nat_tests}
 use Rattle.std.proofs.lemmas.Option.{slice_get-get_or, slice_get-map}
-use Rattle.cpm_batch.specs.Inputs.{AreInputs, Forks, ImageIn, IsReadRefusal, Need, ForkedScriptIn, Opens, ScriptIn, SessionInput, StartInput, needs_of}
+use Rattle.cpm_batch.specs.Inputs.{AreInputs, Forks, ImageIn, IsReadRefusal, Need, ForkedScriptIn, Opens, RecordingIn, ScriptIn, SessionInput, StartInput, needs_of}
 use Rattle.cpm_batch.specs.Reads.{AreRead, StopsAtFault, StopsAtInput, StopsAtSession, StopsReading}
 use Rattle.cpm_batch.specs.declared.error.ReadError.{ReadError}
+use Rattle.cpm_batch.specs.declared.source.Replay.{Replay}
 use Rattle.cpm_batch.specs.declared.error.ReadError.TheVariants as reading
 use Rattle.cpm_command_line.specs.Shown.{shown_of}
 use Rattle.cpm_config.specs.declared.config.Config.{Config}
@@ -109,7 +110,7 @@ never_both all (Forks parent at ∷ starts) h from fault place low was isn = nev
 -- ---- refusals
 
 -- what is needed could not be read, or is not what it should be
-pub reading_refused : (config : Config) (options : RunOptions) (io : Streams) (old new : Option StoreFiles) (e : ReadError) → config_fault config ≡ None → IsReadRefusal old config e → LeavesAll io old new
+pub reading_refused : (config : Config) (options : RunOptions) (io : Streams) (old new : Option StoreFiles) (e : ReadError) → config_fault config ≡ None → IsReadRefusal old config options.replays.now e → LeavesAll io old new
     → IsRunRefusal config options io old new (run_error_of_reading e)
 reading_refused config options io old new (reading.File name) faultless h same = (faultless, ⊎_elim (λ m. absurd (cc)) (λ f. f) h, same)
 reading_refused config options io old new (reading.Image name count) faultless h same = (faultless, ⊎_elim (λ m. absurd (cc)) (λ f. f) h, same)
@@ -131,7 +132,7 @@ place_stopped does config options io s _ h = absurd h
 
 -- settling is refused
 pub settle_refused : (config : Config) (options : RunOptions) (io : Streams) (system : Disk) (inputs : List SessionInput) (old new : Option StoreFiles) (e : RunError) → config_fault config ≡ None
-    → AreInputs old config system inputs → new ≡ old → IsSettleRefusal config options io system inputs e → IsRunRefusal config options io old new e
+    → AreInputs old config options.replays.now system inputs → new ≡ old → IsSettleRefusal config options io system inputs e → IsRunRefusal config options io old new e
 settle_refused config options io system inputs old new e faultless read same r = by_error e r
   where
     after : (e : RunError) → IsSettleRefusal config options io system inputs e → IsRefusedAfterReading config options io old e
@@ -142,13 +143,14 @@ settle_refused config options io system inputs old new e faultless read same r =
     by_error (refusal.FramesExceeded name quotas frames) r = (after (refusal.FramesExceeded name quotas frames) r, same)
     by_error (refusal.InputUnreadable reason) r = (after (refusal.InputUnreadable reason) r, same)
     by_error (refusal.OutputUnwritable reason) r = (after (refusal.OutputUnwritable reason) r, same)
+    by_error (refusal.ListUnwritable reason) r = (after (refusal.ListUnwritable reason) r, same)
     by_error (refusal.RecordUnwritable reason) r = (after (refusal.RecordUnwritable reason) r, same)
     by_error (refusal.TooManyKeys shown) r = (after (refusal.TooManyKeys shown) r, same)
     by_error refusal.OutOfMemory r = (faultless, inr (inl (after refusal.OutOfMemory r, same)))
     by_error _ r = absurd r
 
 pub settle_stopped : {S : Type 0} → (does : S → StoreAccess → S → Type 0) (config : Config) (options : RunOptions) (io : Streams) (system : Disk) (inputs : List SessionInput) (old new : S) (e : RunError)
-    → config_fault config ≡ None → LogLeadsBy does (AreRead config system inputs) old new → IsSettleRefusal config options io system inputs e
+    → config_fault config ≡ None → LogLeadsBy does (AreRead config options.replays.now system inputs) old new → IsSettleRefusal config options io system inputs e
     → IsStoppedRun does config options io old new e
 settle_stopped {S} does config options io system inputs old new e faultless calls r = by_error e r
   where
@@ -160,6 +162,7 @@ settle_stopped {S} does config options io system inputs old new e faultless call
     by_error (refusal.FramesExceeded name quotas frames) r = after (refusal.FramesExceeded name quotas frames) r
     by_error (refusal.InputUnreadable reason) r = after (refusal.InputUnreadable reason) r
     by_error (refusal.OutputUnwritable reason) r = after (refusal.OutputUnwritable reason) r
+    by_error (refusal.ListUnwritable reason) r = after (refusal.ListUnwritable reason) r
     by_error (refusal.RecordUnwritable reason) r = after (refusal.RecordUnwritable reason) r
     by_error (refusal.TooManyKeys shown) r = after (refusal.TooManyKeys shown) r
     by_error refusal.OutOfMemory r = inr (inl (after refusal.OutOfMemory r))
@@ -188,22 +191,23 @@ none_for_memory [] log h = h
 none_for_memory (ImageIn name ∷ ns) log h = ⊎_elim (λ f. f) (λ t. none_for_memory ns t.rest t.goes_on) h
 none_for_memory (ScriptIn name ∷ ns) log h = ⊎_elim (λ f. f) (λ t. none_for_memory ns t.rest t.goes_on) h
 none_for_memory (ForkedScriptIn name at before ∷ ns) log h = ⊎_elim (λ f. f) (λ t. none_for_memory ns t.rest t.goes_on) h
+none_for_memory (RecordingIn name at ∷ ns) log h = ⊎_elim (λ f. f) (λ t. none_for_memory ns t.rest t.goes_on) h
 
-none_in_sessions : (before : List SessionInput) (ss : List SessionConfig) (log : List StoreAccess) → StopsAtSession before ss reading.OutOfMemory log → ⊥
-none_in_sessions before [] log h = h
-none_in_sessions before (s ∷ ss) log h =
-    ⊎_elim (λ f. none_for_memory (needs_of before s) log f) (λ t. none_in_sessions (before ++ t.0 ∷ []) ss t.2.rest t.2.goes_on) h
+none_in_sessions : (replays : List Replay) (before : List SessionInput) (ss : List SessionConfig) (log : List StoreAccess) → StopsAtSession replays before ss reading.OutOfMemory log → ⊥
+none_in_sessions replays before [] log h = h
+none_in_sessions replays before (s ∷ ss) log h =
+    ⊎_elim (λ f. none_for_memory (needs_of replays before s) log f) (λ t. none_in_sessions replays (before ++ t.0 ∷ []) ss t.2.rest t.2.goes_on) h
 
-none_in_input : (config : Config) (log : List StoreAccess) → StopsAtInput config reading.OutOfMemory log → ⊥
-none_in_input config log h = ⊎_elim (λ f. f) (λ t. none_in_sessions [] config.sessions.items t.rest t.goes_on) h
+none_in_input : (config : Config) (replays : List Replay) (log : List StoreAccess) → StopsAtInput config replays reading.OutOfMemory log → ⊥
+none_in_input config replays log h = ⊎_elim (λ f. f) (λ t. none_in_sessions replays [] config.sessions.items t.rest t.goes_on) h
 
 module _ {S : Type 0} (does : S → StoreAccess → S → Type 0) (config : Config) (options : RunOptions) (io : Streams) (start end : S) where
   -- where what is needed could not be read, or is not what it should be
-  pub reading_stopped : (e : ReadError) → AreUntouched io → LogLeadsBy does (StopsReading config e) start end → IsStoppedRun does config options io start end (run_error_of_reading e)
+  pub reading_stopped : (e : ReadError) → AreUntouched io → LogLeadsBy does (StopsReading config options.replays.now e) start end → IsStoppedRun does config options io start end (run_error_of_reading e)
   reading_stopped (reading.File name) untouched h = (h.0, ⊎_elim (λ m. let is = m.0 in absurd (cc)) (λ f. f) h.1, h.2)
   reading_stopped (reading.Image name count) untouched h = (h.0, ⊎_elim (λ m. let is = m.0 in absurd (cc)) (λ f. f) h.1, h.2)
   reading_stopped (reading.Script name line fault) untouched h = (h.0, ⊎_elim (λ m. let is = m.0 in absurd (cc)) (λ f. f) h.1, h.2)
-  reading_stopped reading.OutOfMemory untouched h = inl ((h.0, ⊎_elim (λ m. m.1) (λ f. absurd (none_in_input config h.0 f)) h.1, h.2), untouched)
+  reading_stopped reading.OutOfMemory untouched h = inl ((h.0, ⊎_elim (λ m. m.1) (λ f. absurd (none_in_input config options.replays.now h.0 f)) h.1, h.2), untouched)
 
 -- ---- what was played
 
@@ -221,7 +225,7 @@ are_parts config options io system inputs settled h accepted = record {
 
 -- where a write is refused
 pub write_refused : (config : Config) (options : RunOptions) (io : Streams) (parts : RunParts) (old new : Option StoreFiles) (ps : List NamedBytes) (place : ℕ) (e : RunError) → config_fault config ≡ None
-    → AreInputs old config parts.system parts.inputs → AreParts config options io parts → ps ≡ outputs_by options parts → IsWriteRefusal ps place e → WhereTold old new (StopsAt ps place) → IsRunRefusal config options io old new e
+    → AreInputs old config options.replays.now parts.system parts.inputs → AreParts config options io parts → ps ≡ outputs_by options parts → IsWriteRefusal ps place e → WhereTold old new (StopsAt ps place) → IsRunRefusal config options io old new e
 write_refused config options io parts old new ps place e faultless read played are why stopped = by_error e why
   where
     stops : (e : RunError) → IsWriteRefusal ps place e → StopsWriting config options io old new e
@@ -241,7 +245,7 @@ write_refused config options io parts old new ps place e faultless read played a
     by_error _ why = absurd why
 
 pub write_stopped : {S : Type 0} → (does : S → StoreAccess → S → Type 0) (config : Config) (options : RunOptions) (io : Streams) (parts : RunParts) (start between end : S) (ps : List NamedBytes) (place : ℕ) (e : RunError)
-    → config_fault config ≡ None → AreParts config options io parts → ps ≡ outputs_by options parts → IsWriteRefusal ps place e → LogLeadsBy does (AreRead config parts.system parts.inputs) start between
+    → config_fault config ≡ None → AreParts config options io parts → ps ≡ outputs_by options parts → IsWriteRefusal ps place e → LogLeadsBy does (AreRead config options.replays.now parts.system parts.inputs) start between
     → LogLeadsBy does (StopsAfter ps place) between end → IsStoppedRun does config options io start end e
 write_stopped {S} does config options io parts start between end ps place e faultless played are why reads writes = by_error e why
   where
@@ -251,7 +255,7 @@ write_stopped {S} does config options io parts start between end ps place e faul
       faultless = faultless;
       played = played;
       place = place;
-      calls = ran_then does (AreRead config parts.system parts.inputs) (StopsAfter (outputs_by options parts) place) start between end reads
+      calls = ran_then does (AreRead config options.replays.now parts.system parts.inputs) (StopsAfter (outputs_by options parts) place) start between end reads
           (subst (λ (qs : List NamedBytes). LogLeadsBy does (StopsAfter qs place) between end) are writes);
       why = subst (λ (qs : List NamedBytes). IsWriteRefusal qs place e) are why;
     }

@@ -1,6 +1,6 @@
 -- What settling sessions rests on.
 use Rattle.std.proofs.Common.{◌≡◌, ◌∙◌, ◌<◌, ◌≤◌, ◌^◌, ◌+◌, ⊎_elim, inl, inr, true≢false, ℕ, zero, suc, Bool, true, false, ◌&&◌, List, [], ◌∷◌, ◌++◌, length, drop, get_or, map, Option, Some, None, refl, sym, ap, subst, arith, append_assoc, append-nil}
-use Rattle.std.specs.Prelude.{Vec, IfSome, IsSome, is_some, max, nat_le, not, nat_lt, option_map, slice_get}
+use Rattle.std.specs.Prelude.{Vec, IfSome, IsSome, max, nat_le, nat_lt, option_map, slice_get}
 use Rattle.std.proofs.lemmas.Bool.Decides.{nat_tests}
 use Rattle.std.specs.List.{All}
 use Rattle.std.specs.declared.alloc.Global.{Global}
@@ -17,7 +17,6 @@ use Rattle.cpm_machine.specs.Serve.{look_of}
 use Rattle.cpm_machine.specs.Step.{is_running}
 use Rattle.cpm_play.specs.Cued.{HasEndedCued, IsCued, IsCuedFrom, key_count, waits_at}
 use Rattle.cpm_play.specs.Live.{AreGiven}
-use Rattle.cpm_play.specs.declared.live.LivePlay.{LivePlay}
 use Rattle.cpm_play.specs.Playing.{EndsAs, HaveRoom, IsFresh, IsInOrder, alone_by}
 use Rattle.cpm_script.specs.Cues.{Awaited, Counted, CueText, Pressed, cue_text, cued_key_count}
 use Rattle.cpm_script.specs.Fork.{keys_before}
@@ -31,11 +30,13 @@ use Rattle.cpm_script.proofs.CueLemmas.{ascii-append, counted-keys}
 use Rattle.cpm_run.specs.Playing.{IsForkPressable, IsPressableBy}
 use Rattle.cpm_run.specs.Run.{GivesItsKeysAgain, starts_read}
 use Rattle.cpm_run.specs.Settled.{AreSettled, HasPlayedKeys, IsSettled, SessionPart, SettledSession, TypedSession}
-use Rattle.cpm_run.specs.Settled.{before_in, forked_at, keys_if_settled, opened_by, opening_at, opening_of, part_of, said_at, settled_steps, settled_view, start_by, starts_of, steps_at, typed_view}
+use Rattle.cpm_run.specs.Settled.{before_in, forked_at, keys_if_settled, opened_by, opening_at, opening_of, part_of, said_at, settled_steps, settled_view, start_by, starts_of, steps_at}
 use Rattle.cpm_run.specs.Settling.{AreBelow80h, AreCounts, AreFitInputs, AreOpenable, AreReady, AreSound, AreSoundKeys, HasParent, IsFitInput, IsFitPart, IsOpenable}
 use Rattle.cpm_run.specs.Settling.{IsPartReady, IsPartRefusal, IsSessionReady, IsSettlingRefusal, IsSoundAfter}
 use Rattle.cpm_run.specs.declared.settled.SettledInput.{SettledInput}
+use Rattle.cpm_run.specs.Refusing.{IsLimited}
 use Rattle.cpm_run.specs.declared.error.RunError.{RunError}
+use Rattle.cpm_run.specs.declared.options.RunOptions.{RunOptions}
 use Rattle.cpm_run.proofs.OrderLemmas.{own_from}
 use Rattle.cpm_run.proofs.PartLemmas.{joined_said}
 use Rattle.cpm_run.proofs.ReplayLemmas.{counts_typed, gives_again}
@@ -215,18 +216,14 @@ waiting_openable stops_idle before cues now None b ready same timed none =
     absurd (true≢false (sym left))) (λ openable. openable) ready
 waiting_openable stops_idle before cues now (Some own) b ready same timed none = absurd (none own refl)
 
--- whether there are few is known where nobody typed
-pub part_ready : (stops_idle : Bool) (typed : Option TypedSession) (place : ℕ) (said : List CueText) (p : SessionPart) (cues : List Cue) (opened : Option StartInput) (b : StartInput)
-    → p.said ≡ said_at typed place said → p.said ≡ map cue_text cues → opened ≡ Some b → (typed ≡ None → length p.before + cued_key_count (map cue_text cues) ≤ most_keys)
-    → IsSessionReady stops_idle typed (said_at typed place said) opened → IsPartReady stops_idle (length p.before) (map cue_text cues) (Some b)
-part_ready stops_idle typed place said p cues opened b says same is few ready =
-    ⊎_elim (λ (plain : (typed ≡ None) × (stops_idle ≡ false) × IsSome (timed_keys (said_at typed place said))).
+-- whether there are few is known where keys are limited
+pub part_ready : (options : RunOptions) (typed : Option TypedSession) (place : ℕ) (said : List CueText) (p : SessionPart) (cues : List Cue) (opened : Option StartInput) (b : StartInput)
+    → p.said ≡ said_at typed place said → p.said ≡ map cue_text cues → opened ≡ Some b → (IsLimited options typed → length p.before + cued_key_count (map cue_text cues) ≤ most_keys)
+    → IsSessionReady options typed (said_at typed place said) opened → IsPartReady options.stops_idle (length p.before) (map cue_text cues) (Some b)
+part_ready options typed place said p cues opened b says same is few ready =
+    ⊎_elim (λ (plain : IsLimited options typed × (options.stops_idle ≡ false) × IsSome (timed_keys (said_at typed place said))).
     inl (plain.1, subst (λ (cs : List CueText). IsSome (timed_keys cs)) (sym says ∙ same) plain.2, few plain.0))
     (λ openable. inr (subst (λ (o : Option StartInput). IfSome o IsOpenable) is openable)) ready
-
-pub not_typed : (typed : Option (ℕ × LivePlay)) (none : Bool) → is_some typed ≡ not none → none ≡ false → typed_view typed ≡ None → ⊥
-not_typed None none test some view = let no : ⊥ = cc in no
-not_typed (Some t) none test some view = let no : ⊥ = cc in no
 
 -- ---- a session after those before it
 
@@ -448,13 +445,13 @@ openable_there starts (Forks parent at) all own h =
 untyped : (typed : Option TypedSession) (place : ℕ) (said : List CueText) → typed ≡ None → IsSome (timed_keys said) → IsSome (timed_keys (said_at typed place said))
 untyped typed place said none timed = subst (λ (t : Option TypedSession). IsSome (timed_keys (said_at t place said))) (sym none) timed
 
-pub next_ready : (system : Disk) (stops_idle : Bool) (typed : Option TypedSession) (sessions : List SessionConfig) (all rest : List SessionInput) (i : SessionInput) (settled : List SettledSession) (place : ℕ)
-    → IsSettledTo system stops_idle typed sessions all (i ∷ rest) settled → AreReady stops_idle typed all
-    → IsSessionReady stops_idle typed (said_at typed place i.said) (opened_by (starts_of settled) i.start)
-next_ready system stops_idle typed sessions all rest i settled place h ready =
+pub next_ready : (system : Disk) (options : RunOptions) (typed : Option TypedSession) (sessions : List SessionConfig) (all rest : List SessionInput) (i : SessionInput) (settled : List SettledSession) (place : ℕ)
+    → IsSettledTo system options.stops_idle typed sessions all (i ∷ rest) settled → AreReady options typed all
+    → IsSessionReady options typed (said_at typed place i.said) (opened_by (starts_of settled) i.start)
+next_ready system options typed sessions all rest i settled place h ready =
     ⊎_elim (λ plain.
     let timed = subst (λ (is : List SessionInput). All (λ (x : SessionInput). IsSome (timed_keys x.said)) is) (sym h.parts) plain.timed in
-    inl (plain.untyped, plain.runs_on, untyped typed place i.said plain.untyped (all_there (λ (x : SessionInput). IsSome (timed_keys x.said)) h.done rest i timed)))
+    inl (plain.limited, plain.runs_on, untyped typed place i.said plain.limited.0 (all_there (λ (x : SessionInput). IsSome (timed_keys x.said)) h.done rest i timed)))
     (λ openable.
     let joined : starts_read all ≡ starts_read h.done ++ i.start ∷ starts_read rest = sym (ap starts_read h.parts) ∙ starts_joined h.done (i ∷ rest) in
     let good = subst AreOpenable joined openable in
@@ -464,9 +461,9 @@ next_ready system stops_idle typed sessions all rest i settled place h ready =
 
 -- ---- how settling is refused
 
-pub next_refused : (system : Disk) (stops_idle : Bool) (typed : Option TypedSession) (sessions : List SessionConfig) (all rest : List SessionInput) (i : SessionInput) (settled : List SettledSession) (e : RunError)
-    → IsSettledTo system stops_idle typed sessions all (i ∷ rest) settled → IsPartRefusal (part_of typed sessions settled i) i e → IsSettlingRefusal system stops_idle typed sessions all e
-next_refused system stops_idle typed sessions all rest i settled e h r =
+pub next_refused : (system : Disk) (options : RunOptions) (typed : Option TypedSession) (sessions : List SessionConfig) (all rest : List SessionInput) (i : SessionInput) (settled : List SettledSession) (e : RunError)
+    → IsSettledTo system options.stops_idle typed sessions all (i ∷ rest) settled → IsPartRefusal options typed (part_of typed sessions settled i) i e → IsSettlingRefusal system options typed sessions all e
+next_refused system options typed sessions all rest i settled e h r =
     record { done = h.done; input = i; rest = rest; order = sym h.parts; settled = settled; before = h.keys; refused = r }
 
 -- all are settled

@@ -198,19 +198,25 @@ sessions_refused config options io system inputs _ untouched r = absurd r
 pub settle_refused : (config : Config) (options : RunOptions) (io : Streams) (system : Disk) (inputs : List SessionInput) (typed : Option TypedSession) (e : RunError)
     → AllAccepted (starts_read inputs) (new_host system config.frames) (starts_read inputs) ⊎ AreUntouched io
     → IsTypedIfAny system config.sessions.items (option_map (λ n. n.now) options.typed) inputs io typed
-    → IsSettlingRefusal system options.stops_idle typed config.sessions.items inputs e → IsSettleRefusal config options io system inputs e
+    → IsSettlingRefusal system options typed config.sessions.items inputs e → IsSettleRefusal config options io system inputs e
 settle_refused config options io system inputs typed (refusal.TooManyKeys shown) judged heard r =
-    record { judged = judged; typed = typed; heard = heard; over = record { done = r.done; input = r.input; rest = r.rest; order = r.order; settled = r.settled; before = r.before; over = r.refused } }
+    record {
+      judged = judged;
+      typed = typed;
+      heard = heard;
+      limited = r.refused.0;
+      over = record { done = r.done; input = r.input; rest = r.rest; order = r.order; settled = r.settled; before = r.before; over = r.refused.1 };
+    }
 settle_refused config options io system inputs typed refusal.OutOfMemory judged heard r = inr (inr (record { judged = judged; typed = typed; heard = heard }))
 settle_refused config options io system inputs typed _ judged heard r = absurd r.refused
 
 pub settle_refused_as : (config : Config) (options : RunOptions) (io : Streams) (system : Disk) (inputs : List SessionInput) (typed heard : Option (ℕ × LivePlay)) (e : RunError) → typed ≡ heard
     → AllAccepted (starts_read inputs) (new_host system config.frames) (starts_read inputs) ⊎ AreUntouched io
     → IsTypedIfAny system config.sessions.items (option_map (λ n. n.now) options.typed) inputs io (typed_view heard)
-    → IsSettlingRefusal system options.stops_idle (typed_view typed) config.sessions.items inputs e → IsSettleRefusal config options io system inputs e
+    → IsSettlingRefusal system options (typed_view typed) config.sessions.items inputs e → IsSettleRefusal config options io system inputs e
 settle_refused_as config options io system inputs typed heard e same judged given r =
     settle_refused config options io system inputs (typed_view heard) e judged given
-    (subst (λ (t : Option (ℕ × LivePlay)). IsSettlingRefusal system options.stops_idle (typed_view t) config.sessions.items inputs e) same r)
+    (subst (λ (t : Option (ℕ × LivePlay)). IsSettlingRefusal system options (typed_view t) config.sessions.items inputs e) same r)
 
 -- where nothing is to be typed, nothing was
 pub nothing_heard : (config : Config) (options : RunOptions) (io : Streams) (system : Disk) (inputs : List SessionInput) → options.typed ≡ None → AreUntouched io

@@ -84,6 +84,7 @@ module _ (config : Config) (options : RunOptions) (name : Bor (List ℕ)) (place
 cut_as : (system : Disk) (start : StartInput) (said : List CueText) (io : Streams) (e : LiveError) → IsSessionCut system start said io e → IsTypingRefusal system start said io (run_error_of_live e)
 cut_as system start said io (live.Unreadable reason) cut = cut
 cut_as system start said io (live.Unwritable reason) cut = cut
+cut_as system start said io (live.Unprinted reason) cut = cut
 cut_as system start said io (live.Unrecorded reason) cut = cut
 cut_as system start said io live.OutOfMemory cut = inr cut
 
@@ -192,6 +193,7 @@ module _ (config : Config) (options : RunOptions) (name : Bor (List ℕ)) (place
   pub typing_refused : (e : RunError) → IsTypingRefusal system (start_view i.start) (all_said i.cues) io e → IsSettleRefusal config options io system (map given inputs) e
   typing_refused (refusal.InputUnreadable reason) r = cut (refusal.InputUnreadable reason) r
   typing_refused (refusal.OutputUnwritable reason) r = cut (refusal.OutputUnwritable reason) r
+  typing_refused (refusal.ListUnwritable reason) r = cut (refusal.ListUnwritable reason) r
   typing_refused (refusal.RecordUnwritable reason) r = cut (refusal.RecordUnwritable reason) r
   typing_refused refusal.OutOfMemory r = inr (inl (cut refusal.OutOfMemory r))
   typing_refused _ r = absurd r

@@ -6,7 +6,7 @@ use Rattle.cpm_refusals.specs.declared.code.RefusalCode.{RefusalCode}
 use Rattle.cpm_refusals.specs.declared.code.RefusalCode.TheVariants as code
 use Rattle.cpm_run.specs.declared.error.RunError.{RunError}
 use Rattle.cpm_run.specs.declared.error.RunError.TheVariants.{ConfigRefused, FileRefused, FramesExceeded, InputUnreadable, NoSession, NotOpened, OutOfMemory}
-use Rattle.cpm_run.specs.declared.error.RunError.TheVariants.{OutputUnwritable, RecordUnwritable, SessionRefused, TooManyKeys, WriteFault}
+use Rattle.cpm_run.specs.declared.error.RunError.TheVariants.{ListUnwritable, OutputUnwritable, RecordUnwritable, SessionRefused, TooManyKeys, WriteFault}
 use Rattle.cpm_play.specs.declared.live.LiveError.{LiveError}
 use Rattle.cpm_play.specs.declared.live.LiveError.TheVariants as live
 
@@ -19,6 +19,7 @@ code_of_run (TooManyKeys name) = code.Script
 code_of_run (FileRefused e) = code_of_reading e
 code_of_run (InputUnreadable reason) = code.Unreadable
 code_of_run (OutputUnwritable reason) = code.Unwritable
+code_of_run (ListUnwritable reason) = code.Unwritable
 code_of_run (RecordUnwritable reason) = code.Unwritable
 code_of_run (WriteFault name) = code.Unwritable
 code_of_run OutOfMemory = code.OutOfMemory
@@ -36,5 +37,6 @@ run_error_of_reading read.OutOfMemory = OutOfMemory
 abbrev pub run_error_of_live : LiveError → RunError
 run_error_of_live (live.Unreadable reason) = InputUnreadable reason
 run_error_of_live (live.Unwritable reason) = OutputUnwritable reason
+run_error_of_live (live.Unprinted reason) = ListUnwritable reason
 run_error_of_live (live.Unrecorded reason) = RecordUnwritable reason
 run_error_of_live live.OutOfMemory = OutOfMemory

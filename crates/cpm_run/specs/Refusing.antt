@@ -15,7 +15,7 @@ use Rattle.cpm_machine.specs.MachineState.{MachineState}
 use Rattle.cpm_machine.specs.declared.opening.OpenError.TheVariants.{NoFrames}
 use Rattle.cpm_play.specs.Sitting.{IsPlayCut, sitting}
 use Rattle.cpm_play.specs.declared.live.LiveError.{LiveError}
-use Rattle.cpm_play.specs.declared.live.LiveError.TheVariants.{Unreadable, Unwritable, Unrecorded, OutOfMemory}
+use Rattle.cpm_play.specs.declared.live.LiveError.TheVariants.{Unreadable, Unwritable, Unprinted, Unrecorded, OutOfMemory}
 use Rattle.cpm_script.specs.Cues.{CueText, cue_text, cued_key_count}
 use Rattle.cpm_script.specs.declared.cue.Cue.{Cue}
 use Rattle.cpm_script.specs.Script.{most_keys}
@@ -73,6 +73,7 @@ pub record IsSessionCut (system : Disk) (start : StartInput) (said : List CueTex
 abbrev pub IsTypingRefusal : Disk → StartInput → List CueText → Streams → RunError → Type 0
 IsTypingRefusal system start said io (refusal.InputUnreadable reason) = IsSessionCut system start said io (Unreadable reason)
 IsTypingRefusal system start said io (refusal.OutputUnwritable reason) = IsSessionCut system start said io (Unwritable reason)
+IsTypingRefusal system start said io (refusal.ListUnwritable reason) = IsSessionCut system start said io (Unprinted reason)
 IsTypingRefusal system start said io (refusal.RecordUnwritable reason) = IsSessionCut system start said io (Unrecorded reason)
 IsTypingRefusal system start said io refusal.OutOfMemory = AreUntouched io ⊎ IsSessionCut system start said io OutOfMemory
 IsTypingRefusal system start said io _ = ⊥
@@ -105,11 +106,16 @@ pub record IsOverfullIn (system : Disk) (stops_idle : Bool) (typed : Option Type
   pub before : AreSettled system stops_idle typed sessions [] done settled
   pub over : IsOverfull (part_of typed sessions settled input) input shown
 
--- all openings were accepted, or else no key was read; and what was typed was typed
+-- the keys of a session are no more than a script can have: nobody types, and no session is played by a recording
+abbrev pub IsLimited : RunOptions → Option TypedSession → Type 0
+IsLimited options typed = (typed ≡ None) × (options.replays.now ≡ [])
+
+-- all openings were accepted, or else no key was read; and nobody typed, and no session is played by a recording
 pub record HasTooManyKeys (config : Config) (options : RunOptions) (io : Streams) (system : Disk) (inputs : List SessionInput) (shown : List ℕ) : Type 0 where
   pub judged : AllAccepted (starts_read inputs) (new_host system config.frames) (starts_read inputs) ⊎ AreUntouched io
   pub typed : Option TypedSession
   pub heard : IsTypedIfAny system config.sessions.items (option_map (λ n. n.now) options.typed) inputs io typed
+  pub limited : IsLimited options typed
   pub over : IsOverfullIn system options.stops_idle typed config.sessions.items inputs shown
 
 -- all openings were accepted, or else no key was read; and what was typed was typed
@@ -130,6 +136,8 @@ IsSettleRefusal config options io system inputs (refusal.InputUnreadable reason)
     IsTypingCut config options io system inputs (refusal.InputUnreadable reason)
 IsSettleRefusal config options io system inputs (refusal.OutputUnwritable reason) =
     IsTypingCut config options io system inputs (refusal.OutputUnwritable reason)
+IsSettleRefusal config options io system inputs (refusal.ListUnwritable reason) =
+    IsTypingCut config options io system inputs (refusal.ListUnwritable reason)
 IsSettleRefusal config options io system inputs (refusal.RecordUnwritable reason) =
     IsTypingCut config options io system inputs (refusal.RecordUnwritable reason)
 IsSettleRefusal config options io system inputs (refusal.TooManyKeys shown) = HasTooManyKeys config options io system inputs shown.bytes
@@ -142,7 +150,7 @@ pub record IsRefusedAfterReading (config : Config) (options : RunOptions) (io : 
   pub faultless : config_fault config ≡ None
   pub system : Disk
   pub inputs : List SessionInput
-  pub read : AreInputs old config system inputs
+  pub read : AreInputs old config options.replays.now system inputs
   pub refused : IsSettleRefusal config options io system inputs e
 
 -- ---- where files are written
@@ -162,7 +170,7 @@ IsWriteRefusal outputs place _ = ⊥
 -- the files before one were written as they should be, and no other name than those and its own has changed
 pub record StopsWriting (config : Config) (options : RunOptions) (io : Streams) (old new : Option StoreFiles) (e : RunError) : Type 0 where
   pub parts : RunParts
-  pub read : AreInputs old config parts.system parts.inputs
+  pub read : AreInputs old config options.replays.now parts.system parts.inputs
   pub faultless : config_fault config ≡ None
   pub played : AreParts config options io parts
   pub place : ℕ
@@ -185,7 +193,8 @@ IsRunRefusal config options io old new (refusal.ConfigRefused (Range place)) = (
 IsRunRefusal config options io old new (refusal.NoSession name) = (config_fault config ≡ None) × IsNoSession config options name.bytes × LeavesAll io old new
 IsRunRefusal config options io old new (refusal.NotOpened name) =
     (config_fault config ≡ None) × IsForkedSession config options name.bytes × LeavesAll io old new
-IsRunRefusal config options io old new (refusal.FileRefused e) = (config_fault config ≡ None) × IsInputFault old config e × LeavesAll io old new
+IsRunRefusal config options io old new (refusal.FileRefused e) =
+    (config_fault config ≡ None) × IsInputFault old config options.replays.now e × LeavesAll io old new
 IsRunRefusal config options io old new (refusal.WriteFault name) = StopsWriting config options io old new (refusal.WriteFault name)
 IsRunRefusal config options io old new refusal.OutOfMemory =
     (config_fault config ≡ None)
@@ -200,7 +209,7 @@ pub record FailsAtWrite {S : Type 0} (does : S → StoreAccess → S → Type 0)
   pub faultless : config_fault config ≡ None
   pub played : AreParts config options io parts
   pub place : ℕ
-  pub calls : LogLeadsBy does (Then (AreRead config parts.system parts.inputs) (StopsAfter (outputs_by options parts) place)) old new
+  pub calls : LogLeadsBy does (Then (AreRead config options.replays.now parts.system parts.inputs) (StopsAfter (outputs_by options parts) place)) old new
   pub why : IsWriteRefusal (outputs_by options parts) place e
 
 -- Over any store: what is needed was read, no other call was made, and by what was read the run is refused so.
@@ -209,7 +218,7 @@ pub record StopsAfterReading {S : Type 0} (does : S → StoreAccess → S → Ty
   pub faultless : config_fault config ≡ None
   pub system : Disk
   pub inputs : List SessionInput
-  pub calls : LogLeadsBy does (AreRead config system inputs) old new
+  pub calls : LogLeadsBy does (AreRead config options.replays.now system inputs) old new
   pub refused : IsSettleRefusal config options io system inputs e
 
 -- What calls a run that is refused has made of any store: none, where the configuration is refused or no session can be typed at; the reads up to the file
@@ -219,7 +228,7 @@ abbrev pub IsStoppedRun : {S : Type 0} → (S → StoreAccess → S → Type 0) 
 IsStoppedRun {S} does config options io old new (refusal.ConfigRefused e) = new ≡ old
 IsStoppedRun {S} does config options io old new (refusal.NoSession name) = new ≡ old
 IsStoppedRun {S} does config options io old new (refusal.NotOpened name) = new ≡ old
-IsStoppedRun {S} does config options io old new (refusal.FileRefused e) = LogLeadsBy does (StopsAtInput config e) old new
+IsStoppedRun {S} does config options io old new (refusal.FileRefused e) = LogLeadsBy does (StopsAtInput config options.replays.now e) old new
 IsStoppedRun {S} does config options io old new (refusal.WriteFault name) = FailsAtWrite does config options io old new (refusal.WriteFault name)
 IsStoppedRun {S} does config options io old new refusal.OutOfMemory =
     (LogLeadsBy does AreNoWrites old new × AreUntouched io) ⊎ StopsAfterReading does config options io old new refusal.OutOfMemory

@@ -183,7 +183,7 @@ pub record AreReportedOf (system : Disk) (settled : List SettledSession) (report
 -- The files that they name were written in order, and nothing else; and each session is reported.
 pub record HasRun (config : Config) (options : RunOptions) (report : Report) (io : Streams) (old new : Option StoreFiles) : Type 0 where
   pub parts : RunParts
-  pub read : AreInputs old config parts.system parts.inputs
+  pub read : AreInputs old config options.replays.now parts.system parts.inputs
   -- no refusal is due: the numbers at the top are in range, and each fork stands
   pub faultless : config_fault config ≡ None
   pub played : AreParts config options io parts
@@ -200,7 +200,7 @@ pub record HasAccessed {S : Type 0} (does : S → StoreAccess → S → Type 0) 
   pub faultless : config_fault config ≡ None
   pub played : AreParts config options io parts
   pub replays : All GivesItsKeysAgain parts.settled
-  pub calls : LogLeadsBy does (Then (AreRead config parts.system parts.inputs) (AreWrites (outputs_by options parts))) old new
+  pub calls : LogLeadsBy does (Then (AreRead config options.replays.now parts.system parts.inputs) (AreWrites (outputs_by options parts))) old new
   pub reported : AreReportedOf parts.system parts.settled report
 
 -- ---- refusals

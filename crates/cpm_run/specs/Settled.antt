@@ -14,6 +14,7 @@ use Rattle.cpm_geom.specs.Disk.{Disk}
 use Rattle.cpm_machine.specs.MachineState.{MachineState, opened_machine}
 use Rattle.cpm_play.specs.Cued.{HasEndedCued, IsCued, waits_at}
 use Rattle.cpm_play.specs.Live.{AreGiven}
+use Rattle.cpm_play.specs.Output.{OutputState, console_alone}
 use Rattle.cpm_play.specs.Playing.{alone_by}
 use Rattle.cpm_play.specs.Sitting.{IsTypedPlay, sitting}
 use Rattle.cpm_play.specs.Typist.{TypingState}
@@ -184,17 +185,17 @@ AreSettled system stops_idle typed sessions settled (i ∷ is) [] = ⊥
 
 -- ---- typing
 
--- what was known of a typist and is known, what a writer had got and has got, and what a record had and has
+-- what was known of a typist and is known, what a console and a list device had got and have got, and what a record had and has
 pub record Streams : Type 0 where
   pub unread : TypingState
   pub left : TypingState
-  pub before : Option (List ℕ)
-  pub written : Option (List ℕ)
+  pub before : OutputState
+  pub written : OutputState
   pub unrecorded : Option (List ℕ)
   pub record_now : Option (List ℕ)
 
-abbrev pub streams : (unread left : TypingState) → (before written unrecorded record_now : Option (List ℕ)) → Streams
-streams unread left before written unrecorded record_now = record {
+abbrev pub play_streams : (unread left : TypingState) → (before written : OutputState) → (unrecorded record_now : Option (List ℕ)) → Streams
+play_streams unread left before written unrecorded record_now = record {
   unread = unread;
   left = left;
   before = before;
@@ -202,6 +203,11 @@ streams unread left before written unrecorded record_now = record {
   unrecorded = unrecorded;
   record_now = record_now;
 }
+
+-- those of a console alone
+abbrev pub streams : (unread left : TypingState) → (before written unrecorded record_now : Option (List ℕ)) → Streams
+streams unread left before written unrecorded record_now =
+    play_streams unread left (console_alone before) (console_alone written) unrecorded record_now
 
 -- nobody was heard, and nothing was written
 pub record AreUntouched (io : Streams) : Type 0 where
@@ -223,7 +229,7 @@ pub record IsTypedBy (system : Disk) (sessions : List SessionConfig) (name : Lis
   pub says : map cue_text cues ≡ said
   pub given : AreGiven (length keys) done keys
   pub played : IsTypedPlay (sitting io.unread.is_patient system (opening_of start) most_steps cues) io.unread io.left keys done end
-  pub text : Appends io.before io.written (alone_by system keys done (opening_of start)).session.console.screen
+  pub text : Appends io.before.console io.written.console (alone_by system keys done (opening_of start)).session.console.screen
   pub lines : Appends io.unrecorded io.record_now (recorded keys)
   pub long : steps ≡ max done (last_fork name sessions)
 

@@ -15,7 +15,7 @@ use Rattle.cpm_script.specs.Laws.{CountsRise, KeysAreAscii, PressesFollow}
 use Rattle.cpm_script.specs.Script.{most_keys}
 use Rattle.cpm_script.specs.declared.script.Key.{Key}
 use Rattle.cpm_run.specs.Playing.{IsPressableBy}
-use Rattle.cpm_run.specs.Refusing.{IsOverfull}
+use Rattle.cpm_run.specs.Refusing.{IsLimited, IsOverfull}
 use Rattle.cpm_slots.specs.Host.{new_host}
 use Rattle.cpm_run.specs.Run.{AllAccepted, GivesItsKeysAgain, IsOpening, starts_read}
 use Rattle.cpm_run.specs.Settled.{AreSettled, AreUntouched, IsTypedIfAny, SessionPart, SettledSession, Streams, TypedSession}
@@ -84,9 +84,9 @@ abbrev pub IsPartReady : (stops_idle : Bool) → (before : ℕ) → List CueText
 IsPartReady stops_idle before said opened =
     ((stops_idle ≡ false) × IsSome (timed_keys said) × (before + cued_key_count said ≤ most_keys)) ⊎ IfSome opened IsOpenable
 
--- nobody typed, and a session has the keys of its script as they are written, if these are not too many; or it can be opened by itself
-abbrev pub IsSessionReady : (stops_idle : Bool) → Option TypedSession → List CueText → Option StartInput → Type 0
-IsSessionReady stops_idle typed said opened = ((typed ≡ None) × (stops_idle ≡ false) × IsSome (timed_keys said)) ⊎ IfSome opened IsOpenable
+-- keys are limited, and a session has the keys of its script as they are written, if these are not too many; or it can be opened by itself
+abbrev pub IsSessionReady : RunOptions → Option TypedSession → List CueText → Option StartInput → Type 0
+IsSessionReady options typed said opened = (IsLimited options typed × (options.stops_idle ≡ false) × IsSome (timed_keys said)) ⊎ IfSome opened IsOpenable
 
 -- ---- all sessions
 
@@ -135,14 +135,14 @@ abbrev pub AreOpenable : List StartInput → Type 0
 AreOpenable = All (λ b. IsOpened b → IsOpenable b)
 
 -- no session is played by itself
-pub record ArePlain (stops_idle : Bool) (typed : Option TypedSession) (is : List SessionInput) : Type 0 where
-  pub untyped : typed ≡ None
-  pub runs_on : stops_idle ≡ false
+pub record ArePlain (options : RunOptions) (typed : Option TypedSession) (is : List SessionInput) : Type 0 where
+  pub limited : IsLimited options typed
+  pub runs_on : options.stops_idle ≡ false
   pub timed : All (λ i. IsSome (timed_keys i.said)) is
 
 -- so it is, or all that are opened can be
-abbrev pub AreReady : (stops_idle : Bool) → Option TypedSession → List SessionInput → Type 0
-AreReady stops_idle typed is = ArePlain stops_idle typed is ⊎ AreOpenable (starts_read is)
+abbrev pub AreReady : RunOptions → Option TypedSession → List SessionInput → Type 0
+AreReady options typed is = ArePlain options typed is ⊎ AreOpenable (starts_read is)
 
 -- the place of the session that is to be typed at, where one is, which is opened
 pub record IsTypedIn (config : Config) (name : List ℕ) (place : ℕ) : Type 0 where
@@ -172,19 +172,19 @@ pub record AreSettledBy (config : Config) (options : RunOptions) (io : Streams) 
 
 -- ---- refusals
 
--- how settling a session is refused: it has too many keys, or memory was refused
-abbrev pub IsPartRefusal : SessionPart → SessionInput → RunError → Type 0
-IsPartRefusal p i (refusal.TooManyKeys shown) = IsOverfull p i shown.bytes
-IsPartRefusal p i refusal.OutOfMemory = ⊤
-IsPartRefusal p i _ = ⊥
+-- how settling a session is refused: keys are limited and it has too many, or memory was refused
+abbrev pub IsPartRefusal : RunOptions → Option TypedSession → SessionPart → SessionInput → RunError → Type 0
+IsPartRefusal options typed p i (refusal.TooManyKeys shown) = IsLimited options typed × IsOverfull p i shown.bytes
+IsPartRefusal options typed p i refusal.OutOfMemory = ⊤
+IsPartRefusal options typed p i _ = ⊥
 
 -- how settling all is refused: the first are settled, and the next is refused so
-pub record IsSettlingRefusal (system : Disk) (stops_idle : Bool) (typed : Option TypedSession) (sessions : List SessionConfig) (inputs : List SessionInput)
+pub record IsSettlingRefusal (system : Disk) (options : RunOptions) (typed : Option TypedSession) (sessions : List SessionConfig) (inputs : List SessionInput)
     (e : RunError) : Type 0 where
   pub done : List SessionInput
   pub input : SessionInput
   pub rest : List SessionInput
   pub order : inputs ≡ done ++ input ∷ rest
   pub settled : List SettledSession
-  pub before : AreSettled system stops_idle typed sessions [] done settled
-  pub refused : IsPartRefusal (part_of typed sessions settled input) input e
+  pub before : AreSettled system options.stops_idle typed sessions [] done settled
+  pub refused : IsPartRefusal options typed (part_of typed sessions settled input) input e

@@ -37,6 +37,9 @@ pub enum RunError {
     /// Standard output can't be written.
     #[error("can't write to standard output: {0}")]
     OutputUnwritable(io::Error),
+    /// The list device of a machine can't be written.
+    #[error("can't write the list device: {0}")]
+    ListUnwritable(io::Error),
     /// The record of the keys can't be written.
     #[error("can't write the record of the keys: {0}")]
     RecordUnwritable(io::Error),
@@ -80,6 +83,7 @@ impl RunError {
             RunError::FileRefused(error) => error.code(),
             RunError::InputUnreadable(_) => RefusalCode::Unreadable,
             RunError::OutputUnwritable(_)
+            | RunError::ListUnwritable(_)
             | RunError::RecordUnwritable(_)
             | RunError::WriteFault(_) => RefusalCode::Unwritable,
             RunError::OutOfMemory => RefusalCode::OutOfMemory,
@@ -107,6 +111,7 @@ impl From<LiveError> for RunError {
         match error {
             LiveError::Unreadable(reason) => RunError::InputUnreadable(reason),
             LiveError::Unwritable(reason) => RunError::OutputUnwritable(reason),
+            LiveError::Unprinted(reason) => RunError::ListUnwritable(reason),
             LiveError::Unrecorded(reason) => RunError::RecordUnwritable(reason),
             LiveError::OutOfMemory => RunError::OutOfMemory,
         }

@@ -1,5 +1,9 @@
 //! What is asked of a run besides its configuration.
 
+ghost use Rattle.std.specs.Prelude.{◌≡◌, [], false, true};
+
+use cpm_batch::Replay;
+
 /// The file for the keys of a session, as a script by which it does the same again.
 #[derive(Clone, Copy, Debug)]
 pub struct RecordFile<'a> {
@@ -17,4 +21,14 @@ pub struct RunOptions<'a> {
     pub stops_idle: bool,
     /// The file for the keys of each session, in their order; none where no keys are to be recorded.
     pub records: &'a [RecordFile<'a>],
+    /// The sessions that are played by recordings, each in place of its script. Of several for one session the first counts.
+    pub replays: &'a [Replay<'a>],
+}
+
+/// Whether a session may be played by a recording.
+pub(crate) fn has_replays(options: RunOptions<'_>) -> bool
+    ensures none { result ≡ false → options.entry.replays.now ≡ [] }
+    ensures some { result ≡ true → options.entry.replays.now ≡ [] → ⊥ }
+{
+    !options.replays.is_empty()
 }

@@ -110,11 +110,12 @@ fn play_inputs<'a, T: RunWatcher>(
 }
 
 /// Runs the sessions of a configuration over the files of a store. It reads the system drive's image, then each session's drives and
-/// script, each once and checked before the next is read. Where a session is to be typed at, where a script waits, or where sessions stop idle, all
-/// openings and forks are judged then; the session that is named is played by itself by its script and then by the keys that are typed, and what it shows
-/// goes to `out` and its keys to `record`; and each other one is that waits or stops idle, so that its keys are those that come. It opens all that aren't
-/// forked; plays them by turns in their order, and forks the others from them on the way; then writes of each in order its console's text, its list
-/// device's and its drives, and at last the records of their keys. Each session is reported. The watcher is told on the way how far they have come.
+/// script, or the recording that stands in place of that, each once and checked before the next is read. Where a session is to be typed at, where one is
+/// played by a recording, where a script waits, or where sessions stop idle, all openings and forks are judged then; the session that is named is played by
+/// itself by its script and then by the keys that are typed, and what it shows goes to `out` and its keys to `record`; and each other one is that waits
+/// or stops idle, so that its keys are those that come. It opens all that aren't forked; plays them by turns in their order, and forks the others from
+/// them on the way; then writes of each in order its console's text, its list device's and its drives, and at last the records of their keys. Each
+/// session is reported. The watcher is told on the way how far they have come.
 ///
 /// The first refusal met is answered. But for `WriteFault` and `OutOfMemory` nothing was written then, and but for these, `TooManyKeys` and the faults of the
 /// three streams no key was read. With `WriteFault` and `OutOfMemory` the files before one hold what they should, and no name after it was written.
@@ -151,7 +152,7 @@ pub fn run_host<'a, S: Store, P: Typist, W: Write, R: Write, T: RunWatcher>(
         return Err(RunError::ConfigRefused(ConfigError::Range(place)));
     }
     let typed = typed_place(config, options)?;
-    let (system, inputs) = read_inputs(alloc, config, store)?;
+    let (system, inputs) = read_inputs(alloc, config, options.replays, store)?;
     let settled = settle_inputs(
         alloc, config, options, typed, &system, inputs, typist, out, record, watcher,
     )?;

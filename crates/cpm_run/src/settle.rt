@@ -6,11 +6,13 @@ ghost use Rattle.cpm_script.specs.Cues.{all_said};
 ghost use Rattle.cpm_run.specs.Settled.{AreSettled, HasPlayedKeys, HasSettledBy, IsSettled, opened_by, part_of, said_at, settled_view, starts_of, typed_view};
 ghost use Rattle.cpm_run.specs.Settling.{AreFitInputs, AreReady, AreSound, AreSoundKeys, IsFitInput, IsFitPart, IsOpenable, IsPartReady, IsPartRefusal};
 ghost use Rattle.cpm_run.specs.Settling.{IsSessionReady, IsSettlingRefusal, IsSoundAfter, part_view};
-ghost use Rattle.std.specs.Prelude.{Some, ◌+◌, length, nat_le};
+ghost use Rattle.std.specs.Prelude.{Some, ◌+◌, false, length, nat_le, true};
+ghost use Rattle.cpm_run.specs.Refusing.{IsLimited};
 ghost use Rattle.cpm_script.specs.Script.{most_keys};
 
 use crate::alone::{after_keys, machine_of};
 use crate::error::RunError;
+use crate::options::{RunOptions, has_replays};
 use crate::part::{Part, key_count, part_of, timed_keys};
 use crate::settled::SettledInput;
 use crate::watcher::{RunStage, RunWatcher};
@@ -112,6 +114,14 @@ fn is_few(before: usize, own: usize) -> bool
     before <= MOST_KEYS && own <= MOST_KEYS - before
 }
 
+/// Whether the keys of a session are limited to so many as a script can have: nobody types, and no session is played by a recording.
+fn is_limited(options: RunOptions<'_>, typed: &Option<(usize, LivePlay)>) -> bool
+    ensures limited { result ≡ true → IsLimited options.entry (typed_view typed.now) }
+    ensures free { result ≡ false → IsLimited options.entry (typed_view typed.now) → ⊥ }
+{
+    typed.is_none() && !has_replays(options)
+}
+
 /// What a session is played by: the keys of its script as they are written, or those that come.
 fn settle_part<T: RunWatcher>(
     alloc: Global,
@@ -148,21 +158,21 @@ fn settle_part<T: RunWatcher>(
 fn settle_session<'a, T: RunWatcher>(
     alloc: Global,
     config: &Config,
+    options: RunOptions<'_>,
     system: &Image,
     input: Input<'a>,
     settled: &[SettledInput<'_>],
     typed: &Option<(usize, LivePlay)>,
-    stops_idle: bool,
     watcher: &mut T,
 ) -> Result<SettledInput<'a>, RunError>
     requires fit { IsFitInput (typed_view typed.now) (starts_of (map settled_view settled.now)) (given input) }
     requires sound { AreSound system.now (map settled_view settled.now) }
-    requires ready { IsSessionReady stops_idle (typed_view typed.now) (said_at (typed_view typed.now) (length settled.now) (all_said input.cues))
+    requires ready { IsSessionReady options (typed_view typed.now) (said_at (typed_view typed.now) (length settled.now) (all_said input.cues))
         (opened_by (starts_of (map settled_view settled.now)) (start_view input.start)) }
-    ensures settled { IfOk result (λ s. IsSettled system.now stops_idle
+    ensures settled { IfOk result (λ s. IsSettled system.now options.entry.stops_idle
         (part_of (typed_view typed.now) config.now.sessions.items (map settled_view settled.now) (given input.entry)) (given input.entry) (settled_view s)) }
     ensures sound { IfOk result (λ s. IsSoundAfter system.now (map settled_view settled.now) (settled_view s)) }
-    ensures refusal { IfErr result (IsPartRefusal
+    ensures refusal { IfErr result (IsPartRefusal options.entry (typed_view typed.now)
         (part_of (typed_view typed.now) config.now.sessions.items (map settled_view settled.now) (given input.entry)) (given input.entry)) }
 {
     let Input {
@@ -172,9 +182,10 @@ fn settle_session<'a, T: RunWatcher>(
     } = input;
     let part = part_of(alloc, config, typed, settled, session, &start, cues)?;
     let before = part.before.len();
-    if typed.is_none() && !is_few(before, key_count(part.cues.as_slice())) {
+    if is_limited(options, typed) && !is_few(before, key_count(part.cues.as_slice())) {
         return Err(RunError::TooManyKeys(shown(session.name.as_str())));
     }
+    let stops_idle = options.stops_idle;
     let (live, is_idle) = settle_part(alloc, system, settled.len(), part, stops_idle, watcher)?;
     Ok(SettledInput {
         session,
@@ -190,25 +201,26 @@ fn settle_session<'a, T: RunWatcher>(
 pub(crate) fn settle<'a, T: RunWatcher>(
     alloc: Global,
     config: &Config,
+    options: RunOptions<'_>,
     system: &Image,
     inputs: Vec<Input<'a>>,
     typed: &Option<(usize, LivePlay)>,
-    stops_idle: bool,
     watcher: &mut T,
 ) -> Result<Vec<SettledInput<'a>>, RunError>
     requires fit { AreFitInputs (typed_view typed.now) [] (map given inputs.items) }
-    requires ready { AreReady stops_idle (typed_view typed.now) (map given inputs.items) }
-    ensures settled { IfOk result (λ v. AreSettled system.now stops_idle (typed_view typed.now) config.now.sessions.items []
+    requires ready { AreReady options (typed_view typed.now) (map given inputs.items) }
+    ensures settled { IfOk result (λ v. AreSettled system.now options.entry.stops_idle (typed_view typed.now) config.now.sessions.items []
         (map given inputs.entry.items) (map settled_view v.items)) }
     ensures sound { IfOk result (λ v. AreSound system.now (map settled_view v.items)) }
-    ensures refusal { IfErr result (IsSettlingRefusal system.now stops_idle (typed_view typed.now) config.now.sessions.items (map given inputs.entry.items)) }
+    ensures refusal { IfErr result (IsSettlingRefusal system.now options.entry (typed_view typed.now) config.now.sessions.items
+        (map given inputs.entry.items)) }
 {
     let mut settled = Vec::new(alloc);
     let mut rest = inputs.into_iter();
     while let Some(input) = rest.next() {
         let before = settled.as_slice();
         let next = settle_session(
-            alloc, config, system, input, before, typed, stops_idle, watcher,
+            alloc, config, options, system, input, before, typed, watcher,
         )?;
         settled.push(next)?;
     }

@@ -13,7 +13,7 @@ ghost use Rattle.cpm_run.specs.Settled.{IsTypedIfAny, settled_view, streams, typ
 ghost use Rattle.cpm_run.specs.Settling.{AreFitInputs, ArePlain, AreSound, AreSettledBy, BeginsAsConfigured, IsTypedPlace};
 
 use crate::error::RunError;
-use crate::options::RunOptions;
+use crate::options::{RunOptions, has_replays};
 use crate::settle::settle;
 use crate::settled::SettledInput;
 use crate::trial::judge_openings;
@@ -40,11 +40,12 @@ fn waits(cues: &[Cue]) -> bool
     false
 }
 
-/// Whether a session is played by itself before the run: where one types, where sessions stop idle, and where a script waits.
+/// Whether a session may be played by itself before the run: where one types, where sessions stop idle, where a script waits, and where a recording is
+/// played, since that may have more keys than a machine takes at once.
 fn has_waiting(options: RunOptions<'_>, inputs: &[Input<'_>]) -> bool
-    ensures { result ≡ false → (options.entry.typed ≡ None) × ArePlain options.entry.stops_idle None (map given inputs.now) }
+    ensures { result ≡ false → (options.entry.typed ≡ None) × ArePlain options.entry None (map given inputs.now) }
 {
-    if options.typed.is_some() || options.stops_idle {
+    if options.typed.is_some() || options.stops_idle || has_replays(options) {
         return true;
     }
     for input in inputs {
@@ -67,7 +68,7 @@ fn has_fork(inputs: &[Input<'_>]) -> bool {
 
 /// Whether all openings and forks are judged before the run: where a session is played by itself, and where one is forked, since hours may pass up to a fork.
 fn plays_alone(options: RunOptions<'_>, inputs: &[Input<'_>]) -> bool
-    ensures { result ≡ false → (options.entry.typed ≡ None) × ArePlain options.entry.stops_idle None (map given inputs.now) }
+    ensures { result ≡ false → (options.entry.typed ≡ None) × ArePlain options.entry None (map given inputs.now) }
 {
     has_waiting(options, inputs) || has_fork(inputs)
 }
@@ -144,7 +145,6 @@ pub(crate) fn settle_inputs<'a, P: Typist, W: Write, R: Write, T: RunWatcher>(
             alloc, config, options, typed, system, sessions, typist, out, record, watcher,
         )?;
     }
-    let stops_idle = options.stops_idle;
-    let settled = settle(alloc, config, system, inputs, &heard, stops_idle, watcher)?;
+    let settled = settle(alloc, config, options, system, inputs, &heard, watcher)?;
     Ok(settled)
 }

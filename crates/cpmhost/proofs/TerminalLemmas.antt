@@ -1,9 +1,5 @@
 -- A key that is typed at a terminal, as it is heard.
-use Rattle.std.proofs.Common.{◌≡◌, ◌≢◌, ◌⊎◌, inl, inr, ℕ, ◌<◌, true, false, None, arith}
-use Rattle.std.proofs.lemmas.Bool.Decides.{nat_tests}
-use Rattle.std.specs.Char.{is_ascii}
-use Rattle.cpm_play.proofs.TypingLemmas.{read_key, read_none}
-use Rattle.cpm_play.specs.Typing.{end_key}
+use Rattle.std.proofs.Common.{◌≡◌, ◌⊎◌, inl, inr, ℕ, ◌<◌, false, None}
 use Rattle.cpm_play.specs.Typist.{CanBeHeard, IsHeard, TypingState}
 use Rattle.cpm_play.specs.declared.typist.Heard.TheVariants as heard
 use Rattle.cpm_play.specs.declared.typist.KeyNeed.{KeyNeed}
@@ -13,11 +9,8 @@ use Rattle.cpm_play.specs.declared.typist.KeyNeed.TheVariants.{Pending, Possible
 abbrev pub terminal_typing : TypingState
 terminal_typing = record { is_patient = false; unread = None; heard = None }
 
-pub terminal_key : (count byte : ℕ) → (byte < 128) × (byte ≢ end_key) → IsHeard count terminal_typing terminal_typing (heard.Key byte)
-terminal_key count byte key =
-    let low = key.0 in
-    let ascii : is_ascii byte ≡ true = grind (arith, nat_tests) in
-    record { said = tt; read = read_key None None None byte (read_none None) tt key.1 ascii }
+pub terminal_key : (count byte : ℕ) → byte < 128 → IsHeard count terminal_typing terminal_typing (heard.Key byte)
+terminal_key count byte low = record { said = tt; read = (low, tt) }
 
 pub terminal_fits : (need : KeyNeed) (byte : ℕ) → (need ≡ Possible) ⊎ (need ≡ Wanted) → CanBeHeard need (heard.Key byte)
 terminal_fits Pending byte (inl e) = absurd (let bad : ⊥ = cc in bad)

@@ -15,8 +15,8 @@ use std::{io, mem};
 pub enum NamingRule {
     /// It replaces what has the name; where that was read it must still be what it was then.
     Replacing(Option<Mark>),
-    /// It replaces what has the name, and nobody can execute it.
-    ReplacingPlain,
+    /// The same, and nobody can execute it.
+    ReplacingPlain(Option<Mark>),
     /// It replaces nothing.
     New,
 }
@@ -25,7 +25,7 @@ impl NamingRule {
     /// The permissions that it keeps of the file that it replaces.
     fn mask(self) -> u32 {
         match self {
-            NamingRule::ReplacingPlain => PLAIN_PERMISSIONS,
+            NamingRule::ReplacingPlain(_) => PLAIN_PERMISSIONS,
             NamingRule::Replacing(_) | NamingRule::New => PERMISSIONS,
         }
     }
@@ -52,7 +52,7 @@ impl WholeFile {
     /// Fails where the file that it is to replace is no longer what it was when it was read.
     fn check(&self, rt: &impl Files) -> Result<(), HostError> {
         match self.naming {
-            NamingRule::Replacing(Some(mark)) => mark
+            NamingRule::Replacing(Some(mark)) | NamingRule::ReplacingPlain(Some(mark)) => mark
                 .check(rt, self.beside.target())
                 .map_err(|reason| self.unwritable(reason)),
             _ => Ok(()),
@@ -77,7 +77,7 @@ impl WholeFile {
         }
         let taken = match self.naming {
             NamingRule::New => self.beside.take_new_name(rt),
-            NamingRule::Replacing(_) | NamingRule::ReplacingPlain => self.beside.take_name(rt),
+            NamingRule::Replacing(_) | NamingRule::ReplacingPlain(_) => self.beside.take_name(rt),
         };
         let Err(reason) = taken else {
             return Ok(());

@@ -54,6 +54,22 @@ pub fn check_file(rt: &impl LockableFiles, outputs: Outputs, name: &str) -> Resu
         .map_err(|reason| unwritable(name, reason))
 }
 
+/// Fails where no files can be written into a folder of this name, or those there can't be listed.
+pub fn check_folder(
+    rt: &impl LockableFiles,
+    outputs: Outputs,
+    folder: &str,
+) -> Result<(), HostError>
+    ensures refusal { IfErr result (IsOutRefusal folder.now) }
+{
+    if let Err(reason) = names_in(rt, rt.alloc(), folder) {
+        return Err(unwritable(folder, reason));
+    }
+    outputs
+        .check_folder(rt, folder)
+        .map_err(|reason| unwritable(folder, reason))
+}
+
 /// Why a file was not written.
 pub fn unwritable(name: &str, reason: io::Error) -> HostError
     ensures { IsOutRefusal name.now result }
@@ -187,9 +203,10 @@ impl<'a, R: LockableFiles> MachineFiles<'a, R> {
         Ok(bytes)
     }
 
-    /// Sees to the files of a plan.
+    /// Sees to the files of a plan. What was held for one before it is held on.
     fn see(&mut self, plan: &FilePlan<'_>) -> Result<(), CommandRefusal> {
-        self.seen = SeenFiles::of(self.rt, self.outputs, self.rules, plan)?;
+        let seen = SeenFiles::of(self.rt, self.outputs, self.rules, plan)?;
+        self.seen.add(seen)?;
         self.repeated = RepeatedFiles::of(self.rt.alloc(), &plan.inputs)?;
         Ok(())
     }
@@ -202,17 +219,21 @@ impl<'a, R: LockableFiles> MachineFiles<'a, R> {
         if self.shows_controls && is_own_terminal(self.rt, name) {
             return write_shown(self.rt, name, bytes);
         }
-        let rule = self.rule_of(name);
+        let rule = self.rule_of(name)?;
         self.batch.add(self.rt, name, rule, bytes)
     }
 
     /// How the file of a name takes it.
-    fn rule_of(&self, name: &str) -> NamingRule {
-        match self.seen.naming {
-            OutputNaming::Replaces => NamingRule::Replacing(self.seen.held.mark_of(name)),
-            OutputNaming::ReplacesPlain => NamingRule::ReplacingPlain,
+    fn rule_of(&self, name: &str) -> io::Result<NamingRule> {
+        let mark = match self.seen.held.mark_of(name) {
+            Some(mark) => Some(mark),
+            None => self.seen.marks.mark_of(self.rt, name)?,
+        };
+        Ok(match self.seen.naming {
+            OutputNaming::Replaces => NamingRule::Replacing(mark),
+            OutputNaming::ReplacesPlain => NamingRule::ReplacingPlain(mark),
             OutputNaming::New => NamingRule::New,
-        }
+        })
     }
 }
 

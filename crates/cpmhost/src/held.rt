@@ -54,6 +54,12 @@ impl Mark {
         }
     }
 
+    /// That of the file of a name, its links followed.
+    pub fn at(rt: &(impl Files + AllocGlobal), name: &str) -> io::Result<Mark> {
+        let target = target_of(rt, name)?;
+        Ok(Mark::of(&fs::metadata(rt, target.as_path())?))
+    }
+
     /// Fails where the file of a path is no longer what it was.
     pub fn check(&self, rt: &impl Files, path: Path<'_>) -> io::Result<()> {
         match fs::metadata(rt, path) {
@@ -89,6 +95,14 @@ impl HeldFiles {
         HeldFiles {
             all: Vec::new(alloc),
         }
+    }
+
+    /// Those that others hold too.
+    pub fn add(&mut self, others: HeldFiles) -> Result<(), AllocError> {
+        for held in others.all {
+            self.all.push(held)?;
+        }
+        Ok(())
     }
 
     /// What the file of a name was when it was read, if it is held.

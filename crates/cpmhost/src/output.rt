@@ -358,6 +358,12 @@ impl Outputs {
         }
     }
 
+    /// Whether files can be made in a folder, before there is one to make. Nothing is left of the trial.
+    pub fn check_folder(self, rt: &impl LockableFiles, folder: &str) -> io::Result<()> {
+        let target = Path::new(folder).join(rt.alloc(), "file")?;
+        self.create_beside(rt, target)?.remove()
+    }
+
     /// Whether a file of this name can be written, before there is anything to write. Nothing is left of the trial.
     pub fn check(self, rt: &impl LockableFiles, name: &str) -> io::Result<()> {
         let target = target_of(rt, name)?;

@@ -13,7 +13,7 @@ use std::{fs, io};
 
 /// Where a file lies: names with one place are of one file.
 #[derive(PartialEq, Eq, Drop)]
-struct FileIdentity {
+pub struct FileIdentity {
     device: u64,
     node: u64,
     /// Of a file that isn't there yet, its name in the folder that the numbers are of.
@@ -44,12 +44,25 @@ fn place_in_folder(
     }))
 }
 
-/// The place of the file of a name. None of what is no file of its own, as a pipe or a device, and of what has no folder. It fails where the file can't be
-/// looked at.
-fn place_of(rt: &(impl Files + AllocGlobal), name: &str) -> io::Result<Option<FileIdentity>> {
+/// The place of a name in its folder, its links followed, whatever has it.
+pub fn place_by_folder(
+    rt: &(impl Files + AllocGlobal),
+    name: &str,
+) -> io::Result<Option<FileIdentity>> {
     let target = target_of(rt, name)?;
+    place_in_folder(rt, target.as_path())
+}
+
+/// The place of the file of a name, or of a folder that files are written into. None of what is no file of its own, as a pipe or a device, and of what has no
+/// folder. It fails where the file can't be looked at.
+fn place_of(
+    rt: &(impl Files + AllocGlobal),
+    file: PlannedFile<'_>,
+) -> io::Result<Option<FileIdentity>> {
+    let target = target_of(rt, file.name)?;
+    let is_folder = file.role == FileRole::Folder;
     match fs::metadata(rt, target.as_path()) {
-        Ok(found) if found.is_file() => Ok(Some(FileIdentity {
+        Ok(found) if found.is_file() || (is_folder && found.is_dir()) => Ok(Some(FileIdentity {
             device: found.dev(),
             node: found.ino(),
             name: None,
@@ -82,7 +95,7 @@ impl<'a> FoundFiles<'a> {
         rt: &(impl Files + AllocGlobal),
         file: PlannedFile<'a>,
     ) -> Result<(), CommandRefusal> {
-        if let Some(place) = found_of_input(rt, file.name, place_of(rt, file.name))? {
+        if let Some(place) = found_of_input(rt, file.name, place_of(rt, file))? {
             self.inputs.push(FoundFile { file, place })?;
         }
         Ok(())
@@ -95,7 +108,7 @@ impl<'a> FoundFiles<'a> {
         file: PlannedFile<'a>,
     ) -> Result<(), CommandRefusal> {
         let name = file.name;
-        let place = place_of(rt, name).map_err(|reason| unwritable(name, reason))?;
+        let place = place_of(rt, file).map_err(|reason| unwritable(name, reason))?;
         if let Some(place) = place {
             self.check_new(&place, file)?;
             self.outputs.push(FoundFile { file, place })?;

@@ -1,8 +1,9 @@
 //! What is seen to of the files of a command before any of them is read.
 
 use crate::bounds::{Bounds, FileRules};
-use crate::files::check_file;
+use crate::files::{check_file, check_folder};
 use crate::held::{HeldFiles, LockableFiles, hold_images};
+use crate::marks::ReadMarks;
 use crate::output::{Outputs, is_open_already, target_of};
 use crate::place::{check_apart, check_pipes};
 use crate::refused::{CommandRefusal, RefusalDetail};
@@ -18,6 +19,8 @@ use std::{fs, io};
 pub struct SeenFiles {
     pub bounds: Bounds,
     pub held: HeldFiles,
+    /// What those were that are read, where files are written into folders.
+    pub marks: ReadMarks,
     pub naming: OutputNaming,
 }
 
@@ -27,6 +30,7 @@ impl SeenFiles {
         SeenFiles {
             bounds: Bounds::none(rt.alloc()),
             held: HeldFiles::none(rt.alloc()),
+            marks: ReadMarks::none(rt.alloc()),
             naming: OutputNaming::Replaces,
         }
     }
@@ -48,11 +52,27 @@ impl SeenFiles {
         bounds.check_inputs(rt, &plan.inputs)?;
         check_pipes(rt, &plan.inputs, rules.is_typed_at)?;
         let held = hold_images(rt, plan)?;
+        let marks = ReadMarks::of(rt, plan).map_err(|_| HostError::OutOfMemory)?;
         Ok(SeenFiles {
             bounds,
             held,
+            marks,
             naming: plan.naming,
         })
+    }
+
+    /// What was seen to after it. What was held is held on, and what was read is known.
+    pub fn add(&mut self, later: SeenFiles) -> Result<(), AllocError> {
+        let SeenFiles {
+            bounds,
+            held,
+            marks,
+            naming,
+        } = later;
+        self.bounds = bounds;
+        self.naming = naming;
+        self.held.add(held)?;
+        self.marks.add_all(marks)
     }
 }
 
@@ -63,6 +83,9 @@ fn check_output(
     file: PlannedFile<'_>,
     naming: OutputNaming,
 ) -> Result<(), CommandRefusal> {
+    if file.role == FileRole::Folder {
+        return Ok(check_folder(rt, outputs, file.name)?);
+    }
     if naming == OutputNaming::New {
         check_new(rt, file)?;
     }

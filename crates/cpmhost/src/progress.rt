@@ -5,6 +5,7 @@ ghost use Rattle.std.specs.Prelude.{⊤};
 use crate::held::LockableFiles;
 use crate::patient::{PatientError, PatientOutput};
 use crate::refused::PathLine;
+use crate::tempo::{Tempo, micros};
 use crate::typing::{Terminals, tell_quit};
 use arrayvec::{ArrayString, ArrayVec};
 use cpm_commands::{Messages, SessionsWatcher};
@@ -15,6 +16,9 @@ use std::io::Write;
 
 /// How often it is told at most: each time that they are so much of the whole further.
 const PARTS: u128 = 50;
+
+/// After how many seconds it is told of a program without a limit of steps, and then again and again; on one line of a terminal after each.
+const SECONDS: u64 = 10;
 
 /// How many sessions a run has at most, and how long their names are.
 const MOST_SESSIONS: usize = 64;
@@ -62,6 +66,10 @@ pub struct Teller<'a, R: LockableFiles> {
     names: ArrayVec<ArrayString<MOST_NAME>, MOST_SESSIONS>,
     /// How many parts were told.
     told: u128,
+    /// When that began of which it is told.
+    begun: u64,
+    /// The pace of a program that is played by a script.
+    tempo: Tempo,
     /// Whether one types.
     is_typing: bool,
     /// Whether what comes next on standard output begins a line.
@@ -78,6 +86,7 @@ impl<'a, R: LockableFiles> Teller<'a, R> {
         terminals: Terminals<'a>,
         is_at_line_start: &'a Cell<bool>,
         keys: &'a Cell<usize>,
+        pace: Option<u64>,
     ) -> Teller<'a, R> {
         Teller {
             rt,
@@ -86,6 +95,8 @@ impl<'a, R: LockableFiles> Teller<'a, R> {
             whom: Audience::All,
             names: ArrayVec::new(),
             told: 0,
+            begun: 0,
+            tempo: Tempo::new(pace),
             is_typing: false,
             is_at_line_start,
             keys,
@@ -197,15 +208,53 @@ impl<'a, R: LockableFiles> Teller<'a, R> {
             "{before}progress {percent}%: {ended} of {sessions} sessions have ended, {slowest} has the most left{behind}"
         );
     }
-}
 
-impl<R: LockableFiles> Watcher for Teller<'_, R> {
-    fn is_watching(&self) -> bool {
-        self.form != Form::Silent
+    /// Whether a person is told that a program has no limit, if it has none, and goes on and on.
+    fn hints(&self) -> bool {
+        self.terminals.is_error_terminal && self.names.is_empty() && self.told == 0
     }
 
-    fn see(&mut self, progress: Progress) {
-        if !self.is_watching() || progress.all == 0 {
+    /// Sees so many steps of what has no limit.
+    fn see_unlimited(&mut self, done: u64) {
+        if self.form == Form::Silent && !self.hints() {
+            return;
+        }
+        let seconds = micros(self.rt).saturating_sub(self.begun) / 1_000_000;
+        let parts = match self.form {
+            Form::InPlace => seconds,
+            Form::Lines | Form::Silent => seconds / SECONDS,
+        };
+        if u128::from(parts) > self.told {
+            self.tell_unlimited(seconds, done);
+            self.told = u128::from(parts);
+        }
+    }
+
+    /// Tells of so many steps of what has no limit.
+    fn tell_unlimited(&mut self, seconds: u64, done: u64) {
+        match self.form {
+            Form::Silent => {
+                self.end_all();
+                let _ = eprintln!(PatientError::new(self.rt);
+                    "hint: {seconds} s and {done} steps so far, without a limit; ^C ends it and writes no disk"
+                );
+            }
+            Form::Lines => {
+                self.note(true);
+                let _ = eprintln!(PatientError::new(self.rt); "progress {seconds} s, {done} steps");
+            }
+            Form::InPlace => {
+                self.note(false);
+                let _ = eprint!(PatientError::new(self.rt);
+                    "\rprogress {seconds} s, {done} steps\x1b[K"
+                );
+            }
+        }
+    }
+
+    /// Sees so many steps of those that there are in all.
+    fn see_share(&mut self, progress: Progress) {
+        if self.form == Form::Silent || progress.all == 0 {
             return;
         }
         let parts = u128::from(progress.done) * PARTS / u128::from(progress.all);
@@ -216,10 +265,30 @@ impl<R: LockableFiles> Watcher for Teller<'_, R> {
     }
 }
 
+impl<R: LockableFiles> Watcher for Teller<'_, R> {
+    fn is_watching(&self) -> bool {
+        self.form != Form::Silent || self.tempo.is_kept() || self.hints()
+    }
+
+    fn most_steps(&self) -> u64 {
+        self.tempo.most_steps()
+    }
+
+    fn see(&mut self, progress: Progress) {
+        self.tempo.hold(self.rt, progress.done);
+        if progress.all == u64::MAX && progress.done < progress.all {
+            self.see_unlimited(progress.done);
+        } else {
+            self.see_share(progress);
+        }
+    }
+}
+
 impl<R: LockableFiles> RunWatcher for Teller<'_, R> {
     fn begin(&mut self, stage: RunStage) {
         self.end_stage();
         self.told = 0;
+        self.begun = micros(self.rt);
         self.whom = match stage {
             RunStage::Typing => {
                 self.is_typing = true;

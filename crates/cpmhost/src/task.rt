@@ -7,6 +7,7 @@ use crate::bounds::FileRules;
 use crate::files::MachineFiles;
 use crate::held::LockableFiles;
 use crate::output::Outputs;
+use crate::paced::PacedTypist;
 use crate::patient::{PatientInput, PatientOutput, StandardInput};
 use crate::progress::{Form, Teller};
 use crate::record::Record;
@@ -68,7 +69,8 @@ fn do_by_reads<'a, R: LockableFiles + StandardInput>(
 ) -> Result<u8, HostError>
     requires { HasUsers task.now }
 {
-    let mut typist = KeyReader::new(PatientInput::new(rt));
+    let reader = KeyReader::new(PatientInput::new(rt));
+    let mut typist = PacedTypist::new(rt, reader, pace_of(task));
     do_over(rt, task, terminals, None, files, record, keys, &mut typist)
 }
 
@@ -99,7 +101,8 @@ fn do_over<'a, R: LockableFiles + StandardInput, P: Typist>(
     );
     let mut lines = Lines::new(screen, &is_at_line_start);
     let form = Form::of(has_progress(task), terminals.is_error_terminal);
-    let mut teller = Teller::new(rt, form, terminals, &is_at_line_start, keys);
+    let pace = pace_of_program(task);
+    let mut teller = Teller::new(rt, form, terminals, &is_at_line_start, keys, pace);
     let Ok(mut input) = BufReader::new(rt.alloc(), PatientInput::new(rt)) else {
         return Err(HostError::OutOfMemory);
     };
@@ -182,11 +185,18 @@ fn has_progress(task: &Task<'_>) -> bool {
     }
 }
 
-/// How many thousand steps pass in a second at most where one types.
-fn pace_of(task: &Task<'_>) -> Option<u64> {
+/// How many thousand steps pass in a second at most of a program.
+fn pace_of_program(task: &Task<'_>) -> Option<u64> {
     match task {
         Task::Com(task) | Task::Boot(task) => task.pace,
-        Task::Run(task) => task.pace,
         _ => None,
+    }
+}
+
+/// How many pass in a second at most where one types.
+fn pace_of(task: &Task<'_>) -> Option<u64> {
+    match task {
+        Task::Run(task) => task.pace,
+        _ => pace_of_program(task),
     }
 }

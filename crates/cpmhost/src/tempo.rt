@@ -1,4 +1,4 @@
-//! How fast a machine is that is typed at, and the time by which that is told.
+//! How fast a machine is that is played, and the time by which that is told.
 
 ghost use Rattle.std.specs.Prelude.{◌<◌};
 
@@ -43,6 +43,11 @@ impl Tempo {
         Tempo { steps, from: None }
     }
 
+    /// Whether there is one.
+    pub fn is_kept(&self) -> bool {
+        self.steps.is_some()
+    }
+
     /// How many steps a turn has at most.
     pub fn most_steps(&self) -> u64
         ensures { 0 < result }
@@ -53,7 +58,19 @@ impl Tempo {
         }
     }
 
-    /// Sleeps where a machine that has executed so many steps by now is ahead of its pace, and says what the time is then.
+    /// Sleeps until a machine that has executed so many steps is not ahead of its pace. Without a pace not even the clock is asked.
+    pub fn hold(&mut self, clock: &impl Clock, count: u64) {
+        if !self.is_kept() {
+            return;
+        }
+        let now = micros(clock);
+        let ahead = self.ahead(now, count);
+        if ahead > 0 {
+            let _ = sleep(clock, ahead);
+        }
+    }
+
+    /// Sleeps a little where a machine that has executed so many steps by now is ahead of its pace, and says what the time is then.
     pub fn keep(&mut self, clock: &impl Clock, now: u64, count: u64) -> u64 {
         match self.ahead(now, count) {
             0 => now,

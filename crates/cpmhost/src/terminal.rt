@@ -1,7 +1,6 @@
 //! Keys that are typed at a terminal which gives each as it comes, and which says at once where none came: as after `stty -icanon min 0 time 0`.
 
-ghost use Rattle.std.specs.Prelude.{◌<◌, ◌≢◌, IfSome, None, false};
-ghost use Rattle.cpm_play.specs.Typing.{end_key};
+ghost use Rattle.std.specs.Prelude.{◌<◌, IfSome, None, false};
 
 use crate::held::LockableFiles;
 use crate::patient::StandardInput;
@@ -14,6 +13,9 @@ use std::{fs, io};
 
 /// ^], which ends typing.
 const END_KEY: u8 = 0x1D;
+
+/// ^^, before which each of the two is a key.
+const PREFIX_KEY: u8 = 0x1E;
 
 /// How many keys are kept here at most. More stay with the terminal.
 const MOST_KEPT_KEYS: usize = 256;
@@ -34,6 +36,8 @@ const MOST_WAIT: u64 = 40_000;
 #[derive(Drop)]
 struct TypedKeys {
     keys: ArrayVec<u8, MOST_KEPT_KEYS>,
+    /// Whether ^^ came last, which is no key yet.
+    is_prefixed: bool,
     /// Why no more is typed.
     end: Option<TypingEnd>,
     /// When the last key was given, or that end came behind keys that were not.
@@ -44,6 +48,7 @@ impl TypedKeys {
     fn new() -> TypedKeys {
         TypedKeys {
             keys: ArrayVec::new(),
+            is_prefixed: false,
             end: None,
             since: 0,
         }
@@ -53,31 +58,55 @@ impl TypedKeys {
     fn room(&self) -> usize {
         match self.end {
             Some(_) => 0,
-            None => MOST_KEPT_KEYS.saturating_sub(self.keys.len()),
+            None => MOST_KEPT_KEYS
+                .saturating_sub(self.keys.len())
+                .saturating_sub(usize::from(self.is_prefixed)),
         }
     }
 
-    /// Takes that no more is typed.
+    /// Keeps a key. (There is room, since no more bytes are read.)
+    fn keep(&mut self, key: u8) {
+        let _ = self.keys.try_push(key);
+    }
+
+    /// Takes that no more is typed. A ^^ behind which nothing came is a key.
     fn take_end(&mut self, why: TypingEnd, now: u64) {
-        if self.end.is_none() {
-            self.end = Some(why);
-            if !self.keys.is_empty() {
-                self.since = now;
-            }
+        if self.end.is_some() {
+            return;
+        }
+        if self.is_prefixed {
+            self.is_prefixed = false;
+            self.keep(PREFIX_KEY);
+        }
+        self.end = Some(why);
+        if !self.keys.is_empty() {
+            self.since = now;
         }
     }
 
     /// Takes a byte that came. One of 80h or more is no key, and what comes behind ^] isn't any more.
     fn take(&mut self, byte: u8, now: u64) {
-        if self.end.is_some() {
+        if self.end.is_some() || !byte.is_ascii() {
             return;
         }
-        if byte == END_KEY {
+        if self.is_prefixed {
+            self.take_prefixed(byte);
+        } else if byte == END_KEY {
             self.take_end(TypingEnd::Quit, now);
-        } else if byte.is_ascii() {
-            // (there is room, since no more bytes are read)
-            let _ = self.keys.try_push(byte);
+        } else if byte == PREFIX_KEY {
+            self.is_prefixed = true;
+        } else {
+            self.keep(byte);
         }
+    }
+
+    /// Takes the key behind ^^. Before any but the two ^^ is a key itself.
+    fn take_prefixed(&mut self, byte: u8) {
+        self.is_prefixed = false;
+        if byte != END_KEY && byte != PREFIX_KEY {
+            self.keep(PREFIX_KEY);
+        }
+        self.keep(byte);
     }
 
     /// Why no more is given: at the end, once a machine wants another key than those before it, or has taken none of them for a while.
@@ -92,15 +121,11 @@ impl TypedKeys {
 
     /// The next key.
     fn next(&mut self, now: u64) -> Option<u8>
-        ensures { IfSome result (λ byte. (byte < 128) × (byte ≢ end_key)) }
+        ensures { IfSome result (λ byte. byte < 128) }
     {
         let byte = self.keys.pop_at(0)?;
         self.since = now;
-        if byte.is_ascii() && byte != END_KEY {
-            Some(byte)
-        } else {
-            None
-        }
+        if byte.is_ascii() { Some(byte) } else { None }
     }
 }
 
@@ -187,7 +212,7 @@ impl<'a, R: LockableFiles + StandardInput> TerminalTypist<'a, R> {
 
     /// The next key. Where one is wanted, and none came, it is waited a little.
     fn next(&mut self, is_wanted: bool, now: u64) -> Option<u8>
-        ensures { IfSome result (λ byte. (byte < 128) × (byte ≢ end_key)) }
+        ensures { IfSome result (λ byte. byte < 128) }
     {
         let key = self.typed.next(now);
         if key.is_some() || !is_wanted {

@@ -28,7 +28,7 @@ impl Terminals<'_> {
 /// Says how typing ends: at a terminal that gives each key, or elsewhere.
 pub fn tell_quit(rt: &impl StandardError, is_each_key: bool) {
     let told = if is_each_key {
-        "^] ends it, ^\\ too"
+        "^] ends it, ^\\ too; ^^ ^] types it"
     } else {
         "keys come from standard input; ^] ends"
     };

@@ -140,6 +140,7 @@ fn run_over(alloc: Global, config: &Config, store: &mut MemoryStore, blank: &[u8
         typed: None,
         stops_idle: false,
         records: &[],
+        replays: &[],
     };
     let nothing: &[u8] = &[];
     let mut out = Counter { count: 0 };

@@ -111,6 +111,7 @@ fn run_over(alloc: Global, config: &Config, store: &mut MemoryStore, blank: &[u8
         typed: Some("typed"),
         stops_idle: true,
         records: &RECORDS,
+        replays: &[],
     };
     let mut typed = KeyReader::new(KEYS);
     let mut out = Counter { count: 0 };

@@ -8,7 +8,7 @@ use cpm_flags::Cpu;
 use cpm_geom::{Format, Image};
 use cpm_machine::{Machine, OpenError, Opening, Tail};
 use cpm_memory::FrameStore;
-use cpm_play::{KeyReader, LiveError, Typist, play_live};
+use cpm_play::{ConsoleAndList, KeyReader, LiveError, PlayOutput, Typist, play_live};
 use cpm_slots::{ForkError, Host, SlotId};
 use std::alloc::Global;
 use std::io;
@@ -175,6 +175,11 @@ const READS: &[u8] = &[
     0x0E, 0x01, 0xCD, 0x05, 0x00, 0x0E, 0x01, 0xCD, 0x05, 0x00, 0xC9,
 ];
 
+/// Reads a key with its echo, and prints it on its list device.
+const PRINTS: &[u8] = &[
+    0x0E, 0x01, 0xCD, 0x05, 0x00, 0x5F, 0x0E, 0x05, 0xCD, 0x05, 0x00, 0xC9,
+];
+
 /// A reader and writer that always fails.
 #[derive(Drop)]
 struct FailingConsole;
@@ -195,31 +200,33 @@ impl Write for FailingConsole {
     }
 }
 
-/// A machine with a program that reads two keys.
-fn reading(alloc: Global) -> Result<Machine, Fail>
+/// A machine with a program that reads keys.
+fn reading(alloc: Global, program: &[u8]) -> Result<Machine, Fail>
     ensures { IfOk result IsFresh }
 {
-    let bytes = Vec::from_slice(alloc, READS)?;
+    let bytes = Vec::from_slice(alloc, program)?;
     match Machine::with_program(alloc, opening_of(alloc, 256, 1)?, bytes) {
         Ok(machine) => Ok(machine),
         Err((_, _, error)) => Err(Fail::from(error)),
     }
 }
 
-/// The kind of the error with which a session of two keys ends, and whose it is.
-fn fault<T: Typist, W: Write, S: Write>(
+/// The kind of the error with which a session of a program ends that reads keys, and whose it is.
+fn fault<T: Typist, O: PlayOutput, S: Write>(
     alloc: Global,
+    program: &[u8],
     typist: &mut T,
-    out: &mut W,
+    out: &mut O,
     record: &mut S,
 ) -> Result<(&'static str, Option<ErrorKind>), Fail> {
     let system = blank(alloc)?;
-    let mut machine = reading(alloc)?;
+    let mut machine = reading(alloc, program)?;
     Ok(
         match play_live(alloc, &system, &mut machine, 100, &[], typist, out, record) {
             Ok(_) => ("played", None),
             Err(LiveError::Unreadable(error)) => ("unreadable", Some(error.kind())),
             Err(LiveError::Unwritable(error)) => ("unwritable", Some(error.kind())),
+            Err(LiveError::Unprinted(error)) => ("unprinted", Some(error.kind())),
             Err(LiveError::Unrecorded(error)) => ("unrecorded", Some(error.kind())),
             Err(LiveError::OutOfMemory) => ("out of memory", None),
         },
@@ -233,16 +240,36 @@ fn a_live_session_names_what_failed(rt: HostRuntime) -> Result<(), Fail> {
     let keys: &[u8] = b"ab";
     let mut typed = KeyReader::new(keys);
     let mut dead = KeyReader::new(FailingConsole);
-    let found = fault(rt.alloc(), &mut dead, &mut text, &mut lines)?;
+    let found = fault(rt.alloc(), READS, &mut dead, &mut text, &mut lines)?;
     same(&rt, found, ("unreadable", Some(ErrorKind::BrokenPipe)));
     same(&rt, text.len(), 0);
     same(&rt, lines.len(), 0);
     // The echo of the first key can't be written; the key was recorded.
-    let found = fault(rt.alloc(), &mut typed, &mut FailingConsole, &mut lines)?;
+    let out = &mut FailingConsole;
+    let found = fault(rt.alloc(), READS, &mut typed, out, &mut lines)?;
     same(&rt, found, ("unwritable", Some(ErrorKind::StorageFull)));
     same(&rt, lines.as_slice(), b"3 a\n".as_slice());
-    let found = fault(rt.alloc(), &mut typed, &mut text, &mut FailingConsole)?;
+    let record = &mut FailingConsole;
+    let found = fault(rt.alloc(), READS, &mut typed, &mut text, record)?;
     same(&rt, found, ("unrecorded", Some(ErrorKind::StorageFull)));
     same(&rt, text.len(), 0);
+    Ok(())
+}
+
+/// The text of the turn is shown before its list bytes fail.
+#[test]
+fn a_live_session_names_a_list_device_that_failed(rt: HostRuntime) -> Result<(), Fail> {
+    let mut text = Vec::new(rt.alloc());
+    let mut lines = Vec::new(rt.alloc());
+    let keys: &[u8] = b"a";
+    let mut typed = KeyReader::new(keys);
+    let mut both = ConsoleAndList {
+        console: &mut text,
+        list: &mut FailingConsole,
+    };
+    let found = fault(rt.alloc(), PRINTS, &mut typed, &mut both, &mut lines)?;
+    same(&rt, found, ("unprinted", Some(ErrorKind::StorageFull)));
+    same(&rt, text.as_slice(), b"a".as_slice());
+    same(&rt, lines.as_slice(), b"3 a\n".as_slice());
     Ok(())
 }

@@ -105,6 +105,11 @@ fn names_code_and_status_of_files(rt: HostRuntime) {
             "HO5 can't write to standard output: the disk is gone",
         ),
         (
+            HostError::ListUnwritable(reason),
+            5,
+            "HO5 can't write the list device: the disk is gone",
+        ),
+        (
             HostError::from(DebugError::Unreadable(reason)),
             4,
             "HO4 can't read standard input: the disk is gone",
@@ -245,6 +250,7 @@ fn is_refused(rt: &(impl Abort + AllocGlobal), config: &Config) {
         typed: Some("one"),
         stops_idle: false,
         records: &[],
+        replays: &[],
     };
     let keys: &[u8] = b"DIR\r";
     let mut typed = KeyReader::new(keys);

@@ -64,6 +64,10 @@ impl Watcher for Stages {
         true
     }
 
+    fn most_steps(&self) -> u64 {
+        u64::MAX
+    }
+
     fn see(&mut self, _progress: Progress) {}
 }
 
@@ -105,6 +109,7 @@ fn is_refused<P: Typist, W: Write, R: Write>(
         typed: Some("one"),
         stops_idle: false,
         records: &[],
+        replays: &[],
     };
     let alloc = rt.alloc();
     match run_host(
@@ -167,6 +172,7 @@ fn a_watcher_is_told_what_begins(rt: HostRuntime) {
         typed: Some("one"),
         stops_idle: false,
         records: &[],
+        replays: &[],
     };
     let ran = run_host(
         rt.alloc(),

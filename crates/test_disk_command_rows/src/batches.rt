@@ -150,7 +150,7 @@ fn read(
     store: &mut MemoryStore,
 ) -> Result<Result<String, ReadError>, RowFault> {
     let inputs = match config.fork_fault() {
-        None => read_inputs(alloc, config, store),
+        None => read_inputs(alloc, config, &[], store),
         Some(_) => return Err(RowFault::Unready),
     };
     match inputs {

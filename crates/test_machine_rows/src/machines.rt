@@ -46,6 +46,7 @@ pub struct Play {
     pub script: Vec<u8>,
     pub steps: u64,
     pub text: Vec<u8>,
+    pub printed: Vec<u8>,
     pub record: Vec<u8>,
     pub left: Vec<u8>,
     /// Why it ended, where one typed.
@@ -61,6 +62,7 @@ impl Play {
             script: Vec::new(alloc),
             steps: 0,
             text: Vec::new(alloc),
+            printed: Vec::new(alloc),
             record: Vec::new(alloc),
             left: Vec::new(alloc),
             end: None,

@@ -5,19 +5,20 @@ use crate::timed_typist::TimedTypist;
 use cpm_geom::Image;
 use cpm_machine::Machine;
 use cpm_play::{
-    CuedKeys, KeyReader, LivePlay, NoWatcher, PlayEnd, TypedPlay, TypingEnd, Typist, play_cues,
-    play_live,
+    ConsoleAndList, CuedKeys, KeyReader, LivePlay, NoWatcher, PlayEnd, TypedPlay, TypingEnd,
+    Typist, play_cues, play_live,
 };
 use cpm_script::laws::cues_in_order;
 use cpm_script::read_cues;
 use std::alloc::Global;
 use test_language::{RowAnswer, RowFault, RowLine, Word, number};
 
-/// A machine that was played, what it showed and the record of its keys, and why that ended where one typed.
+/// A machine that was played, what it showed and printed and the record of its keys, and why that ended where one typed.
 #[derive(Drop)]
 struct PlayedMachine {
     machine: Machine,
     text: Vec<u8>,
+    printed: Vec<u8>,
     record: Vec<u8>,
     steps: u64,
     end: Option<PlayEnd>,
@@ -37,6 +38,7 @@ impl Machines {
                 | "live-end"
                 | "replay"
                 | "shown"
+                | "printed"
                 | "recorded"
                 | "left"
         )
@@ -66,6 +68,7 @@ impl Machines {
             ("live-end", []) => self.live_end(alloc),
             ("replay", []) => self.replay(alloc),
             ("shown", []) => RowAnswer::bytes(alloc, self.play.text.as_slice()),
+            ("printed", []) => RowAnswer::bytes(alloc, self.play.printed.as_slice()),
             ("recorded", []) => RowAnswer::bytes(alloc, self.play.record.as_slice()),
             ("left", []) => RowAnswer::bytes(alloc, self.play.left.as_slice()),
             _ => Err(RowFault::Words),
@@ -77,12 +80,14 @@ impl Machines {
         let PlayedMachine {
             machine,
             text,
+            printed,
             record,
             steps,
             end,
         } = played;
         self.put(machine);
         self.play.text = text;
+        self.play.printed = printed;
         self.play.record = record;
         self.play.steps = steps;
         self.play.end = end;
@@ -180,6 +185,14 @@ impl Machines {
     }
 }
 
+/// Output of which the console goes to one vector, and the list device to another.
+fn both_to<'a>(
+    console: &'a mut Vec<u8>,
+    list: &'a mut Vec<u8>,
+) -> ConsoleAndList<'a, Vec<u8>, Vec<u8>> {
+    ConsoleAndList { console, list }
+}
+
 /// Plays a machine by a script.
 fn by_script(
     alloc: Global,
@@ -201,14 +214,15 @@ fn by_script(
         waits_from,
         stops_idle,
     };
-    let (mut text, mut record) = (Vec::new(alloc), Vec::new(alloc));
+    let (mut text, mut printed) = (Vec::new(alloc), Vec::new(alloc));
+    let mut record = Vec::new(alloc);
     let played = play_cues(
         alloc,
         system,
         &mut machine,
         steps,
         cued,
-        &mut text,
+        &mut both_to(&mut text, &mut printed),
         &mut record,
         &mut NoWatcher,
     );
@@ -216,6 +230,7 @@ fn by_script(
     Ok(PlayedMachine {
         machine,
         text,
+        printed,
         record,
         steps,
         end: None,
@@ -239,7 +254,8 @@ fn typed_at<T: Typist>(
     };
     cues_in_order();
     let cues = cues.as_slice();
-    let (mut text, mut record) = (Vec::new(alloc), Vec::new(alloc));
+    let (mut text, mut printed) = (Vec::new(alloc), Vec::new(alloc));
+    let mut record = Vec::new(alloc);
     match play_live(
         alloc,
         system,
@@ -247,12 +263,13 @@ fn typed_at<T: Typist>(
         steps,
         cues,
         typist,
-        &mut text,
+        &mut both_to(&mut text, &mut printed),
         &mut record,
     ) {
         Ok(TypedPlay { live, end }) => Ok(PlayedMachine {
             machine,
             text,
+            printed,
             record,
             steps: live.steps,
             end: Some(end),

@@ -1,6 +1,6 @@
 //! What rows ask of a run besides its configuration, and what it shows and reads.
 
-use cpm_host::{RecordFile, RunOptions};
+use cpm_host::{RecordFile, Replay, RunOptions};
 use std::alloc::{AllocError, Global};
 use test_language::{RowAnswer, RowFault, RowLine, Word};
 
@@ -11,12 +11,21 @@ struct KeyFile {
     needs_key: bool,
 }
 
-/// Which session is typed at, if one is, and what is typed; and the files for the keys of the sessions, in their order.
+/// A session, and the file of the recording that it is played by.
+#[derive(Drop)]
+struct GivenReplay {
+    session: String,
+    file: String,
+}
+
+/// Which session is typed at, if one is, and what is typed; the files for the keys of the sessions, in their order; and which sessions are played by
+/// recordings.
 #[derive(Drop)]
 pub(crate) struct Asked {
     typed: Option<String>,
     pub(crate) keys: Vec<u8>,
     files: Vec<KeyFile>,
+    replays: Vec<GivenReplay>,
 }
 
 /// What a run showed of the session that was typed at, the record of its keys, and what was typed and not read.
@@ -63,6 +72,7 @@ impl Asked {
             typed: None,
             keys: Vec::new(alloc),
             files: Vec::new(alloc),
+            replays: Vec::new(alloc),
         }
     }
 
@@ -96,6 +106,34 @@ impl Asked {
         Ok(RowAnswer::Done)
     }
 
+    /// `replay NAME FILE`: the session of this name is played by the recording in this file.
+    pub(crate) fn replay(
+        &mut self,
+        alloc: Global,
+        arguments: &[Word<'_>],
+    ) -> Result<RowAnswer, RowFault> {
+        let [session, file] = arguments else {
+            return Err(RowFault::Words);
+        };
+        self.replays.push(GivenReplay {
+            session: String::from_str(alloc, session.text)?,
+            file: String::from_str(alloc, file.text)?,
+        })?;
+        Ok(RowAnswer::Done)
+    }
+
+    /// The sessions that are played by recordings.
+    pub(crate) fn replays(&self, alloc: Global) -> Result<Vec<Replay<'_>>, AllocError> {
+        let mut replays = Vec::new(alloc);
+        for replay in &self.replays {
+            replays.push(Replay {
+                session: replay.session.as_str(),
+                file: replay.file.as_str(),
+            })?;
+        }
+        Ok(replays)
+    }
+
     /// The files for the keys of the sessions.
     pub(crate) fn records(&self, alloc: Global) -> Result<Vec<RecordFile<'_>>, AllocError> {
         let mut records = Vec::new(alloc);
@@ -112,6 +150,7 @@ impl Asked {
     pub(crate) fn options<'a>(
         &'a self,
         records: &'a [RecordFile<'a>],
+        replays: &'a [Replay<'a>],
         stops_idle: bool,
     ) -> RunOptions<'a> {
         let typed = match &self.typed {
@@ -122,6 +161,7 @@ impl Asked {
             typed,
             stops_idle,
             records,
+            replays,
         }
     }
 }

@@ -63,6 +63,7 @@ impl Scene for Runs {
             "fail-call" => self.fail_call(arguments),
             "type" => self.asked.type_keys(alloc, line),
             "keys-to" => self.asked.keys_to(alloc, arguments),
+            "replay" => self.asked.replay(alloc, arguments),
             "run" => self.run(alloc, arguments),
             "shown" => RowAnswer::bytes(alloc, self.heard.shown.as_slice()),
             "recorded" => RowAnswer::bytes(alloc, self.heard.recorded.as_slice()),
@@ -86,7 +87,8 @@ fn run(
 ) -> Result<Report, HostError> {
     let config = Config::read(alloc, config)?;
     let records = asked.records(alloc)?;
-    let options = asked.options(records.as_slice(), stops_idle);
+    let replays = asked.replays(alloc)?;
+    let options = asked.options(records.as_slice(), replays.as_slice(), stops_idle);
     let mut reader = KeyReader::new(asked.keys.as_slice());
     let (out, record) = (&mut heard.shown, &mut heard.recorded);
     let ran = run_host(

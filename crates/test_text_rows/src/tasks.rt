@@ -101,7 +101,8 @@ fn add_play(
     add_flag(out, " has_status", task.has_status)?;
     add_text(alloc, out, " replay", task.replay)?;
     add_count(alloc, out, "pace", task.pace)?;
-    add_text(alloc, out, " system", task.system)
+    add_text(alloc, out, " system", task.system)?;
+    add_texts(alloc, out, " out_folders", task.out_folders.as_slice())
 }
 
 /// Adds a configuration that is run.
@@ -115,7 +116,8 @@ fn add_run(alloc: Global, out: &mut String, task: &RunTask<'_>) -> Result<(), Ro
     add_flag(out, " is_raw", task.is_raw)?;
     add_texts(alloc, out, " folders", task.folders.as_slice())?;
     add_flag(out, " has_outputs_here", task.has_outputs_here)?;
-    add_count(alloc, out, "pace", task.pace)
+    add_count(alloc, out, "pace", task.pace)?;
+    add_texts(alloc, out, " replays", task.replays.as_slice())
 }
 
 /// Adds a command of `disk`.

@@ -17,7 +17,7 @@ returns-clause-log g c =
     let inputs = map given c.in_ok-sessions.sessions.items in
     let start = c.args.store.now in
     let between = c.read_image.new.store in
-    let both = ran_then does (IsImageRead name system) (AreInputsRead [] inputs) start between c.read_sessions.new.store
+    let both = ran_then does (IsImageRead name system) (AreInputsRead c.args.replays.now [] inputs) start between c.read_sessions.new.store
     (image_read_as does name c.as_str.result.now system start between c.as_str.ensures.value c.in_ok-system.ensures.log) c.in_ok-sessions.ensures.log in
     (both.0, record { sessions = c.in_ok-sessions.ensures.sessions ∙ c.as_slice.ensures.value; calls = both.1 }, both.2)
 
@@ -26,7 +26,7 @@ returns-in_err-system-clause-refusal g c =
     let p = err_from_is_err_and c.from_residual.result c.from_residual.ensures.1 in
     let files = g.S.Store.files c.args.store.now in
     let config = c.args.config.now in
-    rw (p.1, p.2) (system_refused files config _ (image_refusal_as files files (string_bytes config.system) c.as_str.result.now _ refl c.as_str.ensures.value c.in_err-system.ensures.refusal))
+    rw (p.1, p.2) (system_refused c.args.replays.now files config _ (image_refusal_as files files (string_bytes config.system) c.as_str.result.now _ refl c.as_str.ensures.value c.in_err-system.ensures.refusal))
 
 pub returns-in_err-sessions-clause-refusal : goal.returns-in_err-sessions-clause-refusal
 returns-in_err-sessions-clause-refusal g c =
@@ -34,7 +34,7 @@ returns-in_err-sessions-clause-refusal g c =
     let files = g.S.Store.files c.args.store.now in
     let config = c.args.config.now in
     let system = c.in_ok-system.system in
-    rw (p.1, p.2) (sessions_refused files (g.S.Store.files c.read_image.new.store) config c.as_slice.result.now system _
+    rw (p.1, p.2) (sessions_refused c.args.replays.now files (g.S.Store.files c.read_image.new.store) config c.as_slice.result.now system _
     (image_as files files (string_bytes config.system) c.as_str.result.now system refl c.as_str.ensures.value c.in_ok-system.ensures.image) c.in_ok-system.ensures.store.same c.as_slice.ensures.value
     c.in_err-sessions.ensures.refusal)
 
@@ -43,7 +43,7 @@ returns-in_err-system-clause-refused_log g c =
     let p = err_from_is_err_and c.from_residual.result c.from_residual.ensures.1 in
     let does = g.S.Store.does in
     let config = c.args.config.now in
-    rw (p.1, p.2) (system_stopped does config _ c.args.store.now c.read_image.new.store
+    rw (p.1, p.2) (system_stopped does c.args.replays.now config _ c.args.store.now c.read_image.new.store
     (image_stopped_as does (string_bytes config.system) c.as_str.result.now _ c.args.store.now c.read_image.new.store c.as_str.ensures.value c.in_err-system.ensures.refused_log))
 
 pub returns-in_err-sessions-clause-refused_log : goal.returns-in_err-sessions-clause-refused_log
@@ -54,7 +54,7 @@ returns-in_err-sessions-clause-refused_log g c =
     let system = c.in_ok-system.system in
     let start = c.args.store.now in
     let between = c.read_image.new.store in
-    rw (p.1, p.2) (sessions_stopped does config c.as_slice.result.now system _ start between c.read_sessions.new.store c.as_slice.ensures.value
+    rw (p.1, p.2) (sessions_stopped does c.args.replays.now config c.as_slice.result.now system _ start between c.read_sessions.new.store c.as_slice.ensures.value
     (image_read_as does (string_bytes config.system) c.as_str.result.now system start between c.as_str.ensures.value c.in_ok-system.ensures.log) c.in_err-sessions.ensures.refused_log)
 
 pub returns-in_err-sessions-clause-store : goal.returns-in_err-sessions-clause-store

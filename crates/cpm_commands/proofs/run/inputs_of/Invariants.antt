@@ -5,4 +5,4 @@ use Rattle.cpm_commands.specs.Run.{run_inputs, session_inputs}
 use Rattle.cpm_commands.proofs.run.inputs_of.Given as goal
 
 abbrev pub invariant-loop-session : goal.invariant-loop-session
-invariant-loop-session l = named_files l.inputs.items ++ flat_map session_inputs (drop l.session-index l.config.sessions.items) ≡ run_inputs l.file l.config
+invariant-loop-session l = named_files l.inputs.items ++ flat_map (session_inputs l.replays) (drop l.session-index l.config.sessions.items) ≡ run_inputs l.file l.config l.replays

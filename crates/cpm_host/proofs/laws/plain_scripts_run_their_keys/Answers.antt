@@ -24,7 +24,8 @@ returns c system start steps text keys cued t io reads says goes played =
     (c.few_keys_have_room.ensures system start keys rehearsed.fresh order.1) rehearsed.keys rehearsed.within ends in
     let now = same.ending in
     record {
-      text = subst (λ (xs : List ℕ). Appends io.before io.written xs) same.screen played.text;
+      text = subst (λ (xs : List ℕ). Appends io.before.console io.written.console xs) same.screen played.text;
+      list = subst (λ (xs : List ℕ). Appends io.before.list io.written.list xs) same.printer played.list;
       ending = rehearsed.ending ∙ ending_same (alone_by system keys steps start) (alone_by system t.keys.items t.steps start) now;
       drives = rehearsed.drives ∙ ap images_of now.disks;
     }

@@ -35,6 +35,7 @@ returns-clause-played g c =
         };
       };
       text = c.in_ok-live.ensures.text;
+      list = c.in_ok-live.ensures.list;
       lines = c.in_ok-live.ensures.record;
       unread = refl;
     })

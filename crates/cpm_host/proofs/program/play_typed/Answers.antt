@@ -18,6 +18,7 @@ returns-clause-played g c =
       told = refl;
       played = c.in_ok-play.ensures.played;
       text = c.in_ok-play.ensures.text;
+      list = c.in_ok-play.ensures.list;
       ending = search rules;
       drives = search rules;
       waits = c.in_ok-play.ensures.waits;

@@ -10,7 +10,7 @@ use Rattle.cpm_play.proofs.cued.follow.Goals as goal
 
 pub loop-cue-init : goal.loop-cue-init
 loop-cue-init g c =
-    follow-start c.args.system.now c.args.machine.now c.args.steps c.args.cued.waits_from c.args.cued.cues.now (g.W.Write.contents c.args.out.now) (g.S.Write.contents c.args.record.now) c.new.result.items c.new-shown.result
+    follow-start c.args.system.now c.args.machine.now c.args.steps c.args.cued.waits_from c.args.cued.cues.now (g.O.PlayOutput.got c.args.out.now) (g.S.Write.contents c.args.record.now) c.new.result.items c.new-shown.result
     c.requires.fresh c.requires.ascii c.new.ensures.items c.new-shown.ensures.nothing c.new-shown.ensures.cues
 
 pub press-requires-clause-ascii : goal.press-requires-clause-ascii
@@ -43,7 +43,7 @@ loop-cue-preserved g c =
       | in-Press w ↦ inr (w.in-Press.is ∙ sym (ap (λ p. Press p.1) w.count-is), ap (λ p. p.0) w.count-is)
     ]) c.loop-cue.invariant in
     let came = c.in_ok-press.ensures.count c.if-not-branch.false in
-    follow-pressed c.loop-cue.invariant cue c.press.new.machine (g.W.Write.contents c.press.new.out) (g.S.Write.contents c.press.new.record) c.press.new.self.keys.items c.press.new.self.steps c.restart.new.self
+    follow-pressed c.loop-cue.invariant cue c.press.new.machine (g.O.PlayOutput.got c.press.new.out) (g.S.Write.contents c.press.new.record) c.press.new.self.keys.items c.press.new.self.steps c.restart.new.self
     came.0 (let most = c.ranges.steps.fits in omega arith) came.1 (c.in_ok-press.ensures.pressed c.if-not-branch.false) (c.in_ok-press.ensures.keys c.if-not-branch.false) c.restart.ensures.nothing c.restart.ensures.cues
 
 pub returns-then-not-branch-clause-going : goal.returns-then-not-branch-clause-going
@@ -82,7 +82,7 @@ returns-in_err-press-clause-refused g c =
       | in-Press w ↦ inr (w.in-Press.is ∙ sym (ap (λ p. Press p.1) w.count-is), ap (λ p. p.0) w.count-is)
     ]) c.loop-cue.invariant in
     let early = c.in_err-press.ensures.early in
-    rw (p.1, p.2) (going-press-cut c.args.cued.waits_from c.args.cued.cues.now c.loop-cue.invariant.going _ c.press.new.machine (g.W.Write.contents c.press.new.out) (g.S.Write.contents c.press.new.record) c.in_err-press.field-0.0
+    rw (p.1, p.2) (going-press-cut c.args.cued.waits_from c.args.cued.cues.now c.loop-cue.invariant.going _ c.press.new.machine (g.O.PlayOutput.got c.press.new.out) (g.S.Write.contents c.press.new.record) c.in_err-press.field-0.0
     cue.later early c.in_err-press.ensures.refused (key-cued c.loop-cue.invariant cue early) (key-comes c.loop-cue.invariant cue early))
 
 pub idle-requires-clause-quiet : goal.idle-requires-clause-quiet
@@ -100,7 +100,7 @@ returns-in_err-idle-in-Wait-clause-refused g c =
     let cut = c.in_err-idle-in-Wait.ensures.refused in
     let fits = cut.1 in
     let within = c.loop-cue.invariant.going.within in
-    rw (p.1, p.2) (going-cut c.args.cued.waits_from c.args.cued.cues.now c.loop-cue.invariant.going c.idle.new.machine (g.W.Write.contents c.idle.new.out) c.in_err-idle-in-Wait.field-0.0 cut.0 cut.1 cut.2
+    rw (p.1, p.2) (going-cut c.args.cued.waits_from c.args.cued.cues.now c.loop-cue.invariant.going c.idle.new.machine (g.O.PlayOutput.got c.idle.new.out) c.in_err-idle-in-Wait.field-0.0 cut.0 cut.1 cut.2
     (wait-cued following _ (omega arith) (omega arith) cut.3))
 
 pub loop-cue-preserved-then-has_met : goal.loop-cue-preserved-then-has_met

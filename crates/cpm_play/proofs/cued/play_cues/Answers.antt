@@ -1,7 +1,7 @@
 use Rattle.std.proofs.Common.{inl, inr, arith}
 use Rattle.std.proofs.lemmas.Result.{err_from_is_err_and}
 use Rattle.cpm_play.proofs.CuedLemmas.{cued-whole, going-cut, idle-ends, idle-going}
-use Rattle.cpm_play.proofs.GoingLemmas.{going-ending, going-given, going-shown, going-waiting}
+use Rattle.cpm_play.proofs.GoingLemmas.{going-ending, going-given, going-printed, going-shown, going-waiting}
 use Rattle.cpm_play.proofs.RoomLemmas.{cued-room}
 use Rattle.cpm_play.proofs.cued.play_cues.Goals.{then-cued, else-cued}
 use Rattle.cpm_play.proofs.cued.play_cues.Goals as goal
@@ -18,7 +18,7 @@ returns-in_err-idle-clause-refused g c =
     let cut = c.in_err-idle.ensures.refused in
     let fits = cut.1 in
     let within = c.in_ok-live.ensures.going.within in
-    rw (p.1, p.2) (going-cut c.args.cued.waits_from c.args.cued.cues.now c.in_ok-live.ensures.going c.idle.new.machine (g.W.Write.contents c.idle.new.out) c.in_err-idle.field-0.0 cut.0 cut.1 cut.2
+    rw (p.1, p.2) (going-cut c.args.cued.waits_from c.args.cued.cues.now c.in_ok-live.ensures.going c.idle.new.machine (g.O.PlayOutput.got c.idle.new.out) c.in_err-idle.field-0.0 cut.0 cut.1 cut.2
     (c.in_ok-live.ensures.keys _ (omega arith) (omega arith)))
 
 pub returns-clause-keys : goal.returns-clause-keys
@@ -38,6 +38,11 @@ pub returns-clause-text : goal.returns-clause-text
 returns-clause-text g c =
     let went = idle-going c.in_ok-live.ensures.going c.in_ok-idle.ensures.idled c.idle.new.self.keys.items c.idle.ensures.still c.in_ok-idle.ensures.within in
     going-shown _ _ _ _ _ _ _ _ _ _ _ went
+
+pub returns-clause-list : goal.returns-clause-list
+returns-clause-list g c =
+    let went = idle-going c.in_ok-live.ensures.going c.in_ok-idle.ensures.idled c.idle.new.self.keys.items c.idle.ensures.still c.in_ok-idle.ensures.within in
+    going-printed _ _ _ _ _ _ _ _ _ _ _ went
 
 pub returns-clause-ending : goal.returns-clause-ending
 returns-clause-ending g c =

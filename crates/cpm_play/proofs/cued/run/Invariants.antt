@@ -8,7 +8,7 @@ use Rattle.cpm_play.proofs.cued.run.Given as goal
 abbrev pub invariant-loop-executed : goal.invariant-loop-executed
 invariant-loop-executed g l = record {
   within : l.executed ≤ l.steps;
-  run : HasExecuted l.system l.executed l.fn.machine l.machine (g.W.Write.contents l.fn.out) (g.W.Write.contents l.out);
+  run : HasExecuted l.system l.executed l.fn.machine l.machine (g.O.PlayOutput.got l.fn.out) (g.O.PlayOutput.got l.out);
   quiet : IsQuiet l.machine;
   busy : l.to_wait ≡ true → IsBusyFor l.system l.executed l.fn.machine;
   kept : l.keeps ≡ true → HasGrown l.fn.shown l.shown (after l.system l.executed l.fn.machine).session.console.screen;

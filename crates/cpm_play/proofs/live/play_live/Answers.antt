@@ -1,19 +1,17 @@
-use Rattle.std.proofs.Common.{◌≡◌, ◌-◌, ◌<◌, ◌≤◌, ◌^◌, ◌∙◌, refl, ap, arith, inl, inr, sym}
+use Rattle.std.proofs.Common.{◌≡◌, ◌-◌, ◌<◌, ◌^◌, ◌∙◌, refl, ap, arith, inr, sym}
 use Rattle.std.proofs.lemmas.Result.{err_from_is_err_and}
 use Rattle.cpm_machine.specs.Step.{after}
-use Rattle.cpm_play.specs.Live.{IsGoing}
-use Rattle.cpm_play.specs.Sitting.{IsWantedByPatient, sitting}
+use Rattle.cpm_play.specs.Sitting.{sitting}
 use Rattle.cpm_play.specs.Typist.{IsHeard}
 use Rattle.cpm_play.specs.declared.typist.Heard.TheVariants as heard
-use Rattle.cpm_play.specs.declared.typist.KeyNeed.TheVariants.{Wanted}
-use Rattle.cpm_play.proofs.GoingLemmas.{going-ending, going-given, going-shown, going-waiting}
+use Rattle.cpm_play.proofs.GoingLemmas.{going-ending, going-given, going-printed, going-shown, going-waiting}
 use Rattle.cpm_play.proofs.LiveLemmas.{listened-failed, listened-still, live-done, live-ended, live-key, live-not-given, live-quit, live-start, live-still, live-turn, live-unheard, live-unshown, live-watched, fewer-asks, is-wanted, not-wanted, patient-wanted, room-used, takes-first}
 use Rattle.cpm_play.proofs.WantingLemmas.{busy-here, idle-here, none-here, wanted-here}
 use Rattle.cpm_play.proofs.live.play_live.Goals as goal
 
 pub loop-live-init : goal.loop-live-init
 loop-live-init g c = (
-  live-start (sitting (g.T.Typist.typing c.args.typist.now).is_patient c.args.system.now c.args.machine.now c.args.steps c.args.cues.now) _ c.play_script.new.machine (g.W.Write.contents c.args.out.now) (g.W.Write.contents c.play_script.new.out)
+  live-start (sitting (g.T.Typist.typing c.args.typist.now).is_patient c.args.system.now c.args.machine.now c.args.steps c.args.cues.now) _ c.play_script.new.machine (g.O.PlayOutput.got c.args.out.now) (g.O.PlayOutput.got c.play_script.new.out)
       (g.S.Write.contents c.args.record.now) (g.S.Write.contents c.play_script.new.record) (g.T.Typist.typing c.args.typist.now) c.in_ok-live.live.keys.items c.in_ok-live.live.steps c.new-watch.result
       c.in_ok-live.ensures.going c.in_ok-live.ensures.keys c.in_ok-live.ensures.none c.new-watch.ensures,
   refl,
@@ -103,8 +101,8 @@ loop-live-preserved g c =
     let is : IsHeard c.loop-live.live.steps (g.T.Typist.typing c.loop-live.typist) (g.T.Typist.typing c.hear.new.typist) heard.Nothing = rw c.in-Nothing-2.is at c.in_ok-end.ensures.heard in
     let some : 0 < c.turn-executed.result = let more = c.if-executed-eq0.false in omega (arith, more) in
     let busy = busy-here live.going (live-watched live) c.look.result c.look.ensures c.need-need.result c.need-need.ensures (not-wanted c.need-need.result (sym c.wants_key.ensures ∙ c.if-wants_key.false)) in (
-      live-turn live (g.T.Typist.typing c.hear.new.typist) c.turn-executed.result c.turn-executed.new.machine c.show.new.machine (g.W.Write.contents c.show.new.out) c.turn-executed.new.watch is
-          some (let least = c.min-most.ensures in let few = c.turn-executed.ensures.within in omega arith) c.turn-executed.ensures.few busy c.turn-executed.ensures.state c.turn-executed.ensures.watched c.in_ok-show-in-Nothing-2.ensures.state c.in_ok-show-in-Nothing-2.ensures.text,
+      live-turn live (g.T.Typist.typing c.hear.new.typist) c.turn-executed.result c.turn-executed.new.machine c.show.new.machine (g.O.PlayOutput.got c.show.new.out) c.turn-executed.new.watch is
+          some (let least = c.min-most.ensures in let few = c.turn-executed.ensures.within in omega arith) c.turn-executed.ensures.few busy c.turn-executed.ensures.state c.turn-executed.ensures.watched c.in_ok-show-in-Nothing-2.ensures.state c.in_ok-show-in-Nothing-2.ensures.output,
       c.hear.ensures.nature ∙ c.loop-live.invariant.1,
     )
 
@@ -113,7 +111,7 @@ returns-in_err-show-in-Nothing-2-clause-refused g c =
     let p = err_from_is_err_and c.from_residual-in_err-show-in-Nothing-2.result c.from_residual-in_err-show-in-Nothing-2.ensures.1 in
     let live = c.loop-live.invariant.0 in
     let is : IsHeard c.loop-live.live.steps (g.T.Typist.typing c.loop-live.typist) (g.T.Typist.typing c.hear.new.typist) heard.Nothing = rw c.in-Nothing-2.is at c.in_ok-end.ensures.heard in
-    rw (p.1, p.2) (inr (live-unshown live (g.T.Typist.typing c.hear.new.typist) c.turn-executed.result c.turn-executed.new.machine c.show.new.machine (g.W.Write.contents c.show.new.out) c.in_err-show-in-Nothing-2.field-0.0 is
+    rw (p.1, p.2) (inr (live-unshown live (g.T.Typist.typing c.hear.new.typist) c.turn-executed.result c.turn-executed.new.machine c.show.new.machine (g.O.PlayOutput.got c.show.new.out) c.in_err-show-in-Nothing-2.field-0.0 is
     (let least = c.min-most.ensures in let few = c.turn-executed.ensures.within in omega arith) c.turn-executed.ensures.state c.in_err-show-in-Nothing-2.ensures.refused))
 
 pub returns-clause-within : goal.returns-clause-within
@@ -127,6 +125,9 @@ returns-in-End-clause-keys g c = going-given _ _ _ _ _ _ _ _ _ _ _ c.loop-live.i
 
 pub returns-in-End-clause-text : goal.returns-in-End-clause-text
 returns-in-End-clause-text g c = going-shown _ _ _ _ _ _ _ _ _ _ _ c.loop-live.invariant.0.going
+
+pub returns-in-End-clause-list : goal.returns-in-End-clause-list
+returns-in-End-clause-list g c = going-printed _ _ _ _ _ _ _ _ _ _ _ c.loop-live.invariant.0.going
 
 pub returns-in-End-clause-ending : goal.returns-in-End-clause-ending
 returns-in-End-clause-ending g c = going-ending _ _ _ _ _ _ _ _ _ _ _ c.loop-live.invariant.0.going
@@ -143,6 +144,9 @@ returns-clause-keys g c = going-given _ _ _ _ _ _ _ _ _ _ _ c.loop-live.invarian
 pub returns-clause-text : goal.returns-clause-text
 returns-clause-text g c = going-shown _ _ _ _ _ _ _ _ _ _ _ c.loop-live.invariant.0.going
 
+pub returns-clause-list : goal.returns-clause-list
+returns-clause-list g c = going-printed _ _ _ _ _ _ _ _ _ _ _ c.loop-live.invariant.0.going
+
 pub returns-clause-ending : goal.returns-clause-ending
 returns-clause-ending g c = going-ending _ _ _ _ _ _ _ _ _ _ _ c.loop-live.invariant.0.going
 
@@ -157,6 +161,9 @@ returns-then-executed-eq0-clause-keys g c = going-given _ _ _ _ _ _ _ _ _ _ _ c.
 
 pub returns-then-executed-eq0-clause-text : goal.returns-then-executed-eq0-clause-text
 returns-then-executed-eq0-clause-text g c = going-shown _ _ _ _ _ _ _ _ _ _ _ c.loop-live.invariant.0.going
+
+pub returns-then-executed-eq0-clause-list : goal.returns-then-executed-eq0-clause-list
+returns-then-executed-eq0-clause-list g c = going-printed _ _ _ _ _ _ _ _ _ _ _ c.loop-live.invariant.0.going
 
 pub returns-then-executed-eq0-clause-ending : goal.returns-then-executed-eq0-clause-ending
 returns-then-executed-eq0-clause-ending g c =

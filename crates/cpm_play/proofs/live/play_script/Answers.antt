@@ -8,6 +8,6 @@ use Rattle.cpm_play.proofs.live.play_script.Goals as goal
 
 pub returns-then-is_empty-clause-going : goal.returns-then-is_empty-clause-going
 returns-then-is_empty-clause-going g c =
-    subst (λ (keys : List Key). IsGoing c.args.system.now c.args.steps (key_count c.args.cues.now) c.args.machine.now c.args.machine.now (g.W.Write.contents c.args.out.now) (g.W.Write.contents c.args.out.now)
+    subst (λ (keys : List Key). IsGoing c.args.system.now c.args.steps (key_count c.args.cues.now) c.args.machine.now c.args.machine.now (g.O.PlayOutput.got c.args.out.now) (g.O.PlayOutput.got c.args.out.now)
     (g.S.Write.contents c.args.record.now) (g.S.Write.contents c.args.record.now) keys 0) (sym c.new.ensures.items)
-    (going-start c.args.system.now c.args.steps (key_count c.args.cues.now) c.args.machine.now (g.W.Write.contents c.args.out.now) (g.S.Write.contents c.args.record.now) c.requires.fresh)
+    (going-start c.args.system.now c.args.steps (key_count c.args.cues.now) c.args.machine.now (g.O.PlayOutput.got c.args.out.now) (g.S.Write.contents c.args.record.now) c.requires.fresh)

@@ -1,4 +1,4 @@
-use Rattle.std.proofs.Common.{◌∙◌, [], List, ap, map, sym, subst}
+use Rattle.std.proofs.Common.{◌∙◌, [], List, ap, map, refl, sym, subst}
 use Rattle.std.proofs.lemmas.Result.{err_from_is_err_and}
 use Rattle.cpm_batch.specs.Inputs.{given}
 use Rattle.cpm_config.proofs.FaultLemmas.{neither}
@@ -8,18 +8,18 @@ use Rattle.cpm_store.specs.Writes.{NamedBytes, WritesAll, named_output}
 use Rattle.cpm_store.proofs.LogLemmas.{ran_then}
 use Rattle.cpm_batch.specs.Reads.{AreRead}
 use Rattle.cpm_run.proofs.ReplayLemmas.{all_give}
-use Rattle.cpm_run.proofs.RunLemmas.{are_parts, parts_by, play_settled, settle_refused, settle_stopped, settled_sessions, write_refused, write_stopped}
+use Rattle.cpm_run.proofs.RunLemmas.{are_parts, parts_by, play_settled, reading_stopped, settle_refused, settle_stopped, settled_sessions, write_refused, write_stopped}
 use Rattle.cpm_run.proofs.ScriptLemmas.{inputs_begin, inputs_fit}
 use Rattle.cpm_run.specs.Run.{outputs_by, top_fault}
 use Rattle.cpm_run.specs.Settled.{settled_view}
 use Rattle.cpm_run.proofs.run.run_host.Goals as goal
 
 pub settle_inputs-requires-clause-starts : goal.settle_inputs-requires-clause-starts
-settle_inputs-requires-clause-starts g c = inputs_begin (g.S.Store.files c.args.store.now) (map given c.in_ok-system.inputs.items) c.in_ok-system.ensures.read.all
+settle_inputs-requires-clause-starts g c = inputs_begin c.args.options.replays.now (g.S.Store.files c.args.store.now) (map given c.in_ok-system.inputs.items) c.in_ok-system.ensures.read.all
 
 pub settle_inputs-requires-clause-fit : goal.settle_inputs-requires-clause-fit
 settle_inputs-requires-clause-fit g c =
-    inputs_fit (g.S.Store.files c.args.store.now) c.args.config.now.sessions.items (map given c.in_ok-system.inputs.items) c.in_ok-system.ensures.read.sessions c.in_ok-system.ensures.read.all
+    inputs_fit c.args.options.replays.now (g.S.Store.files c.args.store.now) c.args.config.now.sessions.items (map given c.in_ok-system.inputs.items) c.in_ok-system.ensures.read.sessions c.in_ok-system.ensures.read.all
     (neither 0 (top_fault c.args.config.now) _ (sym c.in_default.ensures)).1
 
 pub play_inputs-requires-clause-sessions : goal.play_inputs-requires-clause-sessions
@@ -27,6 +27,12 @@ play_inputs-requires-clause-sessions g c =
     let h = c.in_ok-settled.ensures.settled in
     settled_sessions c.in_ok-system.system c.args.options.stops_idle h.typed c.args.config.now.sessions.items [] (map given c.in_ok-system.inputs.items)
     (map settled_view c.in_ok-settled.settled.items) h.keys ∙ c.in_ok-system.ensures.read.sessions
+
+pub returns-in_err-system-clause-stopped_log : goal.returns-in_err-system-clause-stopped_log
+returns-in_err-system-clause-stopped_log g c =
+    let p = err_from_is_err_and c.from_residual-in_err-system.result c.from_residual-in_err-system.ensures.1 in
+    rw (p.1, p.2) (reading_stopped g.S.Store.does c.args.config.now c.args.options _ c.args.store.now c.read_inputs.new.store c.in_err-system.field-0.0
+    (record { unread = refl; unwritten = refl; unrecorded = refl }) c.in_err-system.ensures.refused_log)
 
 pub returns-in_err-report-clause-refusal : goal.returns-in_err-report-clause-refusal
 returns-in_err-report-clause-refusal g c =
@@ -117,7 +123,7 @@ returns-clause-log g c =
       faultless = sym c.in_default.ensures;
       played = are_parts config c.args.options _ system inputs settled h c.in_ok-report.ensures.accepted;
       replays = all_give system settled c.in_ok-settled.ensures.sound;
-      calls = ran_then does (AreRead config system inputs) (AreWrites (outputs_by c.args.options parts)) c.args.store.now between end c.in_ok-system.ensures.log
+      calls = ran_then does (AreRead config c.args.options.replays.now system inputs) (AreWrites (outputs_by c.args.options parts)) c.args.store.now between end c.in_ok-system.ensures.log
           (subst (λ (qs : List NamedBytes). LogLeadsBy does (AreWrites qs) between end) are c.in_ok-write_files.ensures.log);
       reported = c.in_ok-report.ensures.reports;
     }

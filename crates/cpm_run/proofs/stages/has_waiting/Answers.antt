@@ -15,10 +15,11 @@ loop-input-preserved c =
 
 pub returns : goal.returns
 returns c = λ _.
-    let none = none-asked c.args.options.typed (sym c.is_some.ensures ∙ c.if-is_some.false) in (
+    let none = none-asked c.args.options.typed (sym c.is_some.ensures ∙ c.if-is_some.false) in
+    let unreplayed = c.has_replays.ensures.none c.if-has_replays.false in (
       none,
       record {
-        untyped = refl;
+        limited = (refl, unreplayed);
         runs_on = c.if-options.false;
         timed = All-same IsTimed (map given c.args.inputs.now) (map given (take c.loop-input.input-index c.args.inputs.now)) (ap (map given) (sym (take_all c.loop-input.input-index c.args.inputs.now c.loop-input-test.false))) c.loop-input.invariant;
       },

@@ -36,7 +36,7 @@ settle-requires-clause-ready g c =
           inr (accepted_openable (starts_read inputs) (new_host c.args.system.now c.args.config.now.frames) (starts_read inputs) (rw (c.as_slice-sessions.ensures.value) at w.in_ok-judge_openings.ensures.accepted))
       | else-plays_alone w ↦
           let plain = c.plays_alone.ensures w.if-plays_alone.false in
-          rw (w.heard-is) (inl (subst (λ xs. ArePlain c.args.options.stops_idle None (map given xs)) c.as_slice-sessions.ensures.value plain.1))
+          rw (w.heard-is) (inl (subst (λ xs. ArePlain c.args.options None (map given xs)) c.as_slice-sessions.ensures.value plain.1))
     ]
 
 pub returns-in_err-settled-clause-refusal : goal.returns-in_err-settled-clause-refusal

@@ -6,7 +6,7 @@ use Rattle.std.specs.List.{flat_map}
 use Rattle.std.specs.Slice.Iter.{iter_rest}
 use Rattle.cpm_batch.specs.Outputs.{named_image}
 use Rattle.cpm_commands.proofs.ListLemmas.{part_ended, zip_ended}
-use Rattle.cpm_commands.proofs.play.add_drives.Goals as goal
+use Rattle.cpm_commands.proofs.left.add_drives.Goals as goal
 
 pub returns-clause-added : goal.returns-clause-added
 returns-clause-added c =

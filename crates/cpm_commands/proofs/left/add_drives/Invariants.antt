@@ -4,8 +4,8 @@ use Rattle.std.specs.Iterator.Adapters.{zip_first, zip_second}
 use Rattle.std.specs.Slice.Iter.{iter_rest}
 use Rattle.std.specs.Vec.{vec_capacity}
 use Rattle.cpm_store.specs.Writes.{named_output}
-use Rattle.cpm_commands.specs.Play.{drive_outputs}
-use Rattle.cpm_commands.proofs.play.add_drives.Given as goal
+use Rattle.cpm_commands.specs.Left.{drive_outputs}
+use Rattle.cpm_commands.proofs.left.add_drives.Given as goal
 
 abbrev pub invariant-loop-name : goal.invariant-loop-name
 invariant-loop-name l = record {
