@@ -1,13 +1,13 @@
 //! Readers that fail or never end, configurations that no text writes, and the texts and statuses of refusals.
 
 use crate::same::{same, same_at};
+use crate::streams::typed_at;
 use cpm_asm::AsmErrorKind;
 use cpm_flags::Cpu;
 use cpm_geom::{Format, Image};
 use cpm_host::{
     Config, DebugError, HostError, KeyReader, MOST_FILE, MemoryStore, NoWatcher, Origin, Page,
-    RunOptions, Store, UsageError, UsageFault, UsageRefusal, read_whole, run_debug, run_host,
-    shown,
+    Store, UsageError, UsageFault, UsageRefusal, read_whole, run_debug, run_host, shown,
 };
 use cpm_machine::OpenError;
 use std::io;
@@ -246,12 +246,7 @@ fn config(rt: &(impl Abort + AllocGlobal)) -> Config {
 /// Fails unless a run is refused, before it reads a key or writes anything.
 fn is_refused(rt: &(impl Abort + AllocGlobal), config: &Config) {
     let mut store = filled(rt);
-    let options = RunOptions {
-        typed: Some("one"),
-        stops_idle: false,
-        records: &[],
-        replays: &[],
-    };
+    let options = typed_at("one", &[], &[]);
     let keys: &[u8] = b"DIR\r";
     let mut typed = KeyReader::new(keys);
     let mut out: Vec<u8> = Vec::new(rt.alloc());

@@ -3,8 +3,8 @@
 use crate::same::same;
 use cpm_geom::{Format, Image};
 use cpm_host::{
-    Config, KeyReader, MemoryStore, NoWatcher, Progress, RunOptions, RunStage, RunWatcher, Store,
-    Typist, Watcher, run_host,
+    Config, KeyReader, MemoryStore, NoWatcher, Progress, RecordFile, Replay, RunOptions, RunStage,
+    RunWatcher, Store, Typist, Watcher, run_host,
 };
 use std::io;
 use std::io::{Read, Write};
@@ -93,6 +93,20 @@ fn config(rt: &(impl Abort + AllocGlobal)) -> Config {
     Config::read(rt.alloc(), TWO.as_bytes()).expect(rt, "a configuration")
 }
 
+/// What is asked of a run at whose session of this name one types.
+pub(crate) fn typed_at<'a>(
+    name: &'a str,
+    records: &'a [RecordFile<'a>],
+    replays: &'a [Replay<'a>],
+) -> RunOptions<'a> {
+    RunOptions {
+        typed: Some(name),
+        stops_idle: false,
+        records,
+        replays,
+    }
+}
+
 /// Fails unless a run at which one types is refused so, before it writes a file.
 fn is_refused<P: Typist, W: Write, R: Write>(
     rt: &(impl Abort + AllocGlobal),
@@ -104,13 +118,7 @@ fn is_refused<P: Typist, W: Write, R: Write>(
 ) {
     let config = config(rt);
     let mut store = filled(rt);
-    // (one types at the first session)
-    let options = RunOptions {
-        typed: Some("one"),
-        stops_idle: false,
-        records: &[],
-        replays: &[],
-    };
+    let options = typed_at("one", &[], &[]);
     let alloc = rt.alloc();
     match run_host(
         alloc,
@@ -167,13 +175,7 @@ fn a_watcher_is_told_what_begins(rt: HostRuntime) {
     let mut stages = Stages {
         begun: Vec::new(rt.alloc()),
     };
-    // (one types at the first session)
-    let options = RunOptions {
-        typed: Some("one"),
-        stops_idle: false,
-        records: &[],
-        replays: &[],
-    };
+    let options = typed_at("one", &[], &[]);
     let ran = run_host(
         rt.alloc(),
         &config,
