@@ -190,9 +190,9 @@ pub record IsPlayedCued (system : Disk) (start : MachineState) (steps : ℕ) (c 
   pub lines : Appends io.unrecorded io.record_now (recorded t.keys.items)
   pub unread : io.left ≡ io.unread
 
--- A machine was played by a script and then by keys as they were typed: what it showed, printed and left is that of the machine run alone by these keys, each
--- at the count at which it was accepted, for so many steps; the record got just these keys as lines, and these are a recording that gives them again; and why
--- it ended is said.
+-- A machine was played by a script, or by as much of it as came before who types broke in, and then by keys as they were typed: what it showed, printed and
+-- left is that of the machine run alone by these keys, each at the count at which it was accepted, for so many steps; the record got just these keys as lines,
+-- and these are a recording that gives them again; and why it ended is said.
 pub record IsPlayedLive (system : Disk) (start : MachineState) (steps : ℕ) (cues : List Cue) (t : ProgramPlay) (io : Streams) : Type 0 where
   pub within : t.steps ≤ steps
   pub given : AreGiven (length t.keys.items) t.steps t.keys.items

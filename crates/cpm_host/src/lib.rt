@@ -22,8 +22,7 @@ pub use cpm_config::{Config, ConfigError, Origin, SessionConfig};
 pub use cpm_debug::{DebugError, run_debug};
 pub use cpm_machine::{End, Tail};
 pub use cpm_play::{
-    ConsoleAndList, CuedKeys, Heard, KeyNeed, KeyReader, NoWatcher, PlayEnd, PlayOutput, Progress,
-    TypingEnd, Typist, Watcher,
+    CuedKeys, Heard, KeyNeed, KeyReader, NoWatcher, PlayEnd, Progress, TypingEnd, Typist, Watcher,
 };
 pub use cpm_refusals::RefusalCode;
 pub use cpm_run::{

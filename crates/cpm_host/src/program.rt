@@ -6,6 +6,7 @@ ghost use Rattle.cpm_script.specs.Cues.{all_said, cues};
 ghost use Rattle.cpm_script.specs.Script.{most_keys};
 ghost use Rattle.cpm_machine.specs.MachineState.{opened_with};
 ghost use Rattle.cpm_machine.specs.Opening.{program_fault, IsRefusal, most_program};
+ghost use Rattle.cpm_play.specs.Output.{output_state};
 ghost use Rattle.cpm_play.specs.Playing.{IsFresh};
 ghost use Rattle.cpm_play.specs.Typist.{TypingState};
 ghost use Rattle.cpm_run.specs.Settled.{play_streams};
@@ -23,7 +24,7 @@ use cpm_geom::{Format, Image};
 use cpm_machine::{
     Closed, MOST_DRIVES, MOST_PROGRAM, MOST_QUOTA, Machine, OpenError, Opening, Tail,
 };
-use cpm_play::{CuedKeys, LivePlay, PlayEnd, PlayOutput, Typist, Watcher, play_cues, play_live};
+use cpm_play::{CuedKeys, LivePlay, PlayEnd, Typist, Watcher, play_cues, play_live};
 use cpm_run::{Ending, RunError};
 use cpm_script::laws::{
     cues_in_order, recordings_give_their_keys_again, recordings_in_order, scripts_are_recordings,
@@ -259,22 +260,25 @@ fn play_of(machine: Machine, live: LivePlay, end: Option<PlayEnd>) -> ProgramPla
 
 /// Plays a machine by a script that may wait, for at most `steps` steps. There may be anything to read. It stands apart, so that its stack does.
 #[inline(never)]
-fn play_cued<O: PlayOutput, S: Write, T: Watcher>(
+fn play_cued<W: Write, L: Write, S: Write, T: Watcher>(
     alloc: Global,
     system: &Image,
     machine: Machine,
     steps: u64,
     cued: CuedKeys<'_>,
-    out: &mut O,
+    out: &mut W,
+    list: &mut L,
     record: &mut S,
     watcher: &mut T,
 ) -> Result<ProgramPlay, HostError>
     requires fresh { IsFresh machine }
     requires fit { AreFit cued.cues.now }
     ensures played { IfOk result (λ t. (typing : TypingState) → IsPlayedCued system.now machine steps cued.entry t
-        (play_streams typing typing (O.got out.old) (O.got out.new) (S.contents «record».old) (S.contents «record».new))) }
+        (play_streams typing typing (output_state (W.contents out.old) (L.contents list.old)) (output_state (W.contents out.new) (L.contents list.new))
+        (S.contents «record».old) (S.contents «record».new))) }
     ensures refusal { IfErr result (λ e. (typing : TypingState) → IsCutCued system.now machine steps cued.entry
-        (play_streams typing typing (O.got out.old) (O.got out.new) (S.contents «record».old) (S.contents «record».new)) e) }
+        (play_streams typing typing (output_state (W.contents out.old) (L.contents list.old)) (output_state (W.contents out.new) (L.contents list.new))
+        (S.contents «record».old) (S.contents «record».new)) e) }
 {
     recordings_give_their_keys_again();
     scripts_are_recordings();
@@ -286,6 +290,7 @@ fn play_cued<O: PlayOutput, S: Write, T: Watcher>(
         steps,
         cued,
         out,
+        list,
         record,
         watcher,
     )?;
@@ -294,22 +299,25 @@ fn play_cued<O: PlayOutput, S: Write, T: Watcher>(
 
 /// Plays a machine by a script and then by the keys that are typed, for at most `steps` steps. It stands apart, so that its stack does.
 #[inline(never)]
-fn play_typed<P: Typist, O: PlayOutput, S: Write>(
+fn play_typed<P: Typist, W: Write, L: Write, S: Write>(
     alloc: Global,
     system: &Image,
     machine: Machine,
     steps: u64,
     cues: &[Cue],
     typist: &mut P,
-    out: &mut O,
+    out: &mut W,
+    list: &mut L,
     record: &mut S,
 ) -> Result<ProgramPlay, HostError>
     requires fresh { IsFresh machine }
     requires fit { AreFit cues.now }
     ensures played { IfOk result (λ t. IsPlayedLive system.now machine steps cues.entry.now t (play_streams (P.typing typist.old) (P.typing typist.new)
-        (O.got out.old) (O.got out.new) (S.contents «record».old) (S.contents «record».new))) }
+        (output_state (W.contents out.old) (L.contents list.old)) (output_state (W.contents out.new) (L.contents list.new))
+        (S.contents «record».old) (S.contents «record».new))) }
     ensures refusal { IfErr result (IsLiveCut system.now machine steps cues.entry.now (play_streams (P.typing typist.old) (P.typing typist.new)
-        (O.got out.old) (O.got out.new) (S.contents «record».old) (S.contents «record».new))) }
+        (output_state (W.contents out.old) (L.contents list.old)) (output_state (W.contents out.new) (L.contents list.new))
+        (S.contents «record».old) (S.contents «record».new))) }
 {
     recordings_give_their_keys_again();
     scripts_are_recordings();
@@ -322,46 +330,55 @@ fn play_typed<P: Typist, O: PlayOutput, S: Write>(
         cues,
         typist,
         out,
+        list,
         record,
     )?;
     Ok(play_of(machine, play.live, Some(play.end)))
 }
 
 /// Runs a program, or without one the command processor, on a machine of its own for at most `steps` steps. Its keys are what its script says, or that and
-/// then what is typed; without typing nobody is asked for a key. What the machine shows and prints goes to `out` as it comes, and each key to `record` as a
-/// line of a key script. Where it goes by a script alone the watcher is told on the way how far it has come.
+/// then what is typed; without typing nobody is asked for a key. A typist that isn't patient may break in on the script. What the machine shows goes to `out`
+/// and what it prints to `list` as it comes, and each key to `record` as a line of a key script. Where it goes by a script alone the watcher is told on the
+/// way how far it has come.
 ///
 /// `ProgramTooLong`, `OpeningRefused` for more than four drives, and `OutOfMemory` for the machine and its system drive come before anybody is heard, or
 /// anything written.
 /// `InputUnreadable`, `OutputUnwritable`, `ListUnwritable` and `RecordUnwritable` have the errors of the typist, the console, the list device and the record.
-pub fn run_program<P: Typist, O: PlayOutput, S: Write, T: Watcher>(
+pub fn run_program<P: Typist, W: Write, L: Write, S: Write, T: Watcher>(
     alloc: Global,
     start: ProgramStart,
     steps: u64,
     source: Source<'_>,
     typist: &mut P,
-    out: &mut O,
+    out: &mut W,
+    list: &mut L,
     record: &mut S,
     watcher: &mut T,
 ) -> Result<ProgramPlay, HostError>
     requires fit { IsFitSource source }
     ensures played { IfOk result (λ t. IsPlayedBy source.entry (system_disk (program_given start)) (machine_of (program_given start)) steps t
-        (play_streams (P.typing typist.old) (P.typing typist.new) (O.got out.old) (O.got out.new)
+        (play_streams (P.typing typist.old) (P.typing typist.new)
+        (output_state (W.contents out.old) (L.contents list.old)) (output_state (W.contents out.new) (L.contents list.new))
         (S.contents «record».old) (S.contents «record».new))) }
     ensures fits { OnOk result ((program_length (program_given start) ≤ most_program) × (length (program_given start).drives ≤ 4)) }
     ensures too_long { IsErrOf result (HostError.ProgramTooLong (program_length (program_given start)))
         ↔ (most_program < program_length (program_given start)) }
     ensures refusal { IfErr result (IsProgramPlayRefusal source.entry (program_given start) steps
-        (play_streams (P.typing typist.old) (P.typing typist.new) (O.got out.old) (O.got out.new)
+        (play_streams (P.typing typist.old) (P.typing typist.new)
+        (output_state (W.contents out.old) (L.contents list.old)) (output_state (W.contents out.new) (L.contents list.new))
         (S.contents «record».old) (S.contents «record».new))) }
 {
     let (machine, system) = machine_of(alloc, start)?;
     match source {
         Source::Cues(cued) => {
-            play_cued(alloc, &system, machine, steps, cued, out, record, watcher)
+            play_cued(
+                alloc, &system, machine, steps, cued, out, list, record, watcher,
+            )
         }
         Source::Typed { cues } => {
-            play_typed(alloc, &system, machine, steps, cues, typist, out, record)
+            play_typed(
+                alloc, &system, machine, steps, cues, typist, out, list, record,
+            )
         }
     }
 }

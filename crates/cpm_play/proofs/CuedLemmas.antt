@@ -1,5 +1,5 @@
 -- A session that is played by a script that may wait: one more cue, and where it ends.
-use Rattle.std.proofs.Common.{◌≡◌, ℕ, ◌+◌, ◌-◌, ◌<◌, ◌≤◌, max, min, Bool, true, false, ◌⊎◌, inl, inr, ⊎_elim, Option, List, [], ◌∷◌, ◌++◌, refl, sym, ap, ◌∙◌, subst, arith}
+use Rattle.std.proofs.Common.{◌≡◌, ℕ, ◌+◌, ◌-◌, ◌<◌, ◌≤◌, max, min, Bool, true, false, true≢false, ◌⊎◌, inl, inr, ⊎_elim, Option, List, [], ◌∷◌, ◌++◌, refl, sym, ap, ◌∙◌, subst, arith}
 use Rattle.std.proofs.lemmas.Bool.{cases_lt}
 use Rattle.cpm_geom.specs.Disk.{Disk}
 use Rattle.cpm_script.specs.declared.cue.Cue.{Cue}
@@ -83,7 +83,7 @@ module _ {system : Disk} {steps most : ℕ} {start now : MachineState} {before w
       going-waits k ∙ sym (waits-bare (after system k now)) ∙ sym (ap (λ (s : MachineState). (look_of s).waiting) run.state)
 
   -- steps up to a wait that counts
-  module _ {waits_from done_now : ℕ} {next : MachineState} {written_then : OutputState} (idled : HasIdled system steps waits_from done done_now now next written written_then) where
+  module _ {is_over : Bool} {waits_from done_now : ℕ} {next : MachineState} {written_then : OutputState} (idled : HasIdled is_over system steps waits_from done done_now now next written written_then) where
     past : done + (done_now - done) ≡ done_now
     past = let low = idled.low in omega arith
 
@@ -118,10 +118,10 @@ module _ {system : Disk} {steps most : ℕ} {start now : MachineState} {before w
     pub idle-busy : (last : ℕ) → HasNoWait system start keys (max waits_from last) done → HasNoWait system start keys (max waits_from last) done_now
     idle-busy last first i low high = ⊎_elim (λ less. first i low less) (λ later. idle-none i (omega arith) high) (cases_lt i done)
 
-    -- where it ends, if waits count from the same step on for as long as it stops where it is idle, and else from the last one on
-    pub idle-ends : (counted : ℕ) (stops : Bool) (more : List Key) → more ≡ keys → ((stops ≡ true) × (waits_from ≡ counted)) ⊎ ((stops ≡ false) × (waits_from ≡ steps)) → done_now ≤ steps →
+    -- where it ends unless it is over, if waits count from the same step on for as long as it stops where it is idle, and else from the last one on
+    pub idle-ends : is_over ≡ false → (counted : ℕ) (stops : Bool) (more : List Key) → more ≡ keys → ((stops ≡ true) × (waits_from ≡ counted)) ⊎ ((stops ≡ false) × (waits_from ≡ steps)) → done_now ≤ steps →
         (is_running now.ended ≡ false) ⊎ HasNoWait system start keys (max counted (last_count 0 keys)) done → HasEndedCued system start steps counted stops more done_now next
-    idle-ends counted stops more same (inl stop) within busy =
+    idle-ends not_over counted stops more same (inl stop) within busy =
         let P : List Key → Type 0 = λ ks. HasEndedCued system start steps counted stops ks done_now next in
         let Q : Bool → Type 0 = λ b. HasEndedCued system start steps counted b keys done_now next in
         subst P (sym same) (subst Q (sym stop.0) (⊎_elim (λ ended. inl (run-ended (done_now - done) next written_then idled.run ended)) (λ none. stopped-idle counted stop.1 none) busy))
@@ -132,12 +132,15 @@ module _ {system : Disk} {steps most : ℕ} {start now : MachineState} {before w
             let S : ℕ → Type 0 = λ n. HasNoWait system start keys (max n (last_count 0 keys)) done_now in
             let busy : HasNoWait system start keys (max counted (last_count 0 keys)) done_now = subst S at (idle-busy (last_count 0 keys) (subst R (sym at) none)) in
             ⊎_elim (λ (all : done_now ≡ steps). inr (busy, inl all))
-            (λ rest. ⊎_elim (λ ended. inl ended) (λ waits. let from = waits.0 in inr (busy, inr ((let least : counted ≤ done_now = omega arith in least), idle-waits ∙ waits.1))) rest) idled.why
-    idle-ends counted stops more same (inr goes) within busy =
+            (λ rest. ⊎_elim (λ ended. inl ended)
+            (λ there. ⊎_elim (λ waits. let from = waits.0 in inr (busy, inr ((let least : counted ≤ done_now = omega arith in least), idle-waits ∙ waits.1)))
+            (λ over. absurd (true≢false (sym over ∙ not_over))) there) rest) idled.why
+    idle-ends not_over counted stops more same (inr goes) within busy =
         let Q : Bool → Type 0 = λ b. HasEndedCued system start steps counted b more done_now next in
         let last = goes.1 in
         subst Q (sym goes.0) (⊎_elim (λ (all : done_now ≡ steps). inl all)
-        (λ rest. ⊎_elim (λ ended. inr ended) (λ waits. let from = waits.0 in inl (omega arith)) rest) idled.why)
+        (λ rest. ⊎_elim (λ ended. inr ended)
+        (λ there. ⊎_elim (λ waits. let from = waits.0 in inl (omega arith)) (λ over. absurd (true≢false (sym over ∙ not_over))) there) rest) idled.why)
 
 -- ---- where it is cut short
 
@@ -149,7 +152,7 @@ cued-stops system start until most waits_from given from mark (Press b ∷ cues)
 cued-stops system start until most waits_from given from mark (Wait text ∷ cues) past = inr (λ at met. let late = met.next.later in let less = met.within in omega arith, refl)
 
 -- after all steps the keys so far are the script's
-pub cued-whole : (system : Disk) (start : MachineState) (steps done waits_from : ℕ) (cues : List Cue) (keys : List Key) → done ≤ steps → StaysCued system start steps done waits_from cues keys → IsCued system start steps waits_from cues keys
+pub cued-whole : (system : Disk) (start : MachineState) (steps done waits_from : ℕ) (cues : List Cue) (keys : List Key) → done ≤ steps → StaysCued system start steps steps done waits_from cues keys → IsCued system start steps waits_from cues keys
 cued-whole system start steps done waits_from cues keys within cued =
     let all : min steps (steps + 1) ≡ steps = omega arith in
     subst (λ n. IsCuedFrom system start steps n waits_from [] 0 0 cues keys) all (cued steps within (omega arith))

@@ -14,7 +14,7 @@ use Rattle.cpm_machine.specs.Serve.{look_of, takes_key}
 use Rattle.cpm_machine.specs.Step.{after, is_running}
 use Rattle.cpm_machine.proofs.GrantLaws.{after-add}
 use Rattle.cpm_machine.proofs.PressLaws.{alone-pressed}
-use Rattle.cpm_play.specs.Cued.{AreAscii, Comes, HasIdled, HasMissed, HasNoWait, HasPressed, HasShown, IsBusyFrom, IsCuedFrom, IsCuedUpTo, IsCueMet, StaysCued, key_count, last_count, looks_back, runs_at, screen_at, waits_at}
+use Rattle.cpm_play.specs.Cued.{AreAscii, Comes, HasIdled, HasMissed, HasNoWait, HasPressed, HasShown, IsBusyFrom, IsCuedFrom, IsCuedUpTo, IsCueMet, StaysCued, key_count, known_to, last_count, looks_back, runs_at, screen_at, waits_at}
 use Rattle.cpm_play.specs.Live.{IsGoing}
 use Rattle.cpm_play.specs.Output.{OutputState}
 use Rattle.cpm_play.specs.Playing.{presses_of, alone_by, IsFresh}
@@ -28,6 +28,12 @@ use Rattle.cpm_play.proofs.RunLemmas.{bare, ended-waits}
 use Rattle.cpm_play.proofs.ShownLemmas.{held-shown, shown-held}
 
 -- ---- small facts
+
+-- what is known up to the end of the session is known up to where it is over
+stays-known : (P : ℕ → Type 0) (done steps : ℕ) (is_over : Bool) → done ≤ steps → ((until : ℕ) → done ≤ until → until ≤ steps → P until) →
+    (until : ℕ) → done ≤ until → until ≤ known_to is_over done steps → P until
+stays-known P done steps true within cued until past high = cued until past (omega arith)
+stays-known P done steps false within cued until past high = cued until past high
 
 -- a key changes no text
 screen-pressed : (system : Disk) (start : MachineState) (keys more : List Key) (key : Key) → more ≡ keys ++ key ∷ [] → screen_at system start more key.count ≡ screen_at system start keys key.count
@@ -186,7 +192,7 @@ module _ {system : Disk} {start : MachineState} {steps waits_from most : ℕ} {c
         })
 
     -- a key that does not
-    module _ {next : MachineState} {written_then : OutputState} {record_then : Option (List ℕ)} {more : List Key} {done_now : ℕ} (missed : HasMissed system key steps done done_now now next written written_then)
+    module _ {next : MachineState} {written_then : OutputState} {record_then : Option (List ℕ)} {more : List Key} {done_now : ℕ} {is_over : Bool} (missed : HasMissed is_over system key steps done done_now now next written written_then)
         (still : (more ≡ keys) × (record_then ≡ record_now)) where
       ended-never : done_now ≤ key.count → is_running next.ended ≡ false → Comes system start steps keys key.count → ⊥
       ended-never high ended comes =
@@ -212,14 +218,16 @@ module _ {system : Disk} {start : MachineState} {steps waits_from most : ℕ} {c
           subst P there (going-takes following.going k ∙ sym (ap takes_key missed.run.state) ∙ full) in
           true≢false (sym comes.2 ∙ refused)
 
-      never : Comes system start steps keys key.count → ⊥
-      never comes = ⊎_elim (λ past. let far = past.0 in let near = comes.0 in omega arith)
-          (λ there. ⊎_elim (λ ended. ended-never ended.1 ended.2 comes) (λ full. full-never full.1 full.2 comes) there) missed.why
+      never : is_over ≡ false → Comes system start steps keys key.count → ⊥
+      never not_over comes = ⊎_elim (λ past. let far = past.0 in let near = comes.0 in omega arith)
+          (λ there. ⊎_elim (λ ended. ended-never ended.1 ended.2 comes)
+          (λ other. ⊎_elim (λ full. full-never full.1 full.2 comes) (λ over. absurd (true≢false (sym over.2 ∙ not_over))) other) there) missed.why
 
       within-missed : done_now - done ≤ steps - done
       within-missed = let within = following.going.within in let low = missed.low in
           ⊎_elim (λ past. let same = past.1 in omega arith)
-          (λ there. ⊎_elim (λ ended. let near = ended.0 in let high = ended.1 in omega arith) (λ full. let near = full.0 in let at = full.1 in omega arith) there) missed.why
+          (λ there. ⊎_elim (λ ended. let near = ended.0 in let high = ended.1 in omega arith)
+          (λ other. ⊎_elim (λ full. let near = full.0 in let at = full.1 in omega arith) (λ over. let near = over.0 in let high = over.1 in omega arith) other) there) missed.why
 
       pub missed-going : IsGoing system steps most start next before written_then unrecorded record_then more done_now
       missed-going =
@@ -231,8 +239,27 @@ module _ {system : Disk} {start : MachineState} {steps waits_from most : ℕ} {c
           subst (λ r. IsGoing system steps most start next before written_then unrecorded r more done_now) (sym still.1)
           (subst (λ ks. IsGoing system steps most start next before written_then unrecorded record_now ks done_now) (sym still.0) went)
 
-      pub missed-cued : StaysCued system start steps done_now waits_from cues more
-      missed-cued until past high = let low = missed.low in cue.cued until (omega arith) high more (inr (λ comes. never (let less = comes.0 in omega arith, comes.1, comes.2), still.0))
+      -- nor does it so far, where it is over
+      never-yet : is_over ≡ true → Comes system start done_now keys key.count → ⊥
+      never-yet over comes = let early = comes.0 in
+          ⊎_elim (λ past. let far = past.0 in let here = past.1 in let within = following.going.within in omega arith)
+          (λ there. ⊎_elim (λ ended. let high = ended.1 in omega arith)
+          (λ other. ⊎_elim (λ full. let at = full.1 in omega arith) (λ over. let high = over.1 in omega arith) other) there) missed.why
+
+      pub missed-cued : StaysCued system start steps (known_to is_over done_now steps) done_now waits_from cues more
+      missed-cued until past high = by_over is_over refl
+        where
+          by_over : (b : Bool) → is_over ≡ b → IsCuedUpTo system start steps until waits_from cues more
+          by_over true over =
+              let low = missed.low in
+              let within = following.going.within in
+              let reach = within-missed in
+              let most : until ≤ done_now = subst (λ b. until ≤ known_to b done_now steps) over high in
+              cue.cued until (omega arith) (omega arith) more (inr (λ comes. never-yet over (let less = comes.0 in omega arith, comes.1, comes.2), still.0))
+          by_over false not_over =
+              let low = missed.low in
+              let most : until ≤ steps = subst (λ b. until ≤ known_to b done_now steps) not_over high in
+              cue.cued until (omega arith) most more (inr (λ comes. never not_over (let less = comes.0 in omega arith, comes.1, comes.2), still.0))
 
       -- while as many keys are pending as may be, it does not wait
       full-busy : takes_key next ≡ false → HasNoWait system start keys (max waits_from (last_count 0 keys)) done_now
@@ -249,10 +276,11 @@ module _ {system : Disk} {start : MachineState} {steps waits_from most : ℕ} {c
           subst P there (going-waits following.going (i - done) ∙ full-waits (after system (i - done) now) (full-before system j (after system (i - done) now) last)))
           (cases_lt i done)
 
-      pub missed-busy : (is_running next.ended ≡ false) ⊎ HasNoWait system start more (max waits_from (last_count 0 more)) done_now
-      missed-busy = subst (λ ks. (is_running next.ended ≡ false) ⊎ HasNoWait system start ks (max waits_from (last_count 0 ks)) done_now) (sym still.0)
+      pub missed-busy : is_over ≡ false → (is_running next.ended ≡ false) ⊎ HasNoWait system start more (max waits_from (last_count 0 more)) done_now
+      missed-busy not_over = subst (λ ks. (is_running next.ended ≡ false) ⊎ HasNoWait system start ks (max waits_from (last_count 0 ks)) done_now) (sym still.0)
           (⊎_elim (λ past. inr (let P : ℕ → Type 0 = λ n. HasNoWait system start keys (max waits_from (last_count 0 keys)) n in subst P (sym past.1) following.busy))
-          (λ there. ⊎_elim (λ ended. inl ended.2) (λ full. inr (full-busy full.2)) there) missed.why)
+          (λ there. ⊎_elim (λ ended. inl ended.2)
+          (λ other. ⊎_elim (λ full. inr (full-busy full.2)) (λ over. absurd (true≢false (sym over.2 ∙ not_over))) other) there) missed.why)
 
   -- ---- waits
 
@@ -271,8 +299,8 @@ module _ {system : Disk} {start : MachineState} {steps waits_from most : ℕ} {c
 
   -- steps up to a wait that counts, whose text was kept if it is looked for
   module _ {text : Vec ℕ Global} {others : List Cue} (following : IsFollowing system start steps waits_from most cues now before written unrecorded record_now keys done (Wait text ∷ others) shown)
-      {done_now : ℕ} {next : MachineState} {written_then : OutputState} (left : Shown) (within_steps : done_now ≤ steps)
-      (idled : HasIdled system steps waits_from done done_now now next written written_then)
+      {is_over : Bool} {done_now : ℕ} {next : MachineState} {written_then : OutputState} (left : Shown) (within_steps : done_now ≤ steps)
+      (idled : HasIdled is_over system steps waits_from done done_now now next written written_then)
       (kept : looks_back (Wait text ∷ others) ≡ true → HasGrown shown left (after system (done_now - done) now).session.console.screen) where
     pub wait-going : IsGoing system steps most start next before written_then unrecorded record_now keys done_now
     wait-going = idle-going following.going idled keys refl within_steps
@@ -308,14 +336,15 @@ module _ {system : Disk} {start : MachineState} {steps waits_from most : ℕ} {c
     shown-here false looks found = inl (empty-shown text.items left.tail.items (none-empty text.items (or-left (not (length text.items == 0)) (looks_back others) looks)))
 
     -- a wait within the steps counts
-    counts : done_now < steps → (look_of next).waiting ≡ true → waits_from ≤ done_now
-    counts within waits = ⊎_elim (λ (all : done_now ≡ steps). omega arith)
-        (λ halts. ⊎_elim (λ ended. absurd (true≢false (sym waits ∙ ended-waits next ended))) (λ counted. counted.0) halts) idled.why
+    counts : is_over ≡ false → done_now < steps → (look_of next).waiting ≡ true → waits_from ≤ done_now
+    counts not_over within waits = ⊎_elim (λ (all : done_now ≡ steps). omega arith)
+        (λ halts. ⊎_elim (λ ended. absurd (true≢false (sym waits ∙ ended-waits next ended)))
+        (λ there. ⊎_elim (λ counted. counted.0) (λ over. absurd (true≢false (sym over ∙ not_over))) there) halts) idled.why
 
     -- where it waits, and has shown the text
-    pub follow-met : done_now < steps → (look_of next).waiting ≡ true → IsKeptOrFound left text.items →
+    pub follow-met : is_over ≡ false → done_now < steps → (look_of next).waiting ≡ true → IsKeptOrFound left text.items →
         IsFollowing system start steps waits_from most cues next before written_then unrecorded record_now keys done_now others left
-    follow-met within waits found = record {
+    follow-met not_over within waits found = record {
       going = wait-going;
       mark = following.mark;
       marked =
@@ -326,7 +355,7 @@ module _ {system : Disk} {start : MachineState} {steps waits_from most : ℕ} {c
       cued = λ until past high ks h. following.cued until (let low = idled.low in omega arith) high ks (inl (
         done_now,
         record {
-          next = record { later = let low = idled.low in let counted = counts within waits in omega arith; waits = waits-there ∙ waits; first = none-before };
+          next = record { later = let low = idled.low in let counted = counts not_over within waits in omega arith; waits = waits-there ∙ waits; first = none-before };
           within = omega arith;
           shown = shown-there (looks_back (Wait text ∷ others)) refl found;
         },
@@ -340,15 +369,30 @@ module _ {system : Disk} {start : MachineState} {steps waits_from most : ℕ} {c
       room = following.room;
     }
 
-    -- and where not, it never does so within the steps
-    never-met : (steps ≤ done_now) ⊎ (((look_of next).waiting ≡ false) ⊎ (IsKeptOrFound left text.items → ⊥)) → (at : ℕ) → IsCueMet system start steps waits_from keys done following.mark text.items at → ⊥
-    never-met why at met =
+    -- where it is over, it has not done so
+    pub over-cued : is_over ≡ true → StaysCued system start steps (known_to is_over done_now steps) done_now waits_from cues keys
+    over-cued over until past high =
+        let low = idled.low in
+        let most : until ≤ done_now = subst (λ b. until ≤ known_to b done_now steps) over high in
+        following.cued until (omega arith) (omega arith) keys (inr (unmet, refl))
+      where
+        unmet : (at : ℕ) → IsCueMet system start until waits_from keys done following.mark text.items at → ⊥
+        unmet at met =
+            let late = met.next.later in
+            let early = met.within in
+            let most : until ≤ done_now = subst (λ b. until ≤ known_to b done_now steps) over high in
+            true≢false (sym met.next.waits ∙ none-before at late (omega arith))
+
+    -- and where it does not there, it never does so within the steps
+    never-met : is_over ≡ false → (steps ≤ done_now) ⊎ (((look_of next).waiting ≡ false) ⊎ (IsKeptOrFound left text.items → ⊥)) → (at : ℕ) → IsCueMet system start steps waits_from keys done following.mark text.items at → ⊥
+    never-met not_over why at met =
         let low = met.next.later in
         let high = met.within in
         let late : done_now ≤ at = ⊎_elim (λ (early : at < done_now). absurd (true≢false (sym met.next.waits ∙ none-before at low early))) (λ (late : done_now ≤ at). late) (cases_lt at done_now) in
         ⊎_elim (λ (past : steps ≤ done_now). omega arith)
         (λ other. ⊎_elim (λ (all : done_now ≡ steps). omega arith)
-        (λ halts. ⊎_elim (ended-never at late met) (λ counted. waits-never at late met other counted.0 counted.1) halts) idled.why) why
+        (λ halts. ⊎_elim (ended-never at late met)
+        (λ there. ⊎_elim (λ counted. waits-never at late met other counted.0 counted.1) (λ over. absurd (true≢false (sym over ∙ not_over))) there) halts) idled.why) why
       where
         ended-never : (at : ℕ) → done_now ≤ at → IsCueMet system start steps waits_from keys done following.mark text.items at → is_running next.ended ≡ false → ⊥
         ended-never at late met ended =
@@ -373,29 +417,30 @@ module _ {system : Disk} {start : MachineState} {steps waits_from most : ℕ} {c
             let found = shown-here (looks_back (Wait text ∷ others)) refl (subst P here met.shown) in
             ⊎_elim (λ still. true≢false (sym waits ∙ still)) (λ lacks. lacks found) other
 
-    unmet-cued : (steps ≤ done_now) ⊎ (((look_of next).waiting ≡ false) ⊎ (IsKeptOrFound left text.items → ⊥)) → StaysCued system start steps done_now waits_from cues keys
-    unmet-cued why until past high =
+    unmet-cued : is_over ≡ false → (steps ≤ done_now) ⊎ (((look_of next).waiting ≡ false) ⊎ (IsKeptOrFound left text.items → ⊥)) → StaysCued system start steps steps done_now waits_from cues keys
+    unmet-cued not_over why until past high =
         let low = idled.low in
         following.cued until (omega arith) high keys (inr (
-          λ at met. never-met why at (record { next = met.next; within = let less = met.within in omega arith; shown = met.shown }),
+          λ at met. never-met not_over why at (record { next = met.next; within = let less = met.within in omega arith; shown = met.shown }),
           refl,
         ))
 
     -- the same of the slice that is looked for
     module _ (needle : List ℕ) (is_text : needle ≡ text.items) where
-      pub follow-found : done_now < steps → ((look_of next).waiting ≡ true) × IsKeptOrFound left needle →
+      pub follow-found : is_over ≡ false → done_now < steps → ((look_of next).waiting ≡ true) × IsKeptOrFound left needle →
           IsFollowing system start steps waits_from most cues next before written_then unrecorded record_now keys (done_now) others left
-      follow-found within met = follow-met within met.0 (subst (IsKeptOrFound left) is_text met.1)
+      follow-found not_over within met = follow-met not_over within met.0 (subst (IsKeptOrFound left) is_text met.1)
 
-      pub unfound-cued : ((look_of next).waiting ≡ false) ⊎ (IsKeptOrFound left needle → ⊥) → StaysCued system start steps done_now waits_from cues keys
-      unfound-cued why = unmet-cued (inr (⊎_elim (λ still. inl still) (λ lacks. inr (λ held. lacks (subst (IsKeptOrFound left) (sym is_text) held))) why))
+      pub unfound-cued : is_over ≡ false → ((look_of next).waiting ≡ false) ⊎ (IsKeptOrFound left needle → ⊥) → StaysCued system start steps (known_to is_over done_now steps) done_now waits_from cues keys
+      unfound-cued not_over why = stays-known (λ until. IsCuedUpTo system start steps until waits_from cues keys) done_now steps is_over within_steps (unmet-cued not_over (inr (⊎_elim (λ still. inl still) (λ lacks. inr (λ held. lacks (subst (IsKeptOrFound left) (sym is_text) held))) why)))
 
-    pub past-cued : steps ≤ done_now → StaysCued system start steps done_now waits_from cues keys
-    past-cued past = unmet-cued (inl past)
+    pub past-cued : is_over ≡ false → steps ≤ done_now → StaysCued system start steps (known_to is_over done_now steps) done_now waits_from cues keys
+    past-cued not_over past = stays-known (λ until. IsCuedUpTo system start steps until waits_from cues keys) done_now steps is_over within_steps (unmet-cued not_over (inl past))
 
 -- behind the last cue
 pub follow-end : {system : Disk} {start : MachineState} {steps waits_from most : ℕ} {cues : List Cue} {now : MachineState} {before written : OutputState} {unrecorded record_now : Option (List ℕ)}
-    {keys : List Key} {done : ℕ} {rest : List Cue} {shown : Shown} → rest ≡ [] → IsFollowing system start steps waits_from most cues now before written unrecorded record_now keys done rest shown → StaysCued system start steps done waits_from cues keys
-follow-end {system} {start} {steps} {waits_from} {most} {cues} {now} {before} {written} {unrecorded} {record_now} {keys} {done} {rest} {shown} none following until past high =
+    {keys : List Key} {done : ℕ} {rest : List Cue} {shown : Shown} → rest ≡ [] → IsFollowing system start steps waits_from most cues now before written unrecorded record_now keys done rest shown → (is_over : Bool) →
+    StaysCued system start steps (known_to is_over done steps) done waits_from cues keys
+follow-end {system} {start} {steps} {waits_from} {most} {cues} {now} {before} {written} {unrecorded} {record_now} {keys} {done} {rest} {shown} none following is_over = stays-known (λ until. IsCuedUpTo system start steps until waits_from cues keys) done steps is_over following.going.within (λ until past high.
     let P : List Cue → Type 0 = λ r. IsCuedFrom system start until (min steps (until + 1)) waits_from keys done following.mark r keys in
-    following.cued until past high keys (subst P (sym none) refl)
+    following.cued until past high keys (subst P (sym none) refl))

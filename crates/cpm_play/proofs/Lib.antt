@@ -17,6 +17,7 @@ pub mod TypingLemmas
 pub mod GoingLemmas
 pub mod LiveLemmas
 pub mod WaitLemmas
+pub mod AttendedLemmas
 pub mod RunLemmas
 pub mod CuedLemmas
 pub mod FollowLemmas

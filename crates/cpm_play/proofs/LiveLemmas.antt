@@ -1,5 +1,5 @@
 -- A session that is typed at: what is heard, one more key, turn and take, and its end.
-use Rattle.std.proofs.Common.{◌≡◌, ℕ, ◌+◌, ◌-◌, ◌*◌, ◌^◌, ◌<◌, ◌≤◌, ◌==◌, ◌&&◌, nat_le, if◌then◌else◌, Bool, true, false, true≢false, ⊎_elim, Option, Some, None, List, [], ◌∷◌, ◌++◌, length, refl, sym, ap, ap₂, ◌∙◌, subst, arith, append-nil}
+use Rattle.std.proofs.Common.{◌≡◌, ℕ, ◌+◌, ◌-◌, ◌*◌, ◌^◌, ◌<◌, ◌≤◌, ◌==◌, ◌&&◌, nat_le, if◌then◌else◌, Bool, true, false, true≢false, inl, inr, ⊎_elim, Option, Some, None, List, [], ◌∷◌, ◌++◌, length, refl, sym, ap, ap₂, ◌∙◌, subst, arith, append-nil}
 use Rattle.std.proofs.lemmas.Bool.Decides.{nat_tests}
 use Rattle.std.proofs.lemmas.List.{append_assoc, length_push}
 use Rattle.std.specs.Io.KnownBytes.{Appends}
@@ -13,7 +13,7 @@ use Rattle.cpm_machine.specs.Step.{after, is_running}
 use Rattle.cpm_machine.specs.ToWait.{executed_to_wait}
 use Rattle.cpm_machine.specs.Until.{can_go_on, executed_until}
 use Rattle.cpm_machine.proofs.GrantLaws.{longest-is}
-use Rattle.cpm_play.specs.Cued.{IsCued}
+use Rattle.cpm_play.specs.Cued.{StaysCued, known_to}
 use Rattle.cpm_play.specs.Live.{IsGoing, IsNotGiven, IsUnreadable, IsUnshown, bytes_of}
 use Rattle.cpm_play.specs.Output.{GetsOutput, OutputState}
 use Rattle.cpm_play.specs.declared.live.LiveError.{LiveError}
@@ -21,9 +21,9 @@ use Rattle.cpm_play.specs.declared.live.LiveError.TheVariants.{Unreadable, Unwri
 use Rattle.cpm_play.specs.declared.live.PlayEnd.TheVariants.{Steps, Ended, Typing}
 use Rattle.cpm_play.specs.Pacing.{without_list, without_text}
 use Rattle.cpm_play.specs.Playing.{IsQuiet, last_count, screen_at, waits_at}
-use Rattle.cpm_play.specs.Sitting.{HasHeardOneMore, HasListened, HasPaused, IsCutShort, IsTypedPlay, IsWantedByPatient, Sitting}
+use Rattle.cpm_play.specs.Sitting.{AreScripted, HasHeardOneMore, HasListened, HasPaused, IsCutShort, IsTypedPlay, IsWantedByPatient, Sitting}
 use Rattle.cpm_play.specs.Typing.{HasReadKeys}
-use Rattle.cpm_play.specs.Typist.{AreOften, HasHeard, HasHeardNothing, Hearing, IsHeard, IsHeardPatiently, TypingState, hearing, wants_key, key_heard, keys_heard}
+use Rattle.cpm_play.specs.Typist.{AreOften, HasAttended, HasHeard, HasHeardNothing, Hearing, IsHeard, IsHeardPatiently, TypingState, breaks, hearing, is_over, wants_key, key_heard, keys_heard}
 use Rattle.cpm_play.specs.declared.typist.Heard.{Heard}
 use Rattle.cpm_play.specs.declared.typist.Heard.TheVariants as heard
 use Rattle.cpm_play.specs.declared.typist.KeyNeed.{KeyNeed}
@@ -31,6 +31,7 @@ use Rattle.cpm_play.specs.declared.typist.KeyNeed.TheVariants.{Pending, Possible
 use Rattle.cpm_play.specs.declared.typist.TypingEnd.{TypingEnd}
 use Rattle.cpm_play.specs.Wanting.{HasNoLongWait, HasPolled, HasWatched, IsKeyWanted, longest_turn}
 use Rattle.cpm_play.specs.declared.watch.Watch.{Watch}
+use Rattle.cpm_play.proofs.CuedLemmas.{cued-whole}
 use Rattle.cpm_play.proofs.GoingLemmas.{going-come, going-ending, going-key, going-list, going-text, going-turn}
 use Rattle.cpm_play.proofs.RunLemmas.{stopped-waits}
 use Rattle.cpm_play.proofs.TypingLemmas.{read_more, read_none}
@@ -61,6 +62,11 @@ often-more : (from until k : ℕ) (hs : List Hearing) (h : Heard) → AreOften f
 often-more from until k [] h often few = (often.0, often.1, (omega arith, omega arith))
 often-more from until k (x ∷ xs) h often few = (often.0, often.1, often-more x.count until k xs h often.2 few)
 
+-- the keys of a script stay those, where the typist breaks in no more than it did
+scripted-on : (s : Sitting) (now next : TypingState) (scripted : List Key) (begun : ℕ) → is_over next ≡ is_over now → AreScripted s now scripted begun → AreScripted s next scripted begun
+scripted-on s now next scripted begun same (inl all) = inl all
+scripted-on s now next scripted begun same (inr some) = inr (some.0, same ∙ some.1, some.2)
+
 module _ {s : Sitting} {before now : TypingState} {keys : List Key} {done : ℕ} (l : HasListened s before now keys done) where
   -- nothing was typed, and steps of a turn follow
   pub listened-on : (next : TypingState) (k : ℕ) → k ≤ longest_turn → IsHeard done now next heard.Nothing → HasNoLongWait s.system s.start keys l.begun (done + k) →
@@ -69,7 +75,7 @@ module _ {s : Sitting} {before now : TypingState} {keys : List Key} {done : ℕ}
     scripted = l.scripted;
     typed = l.typed;
     joined = l.joined;
-    script = l.script;
+    script = scripted-on s now next l.scripted l.begun is.stays l.script;
     begun = l.begun;
     at_once = l.at_once;
     answers = l.answers ++ hearing done heard.Nothing ∷ [];
@@ -91,7 +97,7 @@ module _ {s : Sitting} {before now : TypingState} {keys : List Key} {done : ℕ}
     scripted = l.scripted;
     typed = l.typed;
     joined = l.joined;
-    script = l.script;
+    script = scripted-on s now next l.scripted l.begun none.stays l.script;
     begun = l.begun;
     at_once = l.at_once;
     answers = l.answers;
@@ -112,7 +118,7 @@ module _ {s : Sitting} {before now : TypingState} {keys : List Key} {done : ℕ}
         scripted = l.scripted;
         typed = l.typed ++ key ∷ [];
         joined = joined ∙ ap (λ (ks : List Key). ks ++ key ∷ []) l.joined ∙ append_assoc l.scripted l.typed (key ∷ []);
-        script = l.script;
+        script = scripted-on s now next l.scripted l.begun is.stays l.script;
         begun = l.begun;
         at_once = l.at_once;
         answers = l.answers ++ hearing done (heard.Key byte) ∷ [];
@@ -166,10 +172,32 @@ going-wide going other fits = record {
   noted = going.noted;
 }
 
-pub live-start : (s : Sitting) (most : ℕ) (now : MachineState) (written_before written : OutputState) (unrecorded record_now : Option (List ℕ)) (typing : TypingState) (keys : List Key) (done : ℕ) (watch : Watch) →
-    IsGoing s.system s.steps most s.start now written_before written unrecorded record_now keys done → IsCued s.system s.start s.steps 0 s.cues keys → (s.cues ≡ [] → done ≡ 0) →
-    watch.polls ≡ 0 → IsLive s now written_before written unrecorded record_now typing typing keys done watch
-live-start s most now written_before written unrecorded record_now typing keys done watch going cued first none =
+-- one that breaks in isn't patient
+over-impatient : (is_patient has_broken_in : Bool) → breaks is_patient has_broken_in ≡ true → is_patient ≡ false
+over-impatient true has_broken_in over = absurd (true≢false (sym over))
+over-impatient false has_broken_in over = refl
+
+-- what a script gives by the time that the typist is asked
+scripted-first : (s : Sitting) (before typing : TypingState) (keys : List Key) (done : ℕ) → s.is_patient ≡ before.is_patient → HasAttended before typing → done ≤ s.steps →
+    StaysCued s.system s.start s.steps (known_to (is_over typing) done s.steps) done 0 s.cues keys → AreScripted s typing keys done
+scripted-first s before typing keys done patience attended within cued = by_over (is_over typing) refl
+  where
+    by_over : (b : Bool) → is_over typing ≡ b → AreScripted s typing keys done
+    by_over true over = inr (
+      patience ∙ sym attended.nature ∙ over-impatient typing.is_patient typing.has_broken_in over,
+      over,
+      cued done (omega arith) (let P : Bool → Type 0 = λ b. done ≤ known_to b done s.steps in subst P (sym over) (omega arith)),
+    )
+    by_over false going = inl (
+        cued-whole s.system s.start s.steps done 0 s.cues keys within
+        (λ until low high. cued until low (let P : Bool → Type 0 = λ b. until ≤ known_to b done s.steps in subst P (sym going) high))
+        )
+
+pub live-start : (s : Sitting) (most : ℕ) (now : MachineState) (written_before written : OutputState) (unrecorded record_now : Option (List ℕ)) (before typing : TypingState) (keys : List Key) (done : ℕ) (watch : Watch) →
+    IsGoing s.system s.steps most s.start now written_before written unrecorded record_now keys done → s.is_patient ≡ before.is_patient → HasAttended before typing →
+    StaysCued s.system s.start s.steps (known_to (is_over typing) done s.steps) done 0 s.cues keys → (s.cues ≡ [] → done ≡ 0) →
+    watch.polls ≡ 0 → IsLive s now written_before written unrecorded record_now before typing keys done watch
+live-start s most now written_before written unrecorded record_now before typing keys done watch going patience attended cued first none =
     let watched = watched-start s.system s.start keys done watch none in
     record {
       going = going-wide going (length keys) (omega arith);
@@ -177,14 +205,14 @@ live-start s most now written_before written unrecorded record_now typing keys d
         scripted = keys;
         typed = [];
         joined = sym (append-nil keys);
-        script = cued;
         begun = done;
+        script = scripted-first s before typing keys done patience attended going.within cued;
         at_once = first;
         answers = [];
-        said = said-none typing.heard;
+        said = subst (λ o. HasHeard before.heard o []) (sym attended.heard) (said-none before.heard);
         given = refl;
         often = (omega arith, omega arith);
-        read = read_none typing.unread;
+        read = subst (λ o. HasReadKeys before.unread o []) (sym attended.unread) (read_none before.unread);
         wanted = λ _. tt;
         brief = watched.brief;
       };

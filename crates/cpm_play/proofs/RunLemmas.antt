@@ -223,17 +223,24 @@ turned-on to_wait system most n k r old now there count state not some fits with
     }
 
 -- a run whose last turn makes no step
-pub run-stopped : (to_wait : Bool) (system : Disk) (steps k : ℕ) (old now : MachineState) → (to_wait ≡ true → IsBusyFor system k old) →
-    (is_running now.ended ≡ false) ⊎ ((to_wait ≡ true) × ((look_of now).waiting ≡ true)) → HasStopped to_wait system steps k old now
-run-stopped false system steps k old now busy (inl ended) = inr ended
-run-stopped false system steps k old now busy (inr there) = absurd (true≢false (sym there.0))
-run-stopped true system steps k old now busy (inl ended) = (busy refl, inr (inl ended))
-run-stopped true system steps k old now busy (inr there) = (busy refl, inr (inr there.1))
+pub run-stopped : (is_over to_wait : Bool) (system : Disk) (steps k : ℕ) (old now : MachineState) → (to_wait ≡ true → IsBusyFor system k old) →
+    (is_running now.ended ≡ false) ⊎ ((to_wait ≡ true) × ((look_of now).waiting ≡ true)) → HasStopped is_over to_wait system steps k old now
+run-stopped is_over false system steps k old now busy (inl ended) = inr (inl ended)
+run-stopped is_over false system steps k old now busy (inr there) = absurd (true≢false (sym there.0))
+run-stopped is_over true system steps k old now busy (inl ended) = (busy refl, inr (inl ended))
+run-stopped is_over true system steps k old now busy (inr there) = (busy refl, inr (inr (inl there.1)))
+
+-- one that is over
+pub run-over : (is_over to_wait : Bool) (system : Disk) (steps k : ℕ) (old now : MachineState) → (to_wait ≡ true → IsBusyFor system k old) → is_over ≡ true →
+    HasStopped is_over to_wait system steps k old now
+run-over is_over false system steps k old now busy over = inr (inr over)
+run-over is_over true system steps k old now busy over = (busy refl, inr (inr (inr over)))
 
 -- or that makes all steps
-pub run-all : (to_wait : Bool) (system : Disk) (steps k : ℕ) (old now : MachineState) → (to_wait ≡ true → IsBusyFor system k old) → k ≡ steps → HasStopped to_wait system steps k old now
-run-all false system steps k old now busy all = inl all
-run-all true system steps k old now busy all = (busy refl, inl all)
+pub run-all : (is_over to_wait : Bool) (system : Disk) (steps k : ℕ) (old now : MachineState) → (to_wait ≡ true → IsBusyFor system k old) → k ≡ steps →
+    HasStopped is_over to_wait system steps k old now
+run-all is_over false system steps k old now busy all = inl all
+run-all is_over true system steps k old now busy all = (busy refl, inl all)
 
 -- ---- a pause, and then steps up to a wait
 
@@ -267,13 +274,13 @@ module _ (system : Disk) (steps waits_from done pause k j : ℕ) (old mid next :
         subst (λ (m : ℕ). IsBusyFrom system (max waits_from done) m done old) at (pause-busy n (cut.3 refl)),
       )
 
-  module _ (stopped : HasStopped false system pause k old mid) (fits_then : j ≤ steps - (done + k)) (run_then : HasExecuted system j mid next middle written)
-      (stopped_then : HasStopped true system (steps - (done + k)) j mid next) where
+  module _ (was_over is_over : Bool) (stays : was_over ≡ true → is_over ≡ true) (stopped : HasStopped was_over false system pause k old mid) (fits_then : j ≤ steps - (done + k))
+      (run_then : HasExecuted system j mid next middle written) (stopped_then : HasStopped is_over true system (steps - (done + k)) j mid next) where
     together : (done + k + j) - done ≡ k + j
     together = omega arith
 
     -- both together are the steps up to a wait that counts
-    pub pause-idled : HasIdled system steps waits_from done (done + k + j) old next before written
+    pub pause-idled : HasIdled is_over system steps waits_from done (done + k + j) old next before written
     pause-idled = record {
       low = omega arith;
       run =
@@ -281,17 +288,17 @@ module _ (system : Disk) (steps waits_from done pause k j : ℕ) (old mid next :
           subst P (sym together) (run-more system k old mid before middle run j (after system j mid) next written refl run_then);
       busy = pause-busy j stopped_then.0;
       why = ⊎_elim (λ (all : j ≡ steps - (done + k)). inl (omega arith))
-          (λ rest. ⊎_elim (λ ended. inr (inl ended)) waits rest) stopped_then.1;
+          (λ rest. ⊎_elim (λ ended. inr (inl ended)) (λ there. ⊎_elim waits (λ over. inr (inr (inr over))) there) rest) stopped_then.1;
     }
       where
         ended_then : is_running mid.ended ≡ false → is_running next.ended ≡ false
         ended_then ended = ap (λ (s : MachineState). is_running s.ended) run_then.state ∙ after-ended system j mid ended
 
         waits : (look_of next).waiting ≡ true →
-            (done + k + j ≡ steps) ⊎ ((is_running next.ended ≡ false) ⊎ ((waits_from ≤ done + k + j) × ((look_of next).waiting ≡ true)))
+            (done + k + j ≡ steps) ⊎ ((is_running next.ended ≡ false) ⊎ (((waits_from ≤ done + k + j) × ((look_of next).waiting ≡ true)) ⊎ (is_over ≡ true)))
         waits there = ⊎_elim (λ (all : k ≡ pause).
-            ⊎_elim (λ (past : steps < waits_from). inl (omega arith)) (λ (counts : waits_from ≤ steps). inr (inr (omega arith, there))) (cases_lt steps waits_from))
-            (λ ended. inr (inl (ended_then ended))) stopped
+            ⊎_elim (λ (past : steps < waits_from). inl (omega arith)) (λ (counts : waits_from ≤ steps). inr (inr (inl (omega arith, there)))) (cases_lt steps waits_from))
+            (λ short. ⊎_elim (λ ended. inr (inl (ended_then ended))) (λ over. inr (inr (inr (stays over)))) short) stopped
 
     -- and what is kept is what both showed
     pub pause-kept : (start kept more : Shown) → HasGrown start kept (after system k old).session.console.screen → HasGrown kept more (after system j mid).session.console.screen →

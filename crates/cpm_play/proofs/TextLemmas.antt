@@ -4,7 +4,6 @@ use Rattle.std.proofs.lemmas.List.{append_assoc, length-take-le, take-append-dro
 use Rattle.std.specs.Io.KnownBytes.{Appends}
 use Rattle.cpm_machine.specs.MachineState.{MachineState}
 use Rattle.cpm_machine.specs.Serve.{taken, taken_list}
-use Rattle.cpm_play.specs.Output.{OutputState}
 use Rattle.cpm_play.specs.Playing.{HasList, HasText}
 use Rattle.cpm_play.specs.Shown.{HasGrown}
 use Rattle.cpm_play.specs.declared.shown.Shown.{Shown}
@@ -18,18 +17,16 @@ abbrev pub with_list : List ℕ → MachineState → MachineState
 with_list xs s = record s { session = record s.session { console = record s.session.console { printer = xs } } }
 
 -- some of the console bytes were moved to the console
-pub record IsMoved (start now : MachineState) (before after : OutputState) : Type 0 where
+pub record IsMoved (start now : MachineState) (before after : Option (List ℕ)) : Type 0 where
   pub text : List ℕ
-  pub written : Appends before.console after.console text
-  pub still : after.list ≡ before.list
+  pub written : Appends before after text
   pub whole : text ++ now.session.console.screen ≡ start.session.console.screen
   pub state : now ≡ with_text now.session.console.screen start
 
 -- some of the list bytes were moved to the list device
-pub record IsPrinted (start now : MachineState) (before after : OutputState) : Type 0 where
+pub record IsPrinted (start now : MachineState) (before after : Option (List ℕ)) : Type 0 where
   pub bytes : List ℕ
-  pub written : Appends before.list after.list bytes
-  pub still : after.console ≡ before.console
+  pub written : Appends before after bytes
   pub whole : bytes ++ now.session.console.printer ≡ start.session.console.printer
   pub state : now ≡ with_list now.session.console.printer start
 
@@ -45,63 +42,61 @@ appends_none None = tt
 appends_none (Some xs) = sym (append-nil xs)
 
 -- nothing was moved so far
-pub moved_none : (start : MachineState) (written : OutputState) → IsMoved start start written written
-moved_none start written = record { text = []; written = appends_none written.console; still = refl; whole = refl; state = refl }
+pub moved_none : (start : MachineState) (written : Option (List ℕ)) → IsMoved start start written written
+moved_none start written = record { text = []; written = appends_none written; whole = refl; state = refl }
 
-pub printed_none : (start : MachineState) (written : OutputState) → IsPrinted start start written written
-printed_none start written = record { bytes = []; written = appends_none written.list; still = refl; whole = refl; state = refl }
+pub printed_none : (start : MachineState) (written : Option (List ℕ)) → IsPrinted start start written written
+printed_none start written = record { bytes = []; written = appends_none written; whole = refl; state = refl }
 
 -- one chunk more
-pub moved_more : (start now next : MachineState) (before middle grown : OutputState) (room : ℕ) (chunk : List ℕ) → IsMoved start now before middle
-    → chunk ≡ take (min room (length now.session.console.screen)) now.session.console.screen → next ≡ taken room now → Appends middle.console grown.console chunk
-    → grown.list ≡ middle.list → IsMoved start next before grown
-moved_more start now next before middle grown room chunk moved is state writes stays =
+pub moved_more : (start now next : MachineState) (before middle grown : Option (List ℕ)) (room : ℕ) (chunk : List ℕ) → IsMoved start now before middle
+    → chunk ≡ take (min room (length now.session.console.screen)) now.session.console.screen → next ≡ taken room now → Appends middle grown chunk
+    → IsMoved start next before grown
+moved_more start now next before middle grown room chunk moved is state writes =
     let screen = now.session.console.screen in
     let count = min room (length screen) in
     let left : next.session.console.screen ≡ drop count screen = ap (λ (s : MachineState). s.session.console.screen) state in
     record {
       text = moved.text ++ chunk;
-      written = appends_more before.console middle.console grown.console moved.text chunk moved.written writes;
-      still = stays ∙ moved.still;
+      written = appends_more before middle grown moved.text chunk moved.written writes;
       whole = ap₂ (λ a b. (moved.text ++ a) ++ b) is left ∙ append_assoc moved.text (take count screen) (drop count screen)
           ∙ ap (λ v. moved.text ++ v) (take-append-drop count screen) ∙ moved.whole;
       state = state ∙ ap (taken room) moved.state ∙ ap (λ v. with_text v start) (sym left);
     }
 
-pub printed_more : (start now next : MachineState) (before middle grown : OutputState) (room : ℕ) (chunk : List ℕ) → IsPrinted start now before middle
-    → chunk ≡ take (min room (length now.session.console.printer)) now.session.console.printer → next ≡ taken_list room now → Appends middle.list grown.list chunk
-    → grown.console ≡ middle.console → IsPrinted start next before grown
-printed_more start now next before middle grown room chunk moved is state writes stays =
+pub printed_more : (start now next : MachineState) (before middle grown : Option (List ℕ)) (room : ℕ) (chunk : List ℕ) → IsPrinted start now before middle
+    → chunk ≡ take (min room (length now.session.console.printer)) now.session.console.printer → next ≡ taken_list room now → Appends middle grown chunk
+    → IsPrinted start next before grown
+printed_more start now next before middle grown room chunk moved is state writes =
     let printer = now.session.console.printer in
     let count = min room (length printer) in
     let left : next.session.console.printer ≡ drop count printer = ap (λ (s : MachineState). s.session.console.printer) state in
     record {
       bytes = moved.bytes ++ chunk;
-      written = appends_more before.list middle.list grown.list moved.bytes chunk moved.written writes;
-      still = stays ∙ moved.still;
+      written = appends_more before middle grown moved.bytes chunk moved.written writes;
       whole = ap₂ (λ a b. (moved.bytes ++ a) ++ b) is left ∙ append_assoc moved.bytes (take count printer) (drop count printer)
           ∙ ap (λ v. moved.bytes ++ v) (take-append-drop count printer) ∙ moved.whole;
       state = state ∙ ap (taken_list room) moved.state ∙ ap (λ v. with_list v start) (sym left);
     }
 
 -- some of them, which were kept too if there was memory for them
-pub record IsMovedKept (start now : MachineState) (before after : OutputState) (old held : Shown) (whole : Bool) : Type 0 where
+pub record IsMovedKept (start now : MachineState) (before after : Option (List ℕ)) (old held : Shown) (whole : Bool) : Type 0 where
   pub moved : IsMoved start now before after
   pub kept : whole ≡ true → HasGrown old held moved.text
 
-pub kept_none : (start : MachineState) (written : OutputState) (old : Shown) (whole : Bool) → IsMovedKept start start written written old old whole
+pub kept_none : (start : MachineState) (written : Option (List ℕ)) (old : Shown) (whole : Bool) → IsMovedKept start start written written old old whole
 unfolding moved_none
 kept_none start written old whole = record {
   moved = moved_none start written;
   kept = λ yes. grown-none old [] refl;
 }
 
-pub kept_more : (start now next : MachineState) (before middle grown : OutputState) (room : ℕ) (chunk : List ℕ) (old kept more : Shown) (had whole : Bool) → IsMovedKept start now before middle old kept had
-    → chunk ≡ take (min room (length now.session.console.screen)) now.session.console.screen → next ≡ taken room now → Appends middle.console grown.console chunk
-    → grown.list ≡ middle.list → (whole ≡ true → had ≡ true) → (whole ≡ true → HasGrown kept more chunk) → IsMovedKept start next before grown old more whole
+pub kept_more : (start now next : MachineState) (before middle grown : Option (List ℕ)) (room : ℕ) (chunk : List ℕ) (old kept more : Shown) (had whole : Bool) → IsMovedKept start now before middle old kept had
+    → chunk ≡ take (min room (length now.session.console.screen)) now.session.console.screen → next ≡ taken room now → Appends middle grown chunk
+    → (whole ≡ true → had ≡ true) → (whole ≡ true → HasGrown kept more chunk) → IsMovedKept start next before grown old more whole
 unfolding moved_more
-kept_more start now next before middle grown room chunk old kept more had whole so_far is state writes stays all keeps_it = record {
-  moved = moved_more start now next before middle grown room chunk so_far.moved is state writes stays;
+kept_more start now next before middle grown room chunk old kept more had whole so_far is state writes all keeps_it = record {
+  moved = moved_more start now next before middle grown room chunk so_far.moved is state writes;
   kept = λ yes. grown-on (so_far.kept (all yes)) (keeps_it yes);
 }
 
@@ -126,14 +121,14 @@ both_empty [] ys e = e
 both_empty (x ∷ xs) ys e = absurd (let bad : ⊥ = cc in bad)
 
 -- bytes were there to be taken
-pub moved_text : (start now : MachineState) (before written : OutputState) (room count : ℕ) → IsMoved start now before written
+pub moved_text : (start now : MachineState) (before written : Option (List ℕ)) (room count : ℕ) → IsMoved start now before written
     → count ≡ min room (length now.session.console.screen) → (count ≡ 0 → ⊥) → HasText start
 moved_text start now before written room count moved is some none =
     let left : now.session.console.screen ≡ [] = both_empty moved.text now.session.console.screen (moved.whole ∙ none) in
     let zero : length now.session.console.screen ≡ 0 = ap length left in
     some (omega arith)
 
-pub printed_list : (start now : MachineState) (before written : OutputState) (room count : ℕ) → IsPrinted start now before written
+pub printed_list : (start now : MachineState) (before written : Option (List ℕ)) (room count : ℕ) → IsPrinted start now before written
     → count ≡ min room (length now.session.console.printer) → (count ≡ 0 → ⊥) → HasList start
 printed_list start now before written room count moved is some none =
     let left : now.session.console.printer ≡ [] = both_empty moved.bytes now.session.console.printer (moved.whole ∙ none) in

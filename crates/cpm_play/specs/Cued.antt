@@ -150,9 +150,15 @@ IsCutOff system steps waits_from cues start now before written unrecorded record
 
 -- ---- the parts of a session
 
--- from so many of its steps on these are the keys of the script, as far as the session goes
-abbrev pub StaysCued : Disk → MachineState → (steps done waits_from : ℕ) → List Cue → List Key → Type 0
-StaysCued system start steps done waits_from cues keys = (until : ℕ) → done ≤ until → until ≤ steps → IsCuedUpTo system start steps until waits_from cues keys
+-- up to which count it is known which keys a script has: to the end of the session, or where somebody broke in
+abbrev pub known_to : (is_over : Bool) → (done steps : ℕ) → ℕ
+known_to true done steps = done
+known_to false done steps = steps
+
+-- from so many of its steps on, up to a limit, these are the keys of the script, as far as the session goes
+abbrev pub StaysCued : Disk → MachineState → (steps limit done waits_from : ℕ) → List Cue → List Key → Type 0
+StaysCued system start steps limit done waits_from cues keys =
+    (until : ℕ) → done ≤ until → until ≤ limit → IsCuedUpTo system start steps until waits_from cues keys
 
 -- the output of a state was taken: console and list device got it
 pub record IsOutputTaken (old now : MachineState) (before written : OutputState) : Type 0 where
@@ -176,12 +182,12 @@ IsBusyFor system k s = (i : ℕ) → i < k → (look_of (after system i s)).wait
 abbrev pub IsBusyFrom : Disk → (from until done : ℕ) → MachineState → Type 0
 IsBusyFrom system from until done s = (i : ℕ) → from ≤ i → i < until → (look_of (after system (i - done) s)).waiting ≡ false
 
--- the steps up to where it waits for a key and waits count, or to its end; else all
-pub record HasIdled (system : Disk) (steps waits_from done done_now : ℕ) (old now : MachineState) (before written : OutputState) : Type 0 where
+-- the steps up to where it waits for a key and waits count, or to its end, or to where it is over; else all
+pub record HasIdled (is_over : Bool) (system : Disk) (steps waits_from done done_now : ℕ) (old now : MachineState) (before written : OutputState) : Type 0 where
   pub low : done ≤ done_now
   pub run : HasExecuted system (done_now - done) old now before written
   pub busy : IsBusyFrom system (max waits_from done) done_now done old
-  pub why : (done_now ≡ steps) ⊎ (is_running now.ended ≡ false) ⊎ ((waits_from ≤ done_now) × ((look_of now).waiting ≡ true))
+  pub why : (done_now ≡ steps) ⊎ (is_running now.ended ≡ false) ⊎ ((waits_from ≤ done_now) × ((look_of now).waiting ≡ true)) ⊎ (is_over ≡ true)
 
 -- why not all of so many steps were executed, and what was: where they are to go up to a wait, there was none so far
 abbrev pub IsRunCut : (to_wait : Bool) → Disk → ℕ → (old now : MachineState) → (before written : OutputState) → LiveError → Type 0
@@ -202,13 +208,15 @@ pub record HasPressed (system : Disk) (key : Key) (k : ℕ) (old now : MachineSt
   pub output : GetsOutput before written (after system k old)
   pub noted : Appends unrecorded record_now (key_line key)
 
--- a key does not come: its count is past the steps, and nothing was done; or the machine ends before it, or has no room for it there, and all is shown and
--- printed
-pub record HasMissed (system : Disk) (key : Key) (steps done done_now : ℕ) (old now : MachineState) (before written : OutputState) : Type 0 where
+-- a key does not come: its count is past the steps, and nothing was done; or the machine ends before it, or has no room for it there, or it is over before,
+-- and all is shown and printed
+pub record HasMissed (is_over : Bool) (system : Disk) (key : Key) (steps done done_now : ℕ) (old now : MachineState) (before written : OutputState)
+    : Type 0 where
   pub low : done ≤ done_now
   pub run : HasExecuted system (done_now - done) old now before written
   pub why : ((steps ≤ key.count) × (done_now ≡ done)) ⊎ ((key.count < steps) × (done_now ≤ key.count) × (is_running now.ended ≡ false))
       ⊎ ((key.count < steps) × (done_now ≡ key.count) × (takes_key now ≡ false))
+      ⊎ ((key.count < steps) × (done_now < key.count) × (is_over ≡ true))
 
 -- why a key was not pressed after so many steps: not all of them were executed, or memory was refused, and nothing was recorded;
 -- or it can't be recorded where the machine runs and has room, and all is shown and printed
@@ -224,8 +232,8 @@ IsPressCut system steps old now before written unrecorded record_now OutOfMemory
     IsRunCut false system steps old now before written OutOfMemory × (record_now ≡ unrecorded)
 IsPressCut system steps old now before written unrecorded record_now (Unreadable e) = ⊥
 
--- as far as a session was run on, and why: for all steps, to the machine's end, or to where it waits for a key
-abbrev pub HasStopped : Bool → Disk → (steps k : ℕ) → (old now : MachineState) → Type 0
-HasStopped false system steps k old now = (k ≡ steps) ⊎ (is_running now.ended ≡ false)
-HasStopped true system steps k old now =
-    IsBusyFor system k old × ((k ≡ steps) ⊎ (is_running now.ended ≡ false) ⊎ ((look_of now).waiting ≡ true))
+-- as far as a session was run on, and why: for all steps, to the machine's end, to where it waits for a key, or to where it is over
+abbrev pub HasStopped : (is_over to_wait : Bool) → Disk → (steps k : ℕ) → (old now : MachineState) → Type 0
+HasStopped is_over false system steps k old now = (k ≡ steps) ⊎ (is_running now.ended ≡ false) ⊎ (is_over ≡ true)
+HasStopped is_over true system steps k old now =
+    IsBusyFor system k old × ((k ≡ steps) ⊎ (is_running now.ended ≡ false) ⊎ ((look_of now).waiting ≡ true) ⊎ (is_over ≡ true))

@@ -1,5 +1,5 @@
 -- Where the output of a machine that is played goes: its console and its list device. All of it is own.
-use Rattle.std.specs.Prelude.{ℕ, List, Option, None}
+use Rattle.std.specs.Prelude.{ℕ, List, Option}
 use Rattle.std.specs.Io.KnownBytes.{Appends}
 use Rattle.cpm_machine.specs.MachineState.{MachineState}
 
@@ -8,9 +8,9 @@ pub record OutputState : Type 0 where
   pub console : Option (List ℕ)
   pub list : Option (List ℕ)
 
--- of a console alone, whose machine has no list device
-abbrev pub console_alone : Option (List ℕ) → OutputState
-console_alone written = record { console = written; list = None }
+-- of a console that has got the one, and a list device that has got the other
+abbrev pub output_state : (console list : Option (List ℕ)) → OutputState
+output_state console list = record { console = console; list = list }
 
 -- the one has got the text that waited in this state, and the other the list bytes
 pub record GetsOutput (before written : OutputState) (s : MachineState) : Type 0 where

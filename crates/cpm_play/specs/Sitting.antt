@@ -6,12 +6,12 @@ use Rattle.cpm_script.specs.Recording.{recorded}
 use Rattle.cpm_script.specs.declared.cue.Cue.{Cue}
 use Rattle.cpm_script.specs.declared.script.Key.{Key}
 use Rattle.cpm_machine.specs.MachineState.{MachineState}
-use Rattle.cpm_play.specs.Cued.{IsCued, IsCutOff}
+use Rattle.cpm_play.specs.Cued.{IsCued, IsCuedUpTo, IsCutOff}
 use Rattle.cpm_play.specs.Live.{HadList, HadText, HasCome, bytes_of}
 use Rattle.cpm_play.specs.Output.{OutputState}
 use Rattle.cpm_play.specs.Playing.{runs_at}
 use Rattle.cpm_play.specs.Typing.{HasReadKeys}
-use Rattle.cpm_play.specs.Typist.{AreOften, HasHeard, Hearing, IsHeard, TypingState, keys_heard}
+use Rattle.cpm_play.specs.Typist.{AreOften, HasAttended, HasHeard, Hearing, IsHeard, TypingState, is_over, keys_heard}
 use Rattle.cpm_play.specs.Wanting.{AreWantedAfter, HasNoLongWait, IsKeyWanted}
 use Rattle.cpm_play.specs.declared.live.LiveError.{LiveError}
 use Rattle.cpm_play.specs.declared.live.LiveError.TheVariants.{Unreadable, Unwritable, Unprinted, Unrecorded, OutOfMemory}
@@ -31,6 +31,13 @@ pub record Sitting : Type 0 where
 abbrev pub sitting : Bool → Disk → MachineState → ℕ → List Cue → Sitting
 sitting is_patient system start steps cues = record { is_patient = is_patient; system = system; start = start; steps = steps; cues = cues }
 
+-- These are the keys of the script, of which the typist is asked from a count on: all that come. Or one who isn't patient broke in there, and they are those so
+-- far.
+abbrev pub AreScripted : Sitting → (after : TypingState) → (scripted : List Key) → (begun : ℕ) → Type 0
+AreScripted s after scripted begun =
+    IsCued s.system s.start s.steps 0 s.cues scripted
+    ⊎ ((s.is_patient ≡ false) × (is_over after ≡ true) × IsCuedUpTo s.system s.start s.steps begun 0 s.cues scripted)
+
 -- The session has these keys after so many steps: those of the script, as far as they come, and then those that the typist gave, each at the count at which
 -- it did. The typist is asked from the end of the script on, often. A patient one gives a key only where one is wanted; and whoever it is, the machine waits
 -- for a key for no longer than a turn.
@@ -38,9 +45,9 @@ pub record HasListened (s : Sitting) (before after : TypingState) (keys : List K
   pub scripted : List Key
   pub typed : List Key
   pub joined : keys ≡ scripted ++ typed
-  pub script : IsCued s.system s.start s.steps 0 s.cues scripted
   -- where the script ended
   pub begun : ℕ
+  pub script : AreScripted s after scripted begun
   pub at_once : s.cues ≡ [] → begun ≡ 0
   pub answers : List Hearing
   pub said : HasHeard before.heard after.heard answers
@@ -116,7 +123,7 @@ IsCutShort s now written_before written unrecorded record_now before after (Unre
 pub record IsScriptCut (s : Sitting) (now : MachineState) (written_before written : OutputState) (unrecorded record_now : Option (List ℕ))
     (before after : TypingState) (e : LiveError) : Type 0 where
   pub off : IsCutOff s.system s.steps 0 s.cues s.start now written_before written unrecorded record_now e
-  pub unheard : after ≡ before
+  pub unheard : HasAttended before after
 
 abbrev pub IsPlayCut : Sitting → (now : MachineState) → (written_before written : OutputState) → (unrecorded record_now : Option (List ℕ))
     → (before after : TypingState) → LiveError → Type 0

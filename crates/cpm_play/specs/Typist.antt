@@ -18,16 +18,35 @@ pub record Hearing : Type 0 where
 abbrev pub hearing : ℕ → Heard → Hearing
 hearing count said = record { count = count; heard = said }
 
--- What is known of a typist: whether it is patient, the bytes that are still to be read of it, and all that was heard of it. A patient one waits for a key
--- where one is wanted, and gives none elsewhere. One that isn't answers at once, also that there is none so far.
+-- What is known of a typist: whether it is patient, the bytes that are still to be read of it, all that was heard of it, and whether it has broken in on a
+-- script that is played before. A patient one waits for a key where one is wanted, and gives none elsewhere. One that isn't answers at once, also that there
+-- is none so far.
 pub record TypingState : Type 0 where
   pub is_patient : Bool
   pub unread : Option (List ℕ)
   pub heard : Option (List Hearing)
+  pub has_broken_in : Bool
 
 -- nobody
 abbrev pub nobody : TypingState
-nobody = record { is_patient = true; unread = None; heard = None }
+nobody = record { is_patient = true; unread = None; heard = None; has_broken_in = false }
+
+-- ---- while a script is played
+
+-- a script is played no further where a typist has broken in; a patient one never does
+abbrev pub breaks : (is_patient has_broken_in : Bool) → Bool
+breaks true has_broken_in = false
+breaks false has_broken_in = has_broken_in
+
+abbrev pub is_over : TypingState → Bool
+is_over t = breaks t.is_patient t.has_broken_in
+
+-- nothing was heard of a typist, nor read, but whether it breaks in
+pub record HasAttended (before after : TypingState) : Type 0 where
+  pub nature : after.is_patient ≡ before.is_patient
+  pub unread : after.unread ≡ before.unread
+  pub heard : after.heard ≡ before.heard
+  pub stays : is_over before ≡ true → is_over after ≡ true
 
 -- ---- an answer
 
@@ -49,15 +68,17 @@ IsReadAs before after (heard.End Quit) = HasQuit before after []
 IsReadAs before after (heard.End InputEnd) = HasReadKeys before after [] × IsAtEnd after
 IsReadAs before after (heard.End Signal) = HasReadKeys before after []
 
--- this was heard after so many steps
+-- this was heard after so many steps, and it breaks in no more than it did
 pub record IsHeard (count : ℕ) (before after : TypingState) (answer : Heard) : Type 0 where
   pub said : HasHeard before.heard after.heard (hearing count answer ∷ [])
   pub read : IsReadAs before.unread after.unread answer
+  pub stays : is_over after ≡ is_over before
 
 -- nothing was heard where the typist failed
 pub record HasHeardNothing (before after : TypingState) : Type 0 where
   pub said : HasHeard before.heard after.heard []
   pub read : HasReadKeys before.unread after.unread []
+  pub stays : is_over after ≡ is_over before
 
 -- a machine takes no key while one is pending
 abbrev pub CanBeHeard : KeyNeed → Heard → Type 0

@@ -6,16 +6,18 @@ ghost use Rattle.cpm_script.specs.Recording.{recorded};
 ghost use Rattle.cpm_machine.specs.Serve.{look_of, takes_key};
 ghost use Rattle.cpm_machine.specs.Step.{after, is_running};
 ghost use Rattle.cpm_play.specs.Cued.{AreAscii, HasEndedCued, HasIdled, HasMissed, HasNoWait, HasPressed, HasExecuted, HasStopped};
-ghost use Rattle.cpm_play.specs.Cued.{IsCued, IsCutOff, IsIdleCut, IsPressCut, IsRunCut, IsOutputTaken, IsUntaken, StaysCued, key_count, last_count};
+ghost use Rattle.cpm_play.specs.Cued.{IsCued, IsCutOff, IsIdleCut, IsPressCut, IsRunCut, StaysCued, key_count, known_to, last_count};
 ghost use Rattle.cpm_play.specs.Cued.{looks_back, waits_at};
 ghost use Rattle.cpm_play.specs.Live.{AreGiven, IsGoing};
-ghost use Rattle.cpm_play.specs.Pacing.{without_text};
-ghost use Rattle.cpm_play.specs.Playing.{EndsAs, HasText, HaveRoom, IsFresh, IsQuiet, alone_by};
+ghost use Rattle.cpm_play.specs.Output.{output_state};
+ghost use Rattle.cpm_play.specs.Playing.{EndsAs, HaveRoom, IsFresh, IsQuiet, alone_by};
 ghost use Rattle.cpm_play.specs.Shown.{HasGrown, IsKeptOrFound};
+ghost use Rattle.cpm_play.specs.Typist.{HasAttended, is_over};
 
-use crate::live::{LiveError, LivePlay, show};
-use crate::machine::{CHUNK, QUANTUM, move_list, quantum_of};
-use crate::output::PlayOutput;
+use crate::attendant::{Attendant, Watched};
+use crate::kept::show_kept;
+use crate::live::{LiveError, LivePlay};
+use crate::machine::{QUANTUM, quantum_of};
 use crate::progress::{Watcher, progress_of_one};
 use crate::shown::Shown;
 use cpm_console::KEYS;
@@ -54,85 +56,37 @@ fn looks_back(cues: &[Cue]) -> bool
     false
 }
 
-/// Keeps more bytes; says whether there was memory for all, where there was for those before.
-fn keep(shown: &mut Shown<'_>, whole: bool, bytes: &[u8]) -> bool
-    ensures whole { result ≡ true → whole ≡ true }
-    ensures kept { result ≡ true → HasGrown shown.old shown.new bytes.now }
-{
-    shown.add(bytes) && whole
-}
-
-/// Moves all console bytes to the console, and keeps them; says whether there was memory for all.
-fn move_kept<O: PlayOutput>(
-    machine: &mut Machine,
-    shown: &mut Shown<'_>,
-    out: &mut O,
-) -> io::Result<bool>
-    ensures state { OnOk result (machine.new ≡ without_text machine.old) }
-    ensures text { OnOk result (Appends (O.got out.old).console (O.got out.new).console machine.old.session.console.screen) }
-    ensures list { (O.got out.new).list ≡ (O.got out.old).list }
-    ensures kept { IfOk result (λ whole. whole ≡ true → HasGrown shown.old shown.new machine.old.session.console.screen) }
-    ensures refused { OnErr result (HasText machine.old) }
-{
-    let mut chunk = [0u8; CHUNK];
-    let mut whole = true;
-    loop {
-        let count = machine.take(&mut chunk);
-        if count == 0 {
-            return Ok(whole);
-        }
-        out.show(&chunk[..count])?;
-        whole = keep(shown, whole, &chunk[..count]);
-    }
-}
-
-/// Moves all console bytes to the console, and keeps them if so asked. Then it moves all list bytes to the list device.
-fn show_kept<O: PlayOutput>(
-    machine: &mut Machine,
-    keeps: bool,
-    shown: &mut Shown<'_>,
-    out: &mut O,
-) -> Result<(), LiveError>
-    ensures taken { OnOk result (IsOutputTaken machine.old machine.new (O.got out.old) (O.got out.new)) }
-    ensures kept { OnOk result (keeps ≡ true → HasGrown shown.old shown.new machine.old.session.console.screen) }
-    ensures refused { IfErr result (IsUntaken machine.old machine.new (O.got out.old) (O.got out.new)) }
-{
-    if !keeps {
-        return show(machine, out);
-    }
-    match move_kept(machine, shown, out) {
-        Err(error) => Err(LiveError::Unwritable(error)),
-        Ok(whole) => match move_list(machine, out) {
-            Err(error) => Err(LiveError::Unprinted(error)),
-            Ok(()) if whole => Ok(()),
-            Ok(()) => Err(LiveError::OutOfMemory),
-        },
-    }
-}
-
 /// Executes so many steps, or those up to the machine's end, or with `to_wait` to where it waits for a key. Gives on their output, and keeps the text if
-/// so asked; says how many. The watcher is told after each turn how many of `until` steps the machine has made.
-fn run<O: PlayOutput, T: Watcher>(
+/// so asked; says how many. It stops where the attendant breaks in, who is told after each turn how many of `until` steps the machine has made.
+fn run<W: Write, L: Write, A: Attendant>(
     system: &Image,
     machine: &mut Machine,
     steps: u64,
     to_wait: bool,
     keeps: bool,
     shown: &mut Shown<'_>,
-    out: &mut O,
+    out: &mut W,
+    list: &mut L,
     until: u64,
-    watcher: &mut T,
+    attendant: &mut A,
 ) -> Result<u64, LiveError>
     requires { IsQuiet machine.old }
     ensures within { IfOk result (λ k. k ≤ steps) }
-    ensures run { IfOk result (λ k. HasExecuted system.now k machine.old machine.new (O.got out.old) (O.got out.new)) }
-    ensures stopped { IfOk result (λ k. HasStopped to_wait system.now steps k machine.old machine.new) }
+    ensures run { IfOk result (λ k. HasExecuted system.now k machine.old machine.new
+        (output_state (W.contents out.old) (L.contents list.old)) (output_state (W.contents out.new) (L.contents list.new))) }
+    ensures stopped { IfOk result (λ k. HasStopped (is_over (A.attending attendant.new)) to_wait system.now steps k machine.old machine.new) }
     ensures kept { IfOk result (λ k. keeps ≡ true → HasGrown shown.old shown.new (after system.now k machine.old).session.console.screen) }
-    ensures refused { IfErr result (IsRunCut to_wait system.now steps machine.old machine.new (O.got out.old) (O.got out.new)) }
+    ensures attended { HasAttended (A.attending attendant.old) (A.attending attendant.new) }
+    ensures over { is_over (A.attending attendant.old) ≡ true → IfOk result (λ k. k ≡ 0) }
+    ensures refused { IfErr result (IsRunCut to_wait system.now steps machine.old machine.new
+        (output_state (W.contents out.old) (L.contents list.old)) (output_state (W.contents out.new) (L.contents list.new))) }
 {
     let mut executed = 0;
     while executed < steps {
-        let most = watcher.most_steps().min(steps - executed);
+        if attendant.is_over() {
+            return Ok(executed);
+        }
+        let most = attendant.most_turn().min(steps - executed);
         let granted = if to_wait {
             machine.grant_to_wait(system, QUANTUM.min(most))
         } else {
@@ -144,8 +98,8 @@ fn run<O: PlayOutput, T: Watcher>(
             return Ok(executed);
         }
         executed += granted;
-        show_kept(machine, keeps, shown, out)?;
-        watcher.see(progress_of_one(machine.look().count, until));
+        show_kept(machine, keeps, shown, out, list)?;
+        attendant.attend(progress_of_one(machine.look().count, until));
     }
     Ok(executed)
 }
@@ -176,30 +130,36 @@ fn has_met(machine: &Machine, text: &[u8], shown: &Shown<'_>) -> bool
 }
 
 impl LivePlay {
-    /// Presses a key at its count, if the machine then runs and has room for it, and that is within the steps; says whether it is so.
-    fn press<O: PlayOutput, S: Write, T: Watcher>(
+    /// Presses a key at its count, if the machine then runs and has room for it, that is within the steps, and the attendant doesn't break in before; says
+    /// whether it is so.
+    fn press<W: Write, L: Write, S: Write, A: Attendant>(
         &mut self,
         system: &Image,
         machine: &mut Machine,
         key: Key,
         steps: u64,
         shown: &mut Shown<'_>,
-        out: &mut O,
+        out: &mut W,
+        list: &mut L,
         record: &mut S,
-        watcher: &mut T,
+        attendant: &mut A,
     ) -> Result<bool, LiveError>
         requires ascii { key.byte < 128 }
         requires later { self.old.steps ≤ key.count }
         requires quiet { IsQuiet machine.old }
         ensures pressed { IfOk result (λ comes. comes ≡ true → HasPressed system.now key (key.count - self.old.steps) machine.old machine.new
-            (O.got out.old) (O.got out.new) (S.contents record.old) (S.contents record.new)) }
+            (output_state (W.contents out.old) (L.contents list.old)) (output_state (W.contents out.new) (L.contents list.new))
+            (S.contents record.old) (S.contents record.new)) }
         ensures count { IfOk result (λ comes. comes ≡ true → (key.count < steps) × (self.new.steps ≡ key.count)) }
         ensures keys { IfOk result (λ comes. comes ≡ true → self.new.keys.items ≡ self.old.keys.items ++ key ∷ []) }
-        ensures missed { IfOk result (λ comes. comes ≡ false → HasMissed system.now key steps self.old.steps self.new.steps machine.old machine.new
-            (O.got out.old) (O.got out.new)) }
+        ensures missed { IfOk result (λ comes. comes ≡ false → HasMissed (is_over (A.attending attendant.new)) system.now key steps
+            self.old.steps self.new.steps machine.old machine.new
+            (output_state (W.contents out.old) (L.contents list.old)) (output_state (W.contents out.new) (L.contents list.new))) }
         ensures still { IfOk result (λ comes. comes ≡ false → (self.new.keys.items ≡ self.old.keys.items) × (S.contents record.new ≡ S.contents record.old)) }
+        ensures attended { HasAttended (A.attending attendant.old) (A.attending attendant.new) }
         ensures refused { IfErr result (IsPressCut system.now (key.count - self.old.steps) machine.old machine.new
-            (O.got out.old) (O.got out.new) (S.contents record.old) (S.contents record.new)) }
+            (output_state (W.contents out.old) (L.contents list.old)) (output_state (W.contents out.new) (L.contents list.new))
+            (S.contents record.old) (S.contents record.new)) }
         ensures early { OnErr result (key.count < steps) }
     {
         if key.count >= steps {
@@ -207,8 +167,11 @@ impl LivePlay {
         }
         let left = key.count - self.steps;
         self.steps += run(
-            system, machine, left, false, false, shown, out, steps, watcher,
+            system, machine, left, false, false, shown, out, list, steps, attendant,
         )?;
+        if self.steps < key.count {
+            return Ok(false);
+        }
         if !runs(machine) || !takes_key(machine) {
             return Ok(false);
         }
@@ -216,8 +179,9 @@ impl LivePlay {
         Ok(true)
     }
 
-    /// Executes steps up to where the machine waits for a key, not before `waits_from`, or has ended. Gives on their output, and keeps the text if so asked.
-    fn idle<O: PlayOutput, T: Watcher>(
+    /// Executes steps up to where the machine waits for a key, not before `waits_from`, or has ended, or the attendant breaks in. Gives on their output, and
+    /// keeps the text if so asked.
+    fn idle<W: Write, L: Write, A: Attendant>(
         &mut self,
         system: &Image,
         machine: &mut Machine,
@@ -225,52 +189,59 @@ impl LivePlay {
         waits_from: u64,
         keeps: bool,
         shown: &mut Shown<'_>,
-        out: &mut O,
-        watcher: &mut T,
+        out: &mut W,
+        list: &mut L,
+        attendant: &mut A,
     ) -> Result<(), LiveError>
         requires quiet { IsQuiet machine.old }
         requires within { self.old.steps ≤ steps }
-        ensures idled { OnOk result (HasIdled system.now steps waits_from self.old.steps self.new.steps
-            machine.old machine.new (O.got out.old) (O.got out.new)) }
+        ensures idled { OnOk result (HasIdled (is_over (A.attending attendant.new)) system.now steps waits_from self.old.steps self.new.steps
+            machine.old machine.new (output_state (W.contents out.old) (L.contents list.old)) (output_state (W.contents out.new) (L.contents list.new))) }
         ensures within { OnOk result (self.new.steps ≤ steps) }
         ensures still { self.new.keys.items ≡ self.old.keys.items }
         ensures kept { OnOk result (keeps ≡ true
             → HasGrown shown.old shown.new (after system.now (self.new.steps - self.old.steps) machine.old).session.console.screen) }
+        ensures attended { HasAttended (A.attending attendant.old) (A.attending attendant.new) }
         ensures refused { IfErr result (IsIdleCut system.now steps waits_from self.old.steps
-            machine.old machine.new (O.got out.old) (O.got out.new)) }
+            machine.old machine.new (output_state (W.contents out.old) (L.contents list.old)) (output_state (W.contents out.new) (L.contents list.new))) }
     {
         let pause = waits_from.min(steps).saturating_sub(self.steps);
         self.steps += run(
-            system, machine, pause, false, keeps, shown, out, steps, watcher,
+            system, machine, pause, false, keeps, shown, out, list, steps, attendant,
         )?;
         let left = steps - self.steps;
         self.steps += run(
-            system, machine, left, true, keeps, shown, out, steps, watcher,
+            system, machine, left, true, keeps, shown, out, list, steps, attendant,
         )?;
         Ok(())
     }
 }
 
-/// Plays a machine by a script as far as its keys come.
-pub(crate) fn follow<O: PlayOutput, S: Write, T: Watcher>(
+/// Plays a machine by a script as far as its keys come, or until the attendant breaks in.
+pub(crate) fn follow<W: Write, L: Write, S: Write, A: Attendant>(
     alloc: Global,
     system: &Image,
     machine: &mut Machine,
     steps: u64,
     cued: CuedKeys<'_>,
-    out: &mut O,
+    out: &mut W,
+    list: &mut L,
     record: &mut S,
-    watcher: &mut T,
+    attendant: &mut A,
 ) -> Result<LivePlay, LiveError>
     requires fresh { IsFresh machine.old }
     requires ascii { AreAscii cued.cues.now }
     ensures going { IfOk result (λ live. IsGoing system.now steps (key_count cued.entry.cues.now) machine.old machine.new
-        (O.got out.old) (O.got out.new) (S.contents record.old) (S.contents record.new) live.keys.items live.steps) }
-    ensures keys { IfOk result (λ live. StaysCued system.now machine.old steps live.steps cued.entry.waits_from cued.entry.cues.now live.keys.items) }
-    ensures busy { IfOk result (λ live. (is_running machine.new.ended ≡ false)
+        (output_state (W.contents out.old) (L.contents list.old)) (output_state (W.contents out.new) (L.contents list.new))
+        (S.contents record.old) (S.contents record.new) live.keys.items live.steps) }
+    ensures keys { IfOk result (λ live. StaysCued system.now machine.old steps
+        (known_to (is_over (A.attending attendant.new)) live.steps steps) live.steps cued.entry.waits_from cued.entry.cues.now live.keys.items) }
+    ensures busy { IfOk result (λ live. is_over (A.attending attendant.new) ≡ false → (is_running machine.new.ended ≡ false)
         ⊎ HasNoWait system.now machine.old live.keys.items (max cued.entry.waits_from (last_count 0 live.keys.items)) live.steps) }
+    ensures attended { HasAttended (A.attending attendant.old) (A.attending attendant.new) }
     ensures refused { IfErr result (IsCutOff system.now steps cued.entry.waits_from cued.entry.cues.now machine.old machine.new
-        (O.got out.old) (O.got out.new) (S.contents record.old) (S.contents record.new)) }
+        (output_state (W.contents out.old) (L.contents list.old)) (output_state (W.contents out.new) (L.contents list.new))
+        (S.contents record.old) (S.contents record.new)) }
 {
     let mut live = LivePlay {
         keys: Vec::new(alloc),
@@ -293,8 +264,12 @@ pub(crate) fn follow<O: PlayOutput, S: Write, T: Watcher>(
                     keeps,
                     &mut shown,
                     out,
-                    watcher,
+                    list,
+                    attendant,
                 )?;
+                if attendant.is_over() {
+                    return Ok(live);
+                }
                 if live.steps < steps && has_met(machine, text.as_slice(), &shown) {
                     continue;
                 }
@@ -303,7 +278,7 @@ pub(crate) fn follow<O: PlayOutput, S: Write, T: Watcher>(
         };
         let key = Key { count, byte };
         if !live.press(
-            system, machine, key, steps, &mut shown, out, record, watcher,
+            system, machine, key, steps, &mut shown, out, list, record, attendant,
         )? {
             return Ok(live);
         }
@@ -312,18 +287,19 @@ pub(crate) fn follow<O: PlayOutput, S: Write, T: Watcher>(
     Ok(live)
 }
 
-/// Plays one machine by a script that may wait, for at most so many steps. Its console bytes and its list bytes go to `out` as they come. A key for which there
-/// is no room, where 4,096 are pending, is the end of the script, as one that comes past the machine's end.
+/// Plays one machine by a script that may wait, for at most so many steps. Its console bytes go to `out` and its list bytes to `list`, as they come. A key for
+/// which there is no room, where 4,096 are pending, is the end of the script, as one that comes past the machine's end.
 ///
 /// Each key is written to `record` as a line of a key script: by that script the machine shows and does the same again. The watcher is told after each turn how
 /// far it has come.
-pub fn play_cues<O: PlayOutput, S: Write, T: Watcher>(
+pub fn play_cues<W: Write, L: Write, S: Write, T: Watcher>(
     alloc: Global,
     system: &Image,
     machine: &mut Machine,
     steps: u64,
     cued: CuedKeys<'_>,
-    out: &mut O,
+    out: &mut W,
+    list: &mut L,
     record: &mut S,
     watcher: &mut T,
 ) -> Result<LivePlay, LiveError>
@@ -333,9 +309,9 @@ pub fn play_cues<O: PlayOutput, S: Write, T: Watcher>(
     ensures keys { IfOk result (λ live. IsCued system.now machine.old steps cued.entry.waits_from cued.entry.cues.now live.keys.items) }
     ensures room { IfOk result (λ live. HaveRoom system.now machine.old live.keys.items) }
     ensures given { IfOk result (λ live. AreGiven (key_count cued.entry.cues.now) live.steps live.keys.items) }
-    ensures text { IfOk result (λ live. Appends (O.got out.old).console (O.got out.new).console
+    ensures text { IfOk result (λ live. Appends (W.contents out.old) (W.contents out.new)
         (alone_by system.now live.keys.items live.steps machine.old).session.console.screen) }
-    ensures list { IfOk result (λ live. Appends (O.got out.old).list (O.got out.new).list
+    ensures list { IfOk result (λ live. Appends (L.contents list.old) (L.contents list.new)
         (alone_by system.now live.keys.items live.steps machine.old).session.console.printer) }
     ensures ending { IfOk result (λ live. EndsAs (alone_by system.now live.keys.items live.steps machine.old) machine.new) }
     ensures record { IfOk result (λ live. Appends (S.contents record.old) (S.contents record.new) (recorded live.keys.items)) }
@@ -343,9 +319,21 @@ pub fn play_cues<O: PlayOutput, S: Write, T: Watcher>(
         live.keys.items live.steps machine.new) }
     ensures waits { IfOk result (λ live. (look_of machine.new).waiting ≡ waits_at system.now machine.old live.keys.items live.steps) }
     ensures refused { IfErr result (IsCutOff system.now steps cued.entry.waits_from cued.entry.cues.now machine.old machine.new
-        (O.got out.old) (O.got out.new) (S.contents record.old) (S.contents record.new)) }
+        (output_state (W.contents out.old) (L.contents list.old)) (output_state (W.contents out.new) (L.contents list.new))
+        (S.contents record.old) (S.contents record.new)) }
 {
-    let mut live = follow(alloc, system, machine, steps, cued, out, record, watcher)?;
+    let mut watched = Watched { watcher };
+    let mut live = follow(
+        alloc,
+        system,
+        machine,
+        steps,
+        cued,
+        out,
+        list,
+        record,
+        &mut watched,
+    )?;
     // One that does not stop where it is idle runs on as if waits counted from its end on.
     let waits_from = if cued.stops_idle {
         cued.waits_from
@@ -360,7 +348,8 @@ pub fn play_cues<O: PlayOutput, S: Write, T: Watcher>(
         false,
         &mut Shown::new(alloc, &[]),
         out,
-        watcher,
+        list,
+        &mut watched,
     )?;
     Ok(live)
 }

@@ -1,13 +1,14 @@
 //! Sessions that are played by their key scripts: many of a host in turns, or one machine.
 #![tactic(auto)]
 
+mod attendant;
 mod cued;
 mod error;
 mod forks;
+mod kept;
 pub mod laws;
 mod live;
 mod machine;
-mod output;
 mod pace;
 mod player;
 mod progress;
@@ -22,7 +23,6 @@ mod watch;
 pub use cued::{CuedKeys, play_cues};
 pub use error::PlayError;
 pub use live::{LiveError, LivePlay, PlayEnd, TypedPlay, play_live};
-pub use output::{ConsoleAndList, PlayOutput};
 pub use player::{Fork, Player};
 pub use progress::{NoWatcher, Progress, Watcher};
 pub use rounds::play;

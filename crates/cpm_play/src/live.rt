@@ -5,20 +5,18 @@ ghost use Rattle.std.specs.Io.KnownBytes.{Appends};
 ghost use Rattle.cpm_script.specs.Recording.{key_line, recorded};
 ghost use Rattle.cpm_machine.specs.Serve.{keyed, look_of, takes_key};
 ghost use Rattle.cpm_machine.specs.Step.{after, is_running};
-ghost use Rattle.cpm_play.specs.Cued.{AreAscii, IsCued, IsCutOff, key_count};
+ghost use Rattle.cpm_play.specs.Cued.{AreAscii, IsCutOff, StaysCued, key_count, known_to};
 ghost use Rattle.cpm_play.specs.Live.{AreGiven, IsGoing, IsNotGiven, IsUnreadable, IsUnshown};
-ghost use Rattle.cpm_play.specs.Output.{GetsOutput};
+ghost use Rattle.cpm_play.specs.Output.{GetsOutput, output_state};
 ghost use Rattle.cpm_play.specs.Pacing.{without_list, without_text};
 ghost use Rattle.cpm_play.specs.Playing.{EndsAs, IsFresh, IsQuiet, alone_by, waits_at};
 ghost use Rattle.cpm_play.specs.Sitting.{IsTypedPlay, IsPlayCut, sitting};
-ghost use Rattle.cpm_play.specs.Typist.{CanBeHeard, HasHeardNothing, IsHeard, IsHeardPatiently};
+ghost use Rattle.cpm_play.specs.Typist.{CanBeHeard, HasAttended, HasHeardNothing, IsHeard, IsHeardPatiently, is_over};
 ghost use Rattle.cpm_play.specs.Wanting.{HasWatched, longest_turn};
 ghost use Rattle.cpm_play.specs.declared.typist.KeyNeed.TheVariants.{Wanted};
 
 use crate::cued::{CuedKeys, follow};
 use crate::machine::{move_list, move_text};
-use crate::output::PlayOutput;
-use crate::progress::NoWatcher;
 use crate::typist::{Heard, KeyNeed, TypingEnd, Typist};
 use crate::watch::Watch;
 use cpm_geom::Image;
@@ -140,15 +138,21 @@ impl LivePlay {
 }
 
 /// Moves all console bytes to the console, and then all list bytes to the list device.
-pub(crate) fn show<O: PlayOutput>(machine: &mut Machine, out: &mut O) -> Result<(), LiveError>
+pub(crate) fn show<W: Write, L: Write>(
+    machine: &mut Machine,
+    out: &mut W,
+    list: &mut L,
+) -> Result<(), LiveError>
     ensures state { OnOk result (machine.new ≡ without_list (without_text machine.old)) }
-    ensures output { OnOk result (GetsOutput (O.got out.old) (O.got out.new) machine.old) }
-    ensures refused { IfErr result (IsUnshown machine.old (O.got out.old) (O.got out.new)) }
+    ensures output { OnOk result (GetsOutput
+        (output_state (W.contents out.old) (L.contents list.old)) (output_state (W.contents out.new) (L.contents list.new)) machine.old) }
+    ensures refused { IfErr result (IsUnshown machine.old
+        (output_state (W.contents out.old) (L.contents list.old)) (output_state (W.contents out.new) (L.contents list.new))) }
 {
     if let Err(error) = move_text(machine, out) {
         return Err(LiveError::Unwritable(error));
     }
-    move_list(machine, out).map_err(LiveError::Unprinted)
+    move_list(machine, list).map_err(LiveError::Unprinted)
 }
 
 /// Executes the steps of a turn, at most so many, and says how many. For a patient typist the calls are watched that ask for a key.
@@ -179,24 +183,30 @@ fn turn(
     }
 }
 
-/// Plays a machine by a script, as far as its keys come. Where it says nothing, nothing is done.
-fn play_script<O: PlayOutput, S: Write>(
+/// Plays a machine by a script, as far as its keys come or until the typist breaks in. Where it says nothing, nothing is done.
+fn play_script<T: Typist, W: Write, L: Write, S: Write>(
     alloc: Global,
     system: &Image,
     machine: &mut Machine,
     steps: u64,
     cues: &[Cue],
-    out: &mut O,
+    typist: &mut T,
+    out: &mut W,
+    list: &mut L,
     record: &mut S,
 ) -> Result<LivePlay, LiveError>
     requires fresh { IsFresh machine.old }
     requires ascii { AreAscii cues.now }
     ensures going { IfOk result (λ live. IsGoing system.now steps (key_count cues.entry.now) machine.old machine.new
-        (O.got out.old) (O.got out.new) (S.contents record.old) (S.contents record.new) live.keys.items live.steps) }
-    ensures keys { IfOk result (λ live. IsCued system.now machine.old steps 0 cues.entry.now live.keys.items) }
+        (output_state (W.contents out.old) (L.contents list.old)) (output_state (W.contents out.new) (L.contents list.new))
+        (S.contents record.old) (S.contents record.new) live.keys.items live.steps) }
+    ensures keys { IfOk result (λ live. StaysCued system.now machine.old steps
+        (known_to (is_over (T.typing typist.new)) live.steps steps) live.steps 0 cues.entry.now live.keys.items) }
+    ensures attended { HasAttended (T.typing typist.old) (T.typing typist.new) }
     ensures none { IfOk result (λ live. cues.entry.now ≡ [] → live.steps ≡ 0) }
     ensures refused { IfErr result (IsCutOff system.now steps 0 cues.entry.now machine.old machine.new
-        (O.got out.old) (O.got out.new) (S.contents record.old) (S.contents record.new)) }
+        (output_state (W.contents out.old) (L.contents list.old)) (output_state (W.contents out.new) (L.contents list.new))
+        (S.contents record.old) (S.contents record.new)) }
 {
     if cues.is_empty() {
         return Ok(LivePlay {
@@ -210,32 +220,26 @@ fn play_script<O: PlayOutput, S: Write>(
         stops_idle: false,
     };
     follow(
-        alloc,
-        system,
-        machine,
-        steps,
-        cued,
-        out,
-        record,
-        &mut NoWatcher,
+        alloc, system, machine, steps, cued, out, list, record, typist,
     )
 }
 
-/// Plays one machine for at most so many steps, by what a script says and then by the keys that are typed. Its console bytes and its list bytes go to `out` as
-/// they come.
+/// Plays one machine for at most so many steps, by what a script says and then by the keys that are typed. Its console bytes go to `out` and its list bytes to
+/// `list`, as they come. A typist that isn't patient may break in on the script: then it is asked from there on.
 ///
 /// The typist is asked after each turn. Each key is pressed at the count where the machine then stands, and written to `record` as a line of a key script: by
 /// these lines the machine shows and does the same again. A machine that waits for a key executes no step before it comes.
 ///
 /// `Unreadable` has the typist's error, `Unwritable`, `Unprinted` and `Unrecorded` those of the writers. `OutOfMemory` comes where memory for a key is refused.
-pub fn play_live<T: Typist, O: PlayOutput, S: Write>(
+pub fn play_live<T: Typist, W: Write, L: Write, S: Write>(
     alloc: Global,
     system: &Image,
     machine: &mut Machine,
     steps: u64,
     cues: &[Cue],
     typist: &mut T,
-    out: &mut O,
+    out: &mut W,
+    list: &mut L,
     record: &mut S,
 ) -> Result<TypedPlay, LiveError>
     requires fresh { IsFresh machine.old }
@@ -244,17 +248,20 @@ pub fn play_live<T: Typist, O: PlayOutput, S: Write>(
     ensures keys { IfOk result (λ play. AreGiven (length play.live.keys.items) play.live.steps play.live.keys.items) }
     ensures played { IfOk result (λ play. IsTypedPlay (sitting (T.typing typist.old).is_patient system.now machine.old steps cues.entry.now)
         (T.typing typist.old) (T.typing typist.new) play.live.keys.items play.live.steps play.end) }
-    ensures text { IfOk result (λ play. Appends (O.got out.old).console (O.got out.new).console
+    ensures text { IfOk result (λ play. Appends (W.contents out.old) (W.contents out.new)
         (alone_by system.now play.live.keys.items play.live.steps machine.old).session.console.screen) }
-    ensures list { IfOk result (λ play. Appends (O.got out.old).list (O.got out.new).list
+    ensures list { IfOk result (λ play. Appends (L.contents list.old) (L.contents list.new)
         (alone_by system.now play.live.keys.items play.live.steps machine.old).session.console.printer) }
     ensures ending { IfOk result (λ play. EndsAs (alone_by system.now play.live.keys.items play.live.steps machine.old) machine.new) }
     ensures record { IfOk result (λ play. Appends (S.contents record.old) (S.contents record.new) (recorded play.live.keys.items)) }
     ensures waits { IfOk result (λ play. (look_of machine.new).waiting ≡ waits_at system.now machine.old play.live.keys.items play.live.steps) }
     ensures refused { IfErr result (IsPlayCut (sitting (T.typing typist.old).is_patient system.now machine.old steps cues.entry.now) machine.new
-        (O.got out.old) (O.got out.new) (S.contents record.old) (S.contents record.new) (T.typing typist.old) (T.typing typist.new)) }
+        (output_state (W.contents out.old) (L.contents list.old)) (output_state (W.contents out.new) (L.contents list.new))
+        (S.contents record.old) (S.contents record.new) (T.typing typist.old) (T.typing typist.new)) }
 {
-    let mut live = play_script(alloc, system, machine, steps, cues, out, record)?;
+    let mut live = play_script(
+        alloc, system, machine, steps, cues, typist, out, list, record,
+    )?;
     let is_patient = typist.is_patient();
     let mut watch = Watch::new();
     let mut asks = u64::MAX;
@@ -283,7 +290,7 @@ pub fn play_live<T: Typist, O: PlayOutput, S: Write>(
                     return Ok(TypedPlay { live, end });
                 }
                 live.steps += executed;
-                show(machine, out)?;
+                show(machine, out, list)?;
             }
         }
     }

@@ -5,9 +5,9 @@ ghost use Rattle.std.specs.Io.KnownBytes.{Appends};
 ghost use Rattle.cpm_play.specs.Pacing.{without_list, without_text};
 ghost use Rattle.cpm_play.specs.Playing.{HasList, HasText};
 
-use crate::output::PlayOutput;
 use cpm_machine::Machine;
 use std::io;
+use std::io::Write;
 
 /// How many steps a turn has at most, so that output appears as it comes.
 pub(crate) const QUANTUM: u64 = 100_000;
@@ -23,14 +23,21 @@ pub(crate) fn quantum_of(machine: &Machine) -> u64
     }
 }
 
-/// How many bytes are taken at once.
-pub(crate) const CHUNK: usize = 8192;
+/// How many bytes are taken at once. (They lie on the stack; no more than some 4,000 wait.)
+pub(crate) const CHUNK: usize = 2048;
+
+/// Writes bytes at once.
+pub(crate) fn write_at_once<W: Write>(out: &mut W, bytes: &[u8]) -> io::Result<()>
+    ensures { OnOk result (Appends (W.contents out.old) (W.contents out.new) bytes.now) }
+{
+    out.write_all(bytes)?;
+    out.flush()
+}
 
 /// Moves all console bytes to the console.
-pub(crate) fn move_text<O: PlayOutput>(machine: &mut Machine, out: &mut O) -> io::Result<()>
+pub(crate) fn move_text<W: Write>(machine: &mut Machine, out: &mut W) -> io::Result<()>
     ensures state { OnOk result (machine.new ≡ without_text machine.old) }
-    ensures text { OnOk result (Appends (O.got out.old).console (O.got out.new).console machine.old.session.console.screen) }
-    ensures list { (O.got out.new).list ≡ (O.got out.old).list }
+    ensures text { OnOk result (Appends (W.contents out.old) (W.contents out.new) machine.old.session.console.screen) }
     ensures refused { OnErr result (HasText machine.old) }
 {
     let mut chunk = [0u8; CHUNK];
@@ -39,15 +46,14 @@ pub(crate) fn move_text<O: PlayOutput>(machine: &mut Machine, out: &mut O) -> io
         if count == 0 {
             return Ok(());
         }
-        out.show(&chunk[..count])?;
+        write_at_once(out, &chunk[..count])?;
     }
 }
 
 /// Moves all list bytes to the list device.
-pub(crate) fn move_list<O: PlayOutput>(machine: &mut Machine, out: &mut O) -> io::Result<()>
+pub(crate) fn move_list<L: Write>(machine: &mut Machine, list: &mut L) -> io::Result<()>
     ensures state { OnOk result (machine.new ≡ without_list machine.old) }
-    ensures list { OnOk result (Appends (O.got out.old).list (O.got out.new).list machine.old.session.console.printer) }
-    ensures console { (O.got out.new).console ≡ (O.got out.old).console }
+    ensures list { OnOk result (Appends (L.contents list.old) (L.contents list.new) machine.old.session.console.printer) }
     ensures refused { OnErr result (HasList machine.old) }
 {
     let mut chunk = [0u8; CHUNK];
@@ -56,6 +62,6 @@ pub(crate) fn move_list<O: PlayOutput>(machine: &mut Machine, out: &mut O) -> io
         if count == 0 {
             return Ok(());
         }
-        out.print(&chunk[..count])?;
+        write_at_once(list, &chunk[..count])?;
     }
 }

@@ -1,7 +1,7 @@
 //! Who types at a machine that is played live, and what is heard of it.
 
-ghost use Rattle.std.specs.Prelude.{◌≡◌, ◌<◌, true, IfOk, None, OnErr};
-ghost use Rattle.cpm_play.specs.Typist.{CanBeHeard, HasHeardNothing, IsHeard, IsHeardPatiently, TypingState, wants_key};
+ghost use Rattle.std.specs.Prelude.{◌≡◌, ◌<◌, false, true, IfOk, None, OnErr};
+ghost use Rattle.cpm_play.specs.Typist.{CanBeHeard, HasAttended, HasHeardNothing, IsHeard, IsHeardPatiently, TypingState, is_over, wants_key};
 ghost use Rattle.cpm_play.specs.declared.typist.KeyNeed.TheVariants.{Wanted};
 
 use crate::typing::next_key;
@@ -55,7 +55,7 @@ pub enum Heard {
 
 /// Who types at a machine. It is asked after each turn of the machine whether there is a key.
 pub trait Typist {
-    // Whether it is patient, what is still to be read of what was typed, and what was heard so far, as far as that is known.
+    // Whether it is patient, what is still to be read of what was typed, and what was heard so far, as far as that is known; and whether it has broken in.
     ghost typing: { Self → TypingState };
 
     /// Whether it waits for a key where one is wanted, and gives none elsewhere. One that doesn't answers at once, also that there is none so far.
@@ -65,6 +65,14 @@ pub trait Typist {
     /// How many steps a turn has at most, after which it is asked again.
     fn most_steps(&self) -> u64
         ensures { 0 < result };
+
+    /// Looks whether it breaks in on a script that is played before, where the machine has executed so many steps.
+    fn look_in(&mut self, count: u64)
+        ensures { HasAttended (typing self.old) (typing self.new) };
+
+    /// Whether it has broken in on a script: that isn't played on. A patient one never does.
+    fn has_broken_in(&self) -> bool
+        ensures { result ≡ is_over (typing self.now) };
 
     /// What it types where the machine can do so much with a key and has executed so many steps. A byte of 80h or more is no key and is passed over.
     fn hear(&mut self, need: KeyNeed, count: u64) -> io::Result<Heard>
@@ -99,7 +107,7 @@ impl<I: Read> KeyReader<I> {
 }
 
 impl<I: Read> Typist for KeyReader<I> {
-    ghost typing = { λ reader. record { is_patient = true; unread = I.remaining reader.input; heard = None } };
+    ghost typing = { λ reader. record { is_patient = true; unread = I.remaining reader.input; heard = None; has_broken_in = false } };
 
     fn is_patient(&self) -> bool {
         true
@@ -107,6 +115,12 @@ impl<I: Read> Typist for KeyReader<I> {
 
     fn most_steps(&self) -> u64 {
         u64::MAX
+    }
+
+    fn look_in(&mut self, _count: u64) {}
+
+    fn has_broken_in(&self) -> bool {
+        false
     }
 
     fn hear(&mut self, need: KeyNeed, _count: u64) -> io::Result<Heard> {

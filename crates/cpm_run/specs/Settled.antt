@@ -14,7 +14,7 @@ use Rattle.cpm_geom.specs.Disk.{Disk}
 use Rattle.cpm_machine.specs.MachineState.{MachineState, opened_machine}
 use Rattle.cpm_play.specs.Cued.{HasEndedCued, IsCued, waits_at}
 use Rattle.cpm_play.specs.Live.{AreGiven}
-use Rattle.cpm_play.specs.Output.{OutputState, console_alone}
+use Rattle.cpm_play.specs.Output.{OutputState, output_state}
 use Rattle.cpm_play.specs.Playing.{alone_by}
 use Rattle.cpm_play.specs.Sitting.{IsTypedPlay, sitting}
 use Rattle.cpm_play.specs.Typist.{TypingState}
@@ -207,7 +207,7 @@ play_streams unread left before written unrecorded record_now = record {
 -- those of a console alone
 abbrev pub streams : (unread left : TypingState) → (before written unrecorded record_now : Option (List ℕ)) → Streams
 streams unread left before written unrecorded record_now =
-    play_streams unread left (console_alone before) (console_alone written) unrecorded record_now
+    play_streams unread left (output_state before None) (output_state written None) unrecorded record_now
 
 -- nobody was heard, and nothing was written
 pub record AreUntouched (io : Streams) : Type 0 where
@@ -219,8 +219,9 @@ pub record AreUntouched (io : Streams) : Type 0 where
 abbrev pub most_steps : ℕ
 most_steps = 2 ^ 64 - 1
 
--- A session that begins so was played by itself by what it says and then by the keys that were typed: it has shown what the machine run alone by these shows,
--- each at the count at which it was accepted; and the record has got just these. It has the steps that were executed meanwhile, up to the last fork.
+-- A session that begins so was played by itself by what it says, or by as much of that as came before who types broke in, and then by the keys that were
+-- typed: it has shown what the machine run alone by these shows, each at the count at which it was accepted; and the record has got just these. It has the
+-- steps that were executed meanwhile, up to the last fork.
 pub record IsTypedBy (system : Disk) (sessions : List SessionConfig) (name : List ℕ) (start : StartInput) (said : List CueText) (io : Streams)
     (keys : List Key) (steps : ℕ) : Type 0 where
   pub done : ℕ

@@ -84,6 +84,7 @@ fn play_part<T: RunWatcher>(
         cued,
         &mut io::sink(),
         &mut io::sink(),
+        &mut io::sink(),
         watcher,
     );
     // (what is dropped can always be written, so that it fails for nothing else)

@@ -18,6 +18,7 @@ use cpm_config::{Config, Origin, place_of};
 use cpm_geom::Image;
 use cpm_play::{LivePlay, Typist, play_live};
 use std::alloc::Global;
+use std::io;
 use std::io::Write;
 
 /// The place of the session that is to be typed at, if one is.
@@ -41,8 +42,8 @@ pub(crate) fn typed_place(
     }
 }
 
-/// Plays a session by itself, by its script and then by the keys that are typed, without a limit of steps. It gives these, each with the count at which it was
-/// accepted, and how many steps the session then has.
+/// Plays a session by itself, by its script and then by the keys that are typed, without a limit of steps. A typist that isn't patient may break in on the
+/// script. What the session prints is dropped. It gives its keys, each with the count at which it was accepted, and how many steps the session then has.
 pub(crate) fn type_at<P: Typist, W: Write, R: Write>(
     alloc: Global,
     config: &Config,
@@ -72,6 +73,7 @@ pub(crate) fn type_at<P: Typist, W: Write, R: Write>(
         session.cues.as_slice(),
         typist,
         out,
+        &mut io::sink(),
         record,
     )?;
     let LivePlay { keys, steps } = play.live;

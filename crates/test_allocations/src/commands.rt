@@ -68,6 +68,7 @@ pub fn typed(alloc: Global) -> Result<CallOutcome, AllocError> {
         source,
         &mut KeyReader::new(keys),
         &mut out,
+        &mut io::sink(),
         &mut record,
         &mut NoWatcher,
     );

@@ -9,6 +9,7 @@ use cpm_host::{
     run_asm_listed, run_program,
 };
 use std::alloc::{AllocError, Global};
+use std::io;
 
 /// A line of the command processor, and a key once its prompt is shown again.
 const WAITS: &[u8] = b"wait DIR^M\nexpect \"A>\" B\n";
@@ -59,6 +60,7 @@ pub fn program(alloc: Global) -> Result<CallOutcome, AllocError> {
         source,
         &mut KeyReader::new(nothing),
         &mut out,
+        &mut io::sink(),
         &mut record,
         &mut NoWatcher,
     );
@@ -95,6 +97,7 @@ pub fn program_typed_at(alloc: Global) -> Result<CallOutcome, AllocError> {
         source,
         &mut KeyReader::new(OTHERS),
         &mut out,
+        &mut io::sink(),
         &mut record,
         &mut NoWatcher,
     );
@@ -133,6 +136,7 @@ pub fn prompt(alloc: Global) -> Result<CallOutcome, AllocError> {
         source,
         &mut KeyReader::new(nothing),
         &mut out,
+        &mut io::sink(),
         &mut record,
         &mut NoWatcher,
     );

@@ -8,7 +8,7 @@ use cpm_flags::Cpu;
 use cpm_geom::{Format, Image};
 use cpm_machine::{Machine, OpenError, Opening, Tail};
 use cpm_memory::FrameStore;
-use cpm_play::{ConsoleAndList, KeyReader, LiveError, PlayOutput, Typist, play_live};
+use cpm_play::{KeyReader, LiveError, Typist, play_live};
 use cpm_slots::{ForkError, Host, SlotId};
 use std::alloc::Global;
 use std::io;
@@ -212,17 +212,28 @@ fn reading(alloc: Global, program: &[u8]) -> Result<Machine, Fail>
 }
 
 /// The kind of the error with which a session of a program ends that reads keys, and whose it is.
-fn fault<T: Typist, O: PlayOutput, S: Write>(
+fn fault<T: Typist, W: Write, L: Write, S: Write>(
     alloc: Global,
     program: &[u8],
     typist: &mut T,
-    out: &mut O,
+    out: &mut W,
+    list: &mut L,
     record: &mut S,
 ) -> Result<(&'static str, Option<ErrorKind>), Fail> {
     let system = blank(alloc)?;
     let mut machine = reading(alloc, program)?;
     Ok(
-        match play_live(alloc, &system, &mut machine, 100, &[], typist, out, record) {
+        match play_live(
+            alloc,
+            &system,
+            &mut machine,
+            100,
+            &[],
+            typist,
+            out,
+            list,
+            record,
+        ) {
             Ok(_) => ("played", None),
             Err(LiveError::Unreadable(error)) => ("unreadable", Some(error.kind())),
             Err(LiveError::Unwritable(error)) => ("unwritable", Some(error.kind())),
@@ -240,17 +251,18 @@ fn a_live_session_names_what_failed(rt: HostRuntime) -> Result<(), Fail> {
     let keys: &[u8] = b"ab";
     let mut typed = KeyReader::new(keys);
     let mut dead = KeyReader::new(FailingConsole);
-    let found = fault(rt.alloc(), READS, &mut dead, &mut text, &mut lines)?;
+    let list = &mut io::sink();
+    let found = fault(rt.alloc(), READS, &mut dead, &mut text, list, &mut lines)?;
     same(&rt, found, ("unreadable", Some(ErrorKind::BrokenPipe)));
     same(&rt, text.len(), 0);
     same(&rt, lines.len(), 0);
     // The echo of the first key can't be written; the key was recorded.
     let out = &mut FailingConsole;
-    let found = fault(rt.alloc(), READS, &mut typed, out, &mut lines)?;
+    let found = fault(rt.alloc(), READS, &mut typed, out, list, &mut lines)?;
     same(&rt, found, ("unwritable", Some(ErrorKind::StorageFull)));
     same(&rt, lines.as_slice(), b"3 a\n".as_slice());
     let record = &mut FailingConsole;
-    let found = fault(rt.alloc(), READS, &mut typed, &mut text, record)?;
+    let found = fault(rt.alloc(), READS, &mut typed, &mut text, list, record)?;
     same(&rt, found, ("unrecorded", Some(ErrorKind::StorageFull)));
     same(&rt, text.len(), 0);
     Ok(())
@@ -263,11 +275,8 @@ fn a_live_session_names_a_list_device_that_failed(rt: HostRuntime) -> Result<(),
     let mut lines = Vec::new(rt.alloc());
     let keys: &[u8] = b"a";
     let mut typed = KeyReader::new(keys);
-    let mut both = ConsoleAndList {
-        console: &mut text,
-        list: &mut FailingConsole,
-    };
-    let found = fault(rt.alloc(), PRINTS, &mut typed, &mut both, &mut lines)?;
+    let list = &mut FailingConsole;
+    let found = fault(rt.alloc(), PRINTS, &mut typed, &mut text, list, &mut lines)?;
     same(&rt, found, ("unprinted", Some(ErrorKind::StorageFull)));
     same(&rt, text.as_slice(), b"a".as_slice());
     same(&rt, lines.as_slice(), b"3 a\n".as_slice());

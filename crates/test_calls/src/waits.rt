@@ -10,6 +10,7 @@ use cpm_machine::{Machine, Opening};
 use cpm_play::{CuedKeys, NoWatcher, play_cues};
 use cpm_script::Cue;
 use std::alloc::Global;
+use std::io;
 use std::test::Fail;
 
 /// Shows `FIRST`, the text behind it 256 times, and `LAST`, and then reads a key.
@@ -65,6 +66,7 @@ fn played(alloc: Global, first: &[u8], second: &[u8]) -> Result<(usize, usize), 
         1_000_000,
         cued,
         &mut text,
+        &mut io::sink(),
         &mut record,
         &mut NoWatcher,
     )?;

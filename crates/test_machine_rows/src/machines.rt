@@ -44,6 +44,8 @@ pub struct Play {
     pub stops_idle: bool,
     /// What is played before who types.
     pub script: Vec<u8>,
+    /// After how many steps one who doesn't wait breaks in on it.
+    pub breaks_in: Option<u64>,
     pub steps: u64,
     pub text: Vec<u8>,
     pub printed: Vec<u8>,
@@ -60,6 +62,7 @@ impl Play {
             waits_from: 0,
             stops_idle: false,
             script: Vec::new(alloc),
+            breaks_in: None,
             steps: 0,
             text: Vec::new(alloc),
             printed: Vec::new(alloc),

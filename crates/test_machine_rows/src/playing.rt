@@ -5,8 +5,8 @@ use crate::timed_typist::TimedTypist;
 use cpm_geom::Image;
 use cpm_machine::Machine;
 use cpm_play::{
-    ConsoleAndList, CuedKeys, KeyReader, LivePlay, NoWatcher, PlayEnd, TypedPlay, TypingEnd,
-    Typist, play_cues, play_live,
+    CuedKeys, KeyReader, LivePlay, NoWatcher, PlayEnd, TypedPlay, TypingEnd, Typist, play_cues,
+    play_live,
 };
 use cpm_script::laws::cues_in_order;
 use cpm_script::read_cues;
@@ -32,6 +32,7 @@ impl Machines {
             "waits-from"
                 | "stops-idle"
                 | "script"
+                | "breaks-in"
                 | "play"
                 | "live"
                 | "listen"
@@ -61,6 +62,10 @@ impl Machines {
             }
             ("script", script) => {
                 self.play.script = line.given(alloc, script)?;
+                Ok(RowAnswer::Done)
+            }
+            ("breaks-in", [steps]) => {
+                self.play.breaks_in = Some(number(*steps)?);
                 Ok(RowAnswer::Done)
             }
             ("live", arguments) => self.live(alloc, line, arguments),
@@ -128,12 +133,13 @@ impl Machines {
         self.keep(alloc, played)
     }
 
-    /// `listen STEPS HEARING..`: by the script, if there is one, and then by one who types at these counts.
+    /// `listen STEPS HEARING..`: by the script, if there is one, and then by one who types at these counts, and breaks in on the script where `breaks-in` says
+    /// so.
     fn listen(&mut self, alloc: Global, arguments: &[Word<'_>]) -> Result<RowAnswer, RowFault> {
         let [steps, hearings @ ..] = arguments else {
             return Err(RowFault::Words);
         };
-        let mut typist = TimedTypist::of(alloc, hearings)?;
+        let mut typist = TimedTypist::of(alloc, hearings, self.play.breaks_in)?;
         let played = self.by_typist(alloc, number(*steps)?, &mut typist)?;
         self.play.left = typist.left(alloc)?;
         self.keep(alloc, played)
@@ -185,14 +191,6 @@ impl Machines {
     }
 }
 
-/// Output of which the console goes to one vector, and the list device to another.
-fn both_to<'a>(
-    console: &'a mut Vec<u8>,
-    list: &'a mut Vec<u8>,
-) -> ConsoleAndList<'a, Vec<u8>, Vec<u8>> {
-    ConsoleAndList { console, list }
-}
-
 /// Plays a machine by a script.
 fn by_script(
     alloc: Global,
@@ -222,7 +220,8 @@ fn by_script(
         &mut machine,
         steps,
         cued,
-        &mut both_to(&mut text, &mut printed),
+        &mut text,
+        &mut printed,
         &mut record,
         &mut NoWatcher,
     );
@@ -263,7 +262,8 @@ fn typed_at<T: Typist>(
         steps,
         cues,
         typist,
-        &mut both_to(&mut text, &mut printed),
+        &mut text,
+        &mut printed,
         &mut record,
     ) {
         Ok(TypedPlay { live, end }) => Ok(PlayedMachine {

@@ -33,6 +33,9 @@ pub struct TimedTypist {
     typed: usize,
     /// How often it was asked since the last key where one is wanted.
     waited: u64,
+    /// After how many steps it breaks in on a script, if ever.
+    breaks_in: Option<u64>,
+    has_broken_in: bool,
 }
 
 /// Whether a byte is a key, which ^] is not, since it ends a live session.
@@ -90,8 +93,13 @@ impl TimedHearing {
 }
 
 impl TimedTypist {
-    /// One who types `COUNT: BYTES`, or `COUNT: quit`, `COUNT: input-end` or `COUNT: signal`, one after another.
-    pub fn of(alloc: Global, words: &[Word<'_>]) -> Result<TimedTypist, RowFault> {
+    /// One who types `COUNT: BYTES`, or `COUNT: quit`, `COUNT: input-end` or `COUNT: signal`, one after another; and who breaks in on a script after so many
+    /// steps, if at all.
+    pub fn of(
+        alloc: Global,
+        words: &[Word<'_>],
+        breaks_in: Option<u64>,
+    ) -> Result<TimedTypist, RowFault> {
         let mut hearings = Vec::new(alloc);
         for (place, word) in words.iter().enumerate() {
             if let Some(count) = count_text(*word) {
@@ -106,6 +114,8 @@ impl TimedTypist {
             done: 0,
             typed: 0,
             waited: 0,
+            breaks_in,
+            has_broken_in: false,
         })
     }
 
@@ -123,7 +133,9 @@ impl TimedTypist {
     }
 
     /// Whether what comes next comes now. Where a machine waits it has waited for once more.
-    fn is_due(&mut self, need: KeyNeed, count: u64) -> bool {
+    fn is_due(&mut self, need: KeyNeed, count: u64) -> bool
+        ensures { self.new.has_broken_in ≡ self.old.has_broken_in }
+    {
         let Some(next) = self.hearings.get(self.done) else {
             return need.wants_key();
         };
@@ -146,7 +158,8 @@ impl TimedTypist {
 
     /// The next key.
     fn key(&mut self) -> Option<u8>
-        ensures { IfSome result (λ byte. (byte < 128) × (byte ≢ end_key)) }
+        ensures key { IfSome result (λ byte. (byte < 128) × (byte ≢ end_key)) }
+        ensures still { self.new.has_broken_in ≡ self.old.has_broken_in }
     {
         let next = self.hearings.get(self.done)?;
         let byte = *next.keys.get(self.typed)?;
@@ -178,7 +191,7 @@ fn own_words<'a>(
 }
 
 impl Typist for TimedTypist {
-    ghost typing = { λ typist. record { is_patient = false; unread = None; heard = None } };
+    ghost typing = { λ typist. record { is_patient = false; unread = None; heard = None; has_broken_in = typist.has_broken_in } };
 
     fn is_patient(&self) -> bool {
         false
@@ -186,6 +199,18 @@ impl Typist for TimedTypist {
 
     fn most_steps(&self) -> u64 {
         u64::MAX
+    }
+
+    fn look_in(&mut self, count: u64) {
+        if let Some(least) = self.breaks_in
+            && least <= count
+        {
+            self.has_broken_in = true;
+        }
+    }
+
+    fn has_broken_in(&self) -> bool {
+        self.has_broken_in
     }
 
     fn hear(&mut self, need: KeyNeed, count: u64) -> io::Result<Heard> {

@@ -7,6 +7,7 @@ use cpm_host::{
     run_program,
 };
 use std::alloc::Global;
+use std::io;
 use std::io::Write;
 use test_language::{RowAnswer, RowFault, RowLine, Word};
 
@@ -173,6 +174,7 @@ fn by_script<W: Write>(
         source,
         &mut KeyReader::new(nothing),
         out,
+        &mut io::sink(),
         record,
         &mut NoWatcher,
     )
@@ -201,6 +203,7 @@ fn by_keys<W: Write>(
         source,
         &mut KeyReader::new(typed),
         out,
+        &mut io::sink(),
         record,
         &mut NoWatcher,
     )

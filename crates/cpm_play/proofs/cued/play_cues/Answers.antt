@@ -1,5 +1,6 @@
-use Rattle.std.proofs.Common.{inl, inr, arith}
+use Rattle.std.proofs.Common.{inl, inr, arith, refl}
 use Rattle.std.proofs.lemmas.Result.{err_from_is_err_and}
+use Rattle.cpm_play.specs.Output.{output_state}
 use Rattle.cpm_play.proofs.CuedLemmas.{cued-whole, going-cut, idle-ends, idle-going}
 use Rattle.cpm_play.proofs.GoingLemmas.{going-ending, going-given, going-printed, going-shown, going-waiting}
 use Rattle.cpm_play.proofs.RoomLemmas.{cued-room}
@@ -18,7 +19,7 @@ returns-in_err-idle-clause-refused g c =
     let cut = c.in_err-idle.ensures.refused in
     let fits = cut.1 in
     let within = c.in_ok-live.ensures.going.within in
-    rw (p.1, p.2) (going-cut c.args.cued.waits_from c.args.cued.cues.now c.in_ok-live.ensures.going c.idle.new.machine (g.O.PlayOutput.got c.idle.new.out) c.in_err-idle.field-0.0 cut.0 cut.1 cut.2
+    rw (p.1, p.2) (going-cut c.args.cued.waits_from c.args.cued.cues.now c.in_ok-live.ensures.going c.idle.new.machine (output_state (g.W.Write.contents c.idle.new.out) (g.L.Write.contents c.idle.new.list)) c.in_err-idle.field-0.0 cut.0 cut.1 cut.2
     (c.in_ok-live.ensures.keys _ (omega arith) (omega arith)))
 
 pub returns-clause-keys : goal.returns-clause-keys
@@ -56,11 +57,11 @@ returns-clause-record g c =
 
 pub returns-clause-ends : goal.returns-clause-ends
 returns-clause-ends g c =
-    idle-ends c.in_ok-live.ensures.going c.in_ok-idle.ensures.idled c.args.cued.waits_from c.args.cued.stops_idle c.idle.new.self.keys.items c.idle.ensures.still
+    idle-ends c.in_ok-live.ensures.going c.in_ok-idle.ensures.idled refl c.args.cued.waits_from c.args.cued.stops_idle c.idle.new.self.keys.items c.idle.ensures.still
     (elim c.if-cued.branch [
       | then-cued w ↦ inl (w.if-cued.true, w.waits_from-is)
       | else-cued w ↦ inr (w.if-cued.false, w.waits_from-is)
-    ]) c.in_ok-idle.ensures.within c.in_ok-live.ensures.busy
+    ]) c.in_ok-idle.ensures.within (c.in_ok-live.ensures.busy refl)
 
 pub returns-clause-waits : goal.returns-clause-waits
 returns-clause-waits g c =

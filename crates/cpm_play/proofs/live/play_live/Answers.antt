@@ -1,6 +1,7 @@
 use Rattle.std.proofs.Common.{◌≡◌, ◌-◌, ◌<◌, ◌^◌, ◌∙◌, refl, ap, arith, inr, sym}
 use Rattle.std.proofs.lemmas.Result.{err_from_is_err_and}
 use Rattle.cpm_machine.specs.Step.{after}
+use Rattle.cpm_play.specs.Output.{output_state}
 use Rattle.cpm_play.specs.Sitting.{sitting}
 use Rattle.cpm_play.specs.Typist.{IsHeard}
 use Rattle.cpm_play.specs.declared.typist.Heard.TheVariants as heard
@@ -11,10 +12,10 @@ use Rattle.cpm_play.proofs.live.play_live.Goals as goal
 
 pub loop-live-init : goal.loop-live-init
 loop-live-init g c = (
-  live-start (sitting (g.T.Typist.typing c.args.typist.now).is_patient c.args.system.now c.args.machine.now c.args.steps c.args.cues.now) _ c.play_script.new.machine (g.O.PlayOutput.got c.args.out.now) (g.O.PlayOutput.got c.play_script.new.out)
-      (g.S.Write.contents c.args.record.now) (g.S.Write.contents c.play_script.new.record) (g.T.Typist.typing c.args.typist.now) c.in_ok-live.live.keys.items c.in_ok-live.live.steps c.new-watch.result
-      c.in_ok-live.ensures.going c.in_ok-live.ensures.keys c.in_ok-live.ensures.none c.new-watch.ensures,
-  refl,
+  live-start (sitting (g.T.Typist.typing c.args.typist.now).is_patient c.args.system.now c.args.machine.now c.args.steps c.args.cues.now) _ c.play_script.new.machine (output_state (g.W.Write.contents c.args.out.now) (g.L.Write.contents c.args.list.now)) (output_state (g.W.Write.contents c.play_script.new.out) (g.L.Write.contents c.play_script.new.list))
+      (g.S.Write.contents c.args.record.now) (g.S.Write.contents c.play_script.new.record) (g.T.Typist.typing c.args.typist.now) (g.T.Typist.typing c.play_script.new.typist) c.in_ok-live.live.keys.items c.in_ok-live.live.steps c.new-watch.result
+      c.in_ok-live.ensures.going refl c.play_script.ensures.attended c.in_ok-live.ensures.keys c.in_ok-live.ensures.none c.new-watch.ensures,
+  c.play_script.ensures.attended.nature,
 )
 
 pub returns-in_err-end-clause-refused : goal.returns-in_err-end-clause-refused
@@ -101,7 +102,7 @@ loop-live-preserved g c =
     let is : IsHeard c.loop-live.live.steps (g.T.Typist.typing c.loop-live.typist) (g.T.Typist.typing c.hear.new.typist) heard.Nothing = rw c.in-Nothing-2.is at c.in_ok-end.ensures.heard in
     let some : 0 < c.turn-executed.result = let more = c.if-executed-eq0.false in omega (arith, more) in
     let busy = busy-here live.going (live-watched live) c.look.result c.look.ensures c.need-need.result c.need-need.ensures (not-wanted c.need-need.result (sym c.wants_key.ensures ∙ c.if-wants_key.false)) in (
-      live-turn live (g.T.Typist.typing c.hear.new.typist) c.turn-executed.result c.turn-executed.new.machine c.show.new.machine (g.O.PlayOutput.got c.show.new.out) c.turn-executed.new.watch is
+      live-turn live (g.T.Typist.typing c.hear.new.typist) c.turn-executed.result c.turn-executed.new.machine c.show.new.machine (output_state (g.W.Write.contents c.show.new.out) (g.L.Write.contents c.show.new.list)) c.turn-executed.new.watch is
           some (let least = c.min-most.ensures in let few = c.turn-executed.ensures.within in omega arith) c.turn-executed.ensures.few busy c.turn-executed.ensures.state c.turn-executed.ensures.watched c.in_ok-show-in-Nothing-2.ensures.state c.in_ok-show-in-Nothing-2.ensures.output,
       c.hear.ensures.nature ∙ c.loop-live.invariant.1,
     )
@@ -111,7 +112,7 @@ returns-in_err-show-in-Nothing-2-clause-refused g c =
     let p = err_from_is_err_and c.from_residual-in_err-show-in-Nothing-2.result c.from_residual-in_err-show-in-Nothing-2.ensures.1 in
     let live = c.loop-live.invariant.0 in
     let is : IsHeard c.loop-live.live.steps (g.T.Typist.typing c.loop-live.typist) (g.T.Typist.typing c.hear.new.typist) heard.Nothing = rw c.in-Nothing-2.is at c.in_ok-end.ensures.heard in
-    rw (p.1, p.2) (inr (live-unshown live (g.T.Typist.typing c.hear.new.typist) c.turn-executed.result c.turn-executed.new.machine c.show.new.machine (g.O.PlayOutput.got c.show.new.out) c.in_err-show-in-Nothing-2.field-0.0 is
+    rw (p.1, p.2) (inr (live-unshown live (g.T.Typist.typing c.hear.new.typist) c.turn-executed.result c.turn-executed.new.machine c.show.new.machine (output_state (g.W.Write.contents c.show.new.out) (g.L.Write.contents c.show.new.list)) c.in_err-show-in-Nothing-2.field-0.0 is
     (let least = c.min-most.ensures in let few = c.turn-executed.ensures.within in omega arith) c.turn-executed.ensures.state c.in_err-show-in-Nothing-2.ensures.refused))
 
 pub returns-clause-within : goal.returns-clause-within
