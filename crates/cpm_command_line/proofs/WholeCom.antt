@@ -61,14 +61,14 @@ repeated_words name = record { action = inr (inr (inl refl)); values = inl refl 
 
 com_plain : IsPlain com_built.rules
 com_plain = plain_by_ids com_built.rules refl
-    (operand_word _ _, (free_words _ _, (flag_word _, (count_word _, (value_word _, (repeated_words _, (repeated_words _, (flag_word _, (value_word _, (flag_word _, (flag_word _, (flag_word _, (flag_word _, (flag_word _, (flag_word _, (value_word _, (count_word _, (value_word _, (repeated_words _, (help_word, tt))))))))))))))))))))
+    (operand_word _ _, (free_words _ _, (flag_word _, (count_word _, (value_word _, (repeated_words _, (repeated_words _, (flag_word _, (value_word _, (flag_word _, (flag_word _, (flag_word _, (flag_word _, (flag_word _, (flag_word _, (value_word _, (count_word _, (value_word _, (repeated_words _, (value_word _, (help_word, tt)))))))))))))))))))))
 
 com_shorts : HasHelpShorts com_built.rules
 com_shorts x a is = help_found x a is
 
 boot_plain : IsPlain boot_built.rules
 boot_plain = plain_by_ids boot_built.rules refl
-    (free_words _ _, (flag_word _, (count_word _, (value_word _, (repeated_words _, (flag_word _, (value_word _, (flag_word _, (flag_word _, (flag_word _, (flag_word _, (flag_word _, (flag_word _, (value_word _, (count_word _, (value_word _, (repeated_words _, (help_word, tt))))))))))))))))))
+    (free_words _ _, (flag_word _, (count_word _, (value_word _, (repeated_words _, (flag_word _, (value_word _, (flag_word _, (flag_word _, (flag_word _, (flag_word _, (flag_word _, (flag_word _, (value_word _, (count_word _, (value_word _, (repeated_words _, (value_word _, (help_word, tt)))))))))))))))))))
 
 boot_shorts : HasHelpShorts boot_built.rules
 boot_shorts x a is = help_found x a is
@@ -103,7 +103,7 @@ last_rules =
     filled (repeated_option (codes "out-disk")) ∷ flag_rule (codes "keyboard") ∷ filled (value_option (codes "record")) ∷ flag_rule (codes "progress")
     ∷ flag_rule (codes "stop-idle") ∷ flag_rule (codes "raw") ∷ flag_rule (codes "quiet") ∷ flag_rule (codes "partial") ∷ flag_rule (codes "status")
     ∷ filled (value_option (codes "replay")) ∷ count_rule (codes "pace") ∷ filled (value_option (codes "system"))
-    ∷ filled (repeated_option (codes "out-folder")) ∷ filled help_rule ∷ []
+    ∷ filled (repeated_option (codes "out-folder")) ∷ filled (value_option (codes "list")) ∷ filled help_rule ∷ []
 
 -- words with no fault give a command with these arguments the whole entries of them
 play_whole : (s : Shape) → IsPlain s.rules → HasHelpShorts s.rules → IsIn s.rules z80_rule → IsIn s.rules (count_rule (codes "steps"))

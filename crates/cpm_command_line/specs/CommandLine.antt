@@ -55,11 +55,11 @@ with_playing a = with_rule (with_rule (with_rule (with_rule (with_rule (with_rul
     (repeated_option (codes "out-disk"))) (flag (codes "keyboard"))) (value_option (codes "record")))
     (flag (codes "progress"))) (flag (codes "stop-idle"))) (flag (codes "raw"))) (flag (codes "quiet"))
 
--- own: `[--partial] [--status] [--replay RECORDING] [--pace N] [--system IMAGE] [--out-folder FOLDER]..` after these
+-- own: `[--partial] [--status] [--replay RECORDING] [--pace N] [--system IMAGE] [--out-folder FOLDER].. [--list FILE]` after these
 abbrev pub with_ending : App → App
-with_ending a = with_rule (with_rule (with_rule (with_rule (with_rule (with_rule a
+with_ending a = with_rule (with_rule (with_rule (with_rule (with_rule (with_rule (with_rule a
     (flag (codes "partial"))) (flag (codes "status"))) (value_option (codes "replay"))) (count_option (codes "pace")))
-    (value_option (codes "system"))) (repeated_option (codes "out-folder"))
+    (value_option (codes "system"))) (repeated_option (codes "out-folder"))) (value_option (codes "list"))
 
 -- own: `com FILE [TAIL..] [--z80] [--steps N] [--keys SCRIPT] [--disk IMAGE]..` and the options after these
 abbrev pub com_app : App
@@ -161,6 +161,7 @@ HasPlayEntries rows task =
     × ReadsCountIfAny (one_of (codes "pace") rows) task.pace
     × (first_of (codes "system") rows ≡ option_map (λ t. t.now) task.system)
     × ReadsWordsIfAny (all_of (codes "out-folder") rows) task.out_folders.items
+    × (first_of (codes "list") rows ≡ option_map (λ t. t.now) task.list)
 
 -- own: the keys of `boot` are typed where `--keyboard` is given, and where neither `--keys` nor `--replay` is
 pub record IsTyped (rows : List Row) (is_live : Bool) : Type 0 where

@@ -6,7 +6,7 @@ Usage: cpmhost boot [PLACE..] [--z80] [--steps N] [--keys SCRIPT]
        [--out-disk IMAGE].. [--keyboard] [--record SCRIPT] [--progress]
        [--stop-idle] [--raw] [--quiet] [--partial] [--status]
        [--replay RECORDING] [--pace N] [--system IMAGE]
-       [--out-folder FOLDER]..
+       [--out-folder FOLDER].. [--list FILE]
 
 Start CP/M at its prompt A>. The first PLACE is in drive A, and further ones are
 in B, C and D. A PLACE is the image of a disk, or a folder, whose files are
@@ -43,6 +43,8 @@ Options:
               this folder; given again, those in B, C and D. FOLDER may be the
               PLACE itself. Files that were erased stay there, and so do those
               of users other than 0, which are told
+  --list FILE
+              write what is sent to the printer to FILE
   --partial   write what --out-disk and --out-folder name also where CP/M was
               cut off by its limit of steps
   --progress  report on standard error how much of the steps is done. It goes

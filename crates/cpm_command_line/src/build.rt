@@ -59,6 +59,7 @@ const HOST_COMMANDS: [NamedCommand; 7] = [
             Argument::Count("pace"),
             Argument::Value("system", "IMAGE"),
             Argument::Values("out-folder", "FOLDER"),
+            Argument::Value("list", "FILE"),
         ],
     ),
     (
@@ -81,6 +82,7 @@ const HOST_COMMANDS: [NamedCommand; 7] = [
             Argument::Count("pace"),
             Argument::Value("system", "IMAGE"),
             Argument::Values("out-folder", "FOLDER"),
+            Argument::Value("list", "FILE"),
         ],
     ),
     (

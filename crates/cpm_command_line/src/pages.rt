@@ -40,7 +40,7 @@ Usage: cpmhost com FILE [TAIL..] [--z80] [--steps N] [--keys SCRIPT]
        [--disk IMAGE].. [--out-disk IMAGE].. [--keyboard] [--record SCRIPT]
        [--progress] [--stop-idle] [--raw] [--quiet] [--partial] [--status]
        [--replay RECORDING] [--pace N] [--system IMAGE]
-       [--out-folder FOLDER]..
+       [--out-folder FOLDER].. [--list FILE]
 
 Run the CP/M program in FILE, such as a .COM file, with the words TAIL..
 after its name on the command line of CP/M, and print what it writes to its
@@ -78,6 +78,8 @@ Options:
   --out-folder FOLDER
               write the files of the disk in drive A that are new or changed to
               this folder; given again, those in B, C and D
+  --list FILE
+              write what is sent to the printer to FILE
   --partial   write what --out-disk and --out-folder name also where the program
               was cut off by its limit of steps
   --keyboard  take the keys from standard input as they are typed; '^]', Control

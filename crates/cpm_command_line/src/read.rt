@@ -56,6 +56,7 @@ fn play_task<'a>(
         pace: count_if_any(matches, "pace"),
         system: text_if_any(matches, "system"),
         out_folders,
+        list: text_if_any(matches, "list"),
     }
 }
 

@@ -45,12 +45,13 @@ pub enum Task<'a> {
 ///
 /// `com FILE [TAIL..] [--z80] [--steps N] [--keys SCRIPT] [--disk IMAGE].. [--out-disk IMAGE]..
 /// [--keyboard] [--record SCRIPT] [--progress] [--stop-idle] [--raw] [--quiet] [--partial] [--status]
-/// [--replay RECORDING] [--pace N] [--system IMAGE] [--out-folder FOLDER]..`: run the program in FILE.
+/// [--replay RECORDING] [--pace N] [--system IMAGE] [--out-folder FOLDER].. [--list FILE]`: run the program
+/// in FILE.
 ///
 /// `boot [PLACE..] [--z80] [--steps N] [--keys SCRIPT] [--out-disk IMAGE].. [--keyboard]
 /// [--record SCRIPT] [--progress] [--stop-idle] [--raw] [--quiet] [--partial] [--status]
-/// [--replay RECORDING] [--pace N] [--system IMAGE] [--out-folder FOLDER]..`: start CP/M with these
-/// drives.
+/// [--replay RECORDING] [--pace N] [--system IMAGE] [--out-folder FOLDER].. [--list FILE]`: start CP/M
+/// with these drives.
 #[derive(Debug, PartialEq, Eq, Drop)]
 pub struct PlayTask<'a> {
     /// The file that the program is in. There is one for `com`, and none for `boot`.
@@ -93,6 +94,8 @@ pub struct PlayTask<'a> {
     pub system: Option<&'a str>,
     /// The folders that the files of these drives are written to, where they are new or changed.
     pub out_folders: Vec<&'a str>,
+    /// The file for what the machine prints, if it is kept.
+    pub list: Option<&'a str>,
 }
 
 /// `run CONFIG [--keyboard NAME] [--record SCRIPT] [--progress] [--stop-idle] [--record-all FOLDER] [--raw]

@@ -32,7 +32,7 @@ use Rattle.cpm_store.specs.Files.{StoreName}
 use Rattle.cpm_store.specs.Log.{StoreAccess, Gave, LogLeadsBy, Wrote, writes_of}
 use Rattle.cpm_store.specs.Writes.{NamedBytes}
 use Rattle.cpm_commands.specs.Drives.{AreDrivesRead, AreReadBy, IsFileRead, IsPlaceRead, files_given, inputs_of_place, inputs_of_places}
-use Rattle.cpm_commands.specs.Left.{IsLeftFor, drive_outputs, has_no_folder, outputs_with, outs_of, plan_of_left, record_of_play}
+use Rattle.cpm_commands.specs.Left.{IsLeftFor, drive_outputs, has_no_folder, list_of_play, named_list, outputs_with, outs_of, plan_of_left, record_of_play}
 use Rattle.cpm_commands.specs.Play.{AreCuesRead, AreKeysReadBy, AreRecordedRead, IsProgramRead, IsSystemRead, ReadActs, plan_of_play, task_starts, write_acts}
 use Rattle.cpm_commands.specs.Laws.{FollowsPlans, IsAsPlanned, IsPlanned, ProgramsFollowPlans, RunsFollowPlans}
 use Rattle.cpm_commands.specs.Plan.{Plan, PlannedName, all_planned, planned_if_any}
@@ -153,6 +153,11 @@ module _ (P : StoreName → Type 0) where
   drives_such role (name ∷ names) [] such = no_files
   drives_such role (name ∷ names) (d ∷ drives) such =
       files_joined (named_image (Some name) d) (drive_outputs names drives) (image_such role (Some name) d (such.0, tt)) (drives_such role names drives such.1)
+
+  -- what was printed
+  pub list_such : (role : FileRole) (name : Option StoreName) (printed : Option (List ℕ)) → AreSuch (planned_if_any role name) → AreSuchFiles (named_list name printed)
+  list_such role name None such = no_files
+  list_such role name (Some bytes) such = bytes_such role name bytes such
 
 -- what is planned is among what is planned
 such_itself : (ps : List PlannedName) → AreSuch (IsPlanned ps) ps
@@ -338,17 +343,26 @@ planned_files P role (q ∷ qs) such = file_more P q.0 q.1 qs such.0 (planned_fi
 
 -- what is written was planned
 module _ {F : Type 0} (acts : ReadActs F) (gives_names : F → Option HostError → F → Type 0) (task : PlayTask) (places : List DrivePlace)
-    (starts : List (StoreName × Option Disk)) (drives : List (Option Disk)) (old seen read new : F) (unwritten : List (List ℕ × NamedFile)) where
+    (starts : List (StoreName × Option Disk)) (printed : Option (List ℕ)) (drives : List (Option Disk)) (old seen read new : F) (unwritten : List (List ℕ × NamedFile)) where
   abbrev played_plan : Plan
   played_plan = plan_of_play task places
 
-  images_led : (log : List StoreAccess) → log ≡ writes_of (drive_outputs (outs_of task) drives) → All (IsAsPlanned played_plan) log
-  images_led log calls =
+  abbrev alone : List NamedBytes
+  alone = outputs_with (list_of_play task) (outs_of task) printed drives []
+
+  alone_led : (log : List StoreAccess) → log ≡ writes_of alone → All (IsAsPlanned played_plan) log
+  alone_led log calls =
       let O = IsPlanned played_plan.outputs in
       let images = all_planned Image (outs_of task) in
       let folders = all_planned Folder (map (λ n. n.now) task.out_folders.items) in
-      let both = such_left O (images ++ folders) (planned_if_any Plain (record_of_play task)) (such_itself played_plan.outputs) in
-      all_written played_plan (drive_outputs (outs_of task) drives) log calls (drives_such O Image (outs_of task) drives (such_left O images folders both))
+      let recorded = planned_if_any Plain (record_of_play task) in
+      let listed = planned_if_any Plain (list_of_play task) in
+      let all = such_itself played_plan.outputs in
+      let both = such_left O (images ++ folders) recorded (such_left O (images ++ folders ++ recorded) listed all) in
+      all_written played_plan alone log calls
+      (files_joined O (named_list (list_of_play task) printed) (drive_outputs (outs_of task) drives)
+      (list_such O Plain (list_of_play task) printed (such_right O (images ++ folders ++ recorded) listed all))
+      (drives_such O Image (outs_of task) drives (such_left O images folders both)))
 
   left_led : (outputs : List NamedBytes) (log : List StoreAccess) → log ≡ writes_of outputs → All (IsAsPlanned (plan_of_left outputs (record_of_play task))) log
   left_led outputs log calls =
@@ -358,12 +372,12 @@ module _ {F : Type 0} (acts : ReadActs F) (gives_names : F → Option HostError 
       (planned_files O Plain outputs (such_left O (all_planned Plain (map (λ q. q.0) outputs)) (planned_if_any Plain (record_of_play task)) (such_itself second.outputs)))
 
   follows : (has_none : Bool) → acts.sees_to old played_plan None seen → IsLed acts.does played_plan seen read
-      → IsLeftFor has_none (write_acts acts gives_names) task starts drives read new unwritten → FollowsPlans has_none acts gives_names task played_plan old new
+      → IsLeftFor has_none (write_acts acts gives_names) task starts printed drives read new unwritten → FollowsPlans has_none acts gives_names task played_plan old new
   follows true sees reads left = record {
     seen = seen;
     ended = left.0.written;
     sees = sees;
-    calls = led_on acts.does played_plan seen read left.0.written reads (left.0.calls.0, images_led left.0.calls.0 left.0.calls.1, left.0.calls.2);
+    calls = led_on acts.does played_plan seen read left.0.written reads (left.0.calls.0, alone_led left.0.calls.0 left.0.calls.1, left.0.calls.2);
     named = left.0.named;
   }
   follows false sees reads left =
@@ -371,6 +385,7 @@ module _ {F : Type 0} (acts : ReadActs F) (gives_names : F → Option HostError 
       record {
         seen = seen;
         read = read;
+        printed = printed;
         drives = drives;
         left = left.left;
         sees = sees;
@@ -379,13 +394,13 @@ module _ {F : Type 0} (acts : ReadActs F) (gives_names : F → Option HostError 
           seen = w.seen;
           ended = w.written.written;
           sees = w.sees;
-          calls = (w.written.calls.0, left_led (outputs_with (outs_of task) drives left.left) w.written.calls.0 w.written.calls.1, w.written.calls.2);
+          calls = (w.written.calls.0, left_led (outputs_with (list_of_play task) (outs_of task) printed drives left.left) w.written.calls.0 w.written.calls.1, w.written.calls.2);
           named = w.written.named;
         };
       }
 
 pub programs_follow : {F : Type 0} (acts : ReadActs F) (gives_names : F → Option HostError → F → Type 0) (ended : Option HostError → Type 0)
-    (told : List (List ℕ × NamedFile) → Ending → (waits : Bool) → Option PlayEnd → Type 0) → ProgramsFollowPlans acts gives_names ended told
+    (told : List (List ℕ × NamedFile) → Ending → (waits : Bool) → Option PlayEnd → (dropped : Bool) → Type 0) → ProgramsFollowPlans acts gives_names ended told
 programs_follow {F} acts gives_names ended told task io old new status h =
     let p = h.played in
     let r = p.reads in
@@ -410,4 +425,4 @@ programs_follow {F} acts gives_names ended told task io old new status h =
     (such_both I script recording (such_right I (file ++ places ++ system) script scripted) (such_right I (file ++ places ++ system ++ script) recording ins)) in
     let begun = led_on acts.does plan r.seen r.start.begun r.started program (led_on acts.does plan r.start.begun r.start.between r.started disks drive) in
     let reads = led_on acts.does plan r.seen r.started h.read begun said in
-    (p.places, r.prepared.found, follows acts gives_names task p.places (task_starts task p.g) h.play.drives old r.seen h.read new h.unwritten (has_no_folder task) r.prepared.sees reads h.left)
+    (p.places, r.prepared.found, follows acts gives_names task p.places (task_starts task p.g) h.printed h.play.drives old r.seen h.read new h.unwritten (has_no_folder task) r.prepared.sees reads h.left)

@@ -18,7 +18,7 @@ use Rattle.cpm_store.specs.Log.{StoreAccess, Gave, LogLeadsBy, Missed, Wrote}
 use Rattle.cpm_store.specs.Writes.{NamedBytes}
 use Rattle.cpm_commands.specs.Drives.{ArePlacesFound}
 use Rattle.cpm_commands.specs.Plan.{Plan, PlannedName}
-use Rattle.cpm_commands.specs.Left.{has_no_folder, outputs_with, outs_of, plan_of_left, record_of_play}
+use Rattle.cpm_commands.specs.Left.{has_no_folder, list_of_play, outputs_with, outs_of, plan_of_left, record_of_play}
 use Rattle.cpm_commands.specs.Play.{HasPlayedTask, ReadActs, plan_of_play}
 use Rattle.cpm_commands.specs.Run.{ArePlayedBack, AreScripts, HasRunSessions, IsConfigRead, plan_by}
 use Rattle.cpm_commands.specs.declared.drives.DrivePlace.{DrivePlace}
@@ -57,11 +57,13 @@ pub record FollowsTwoPlans {F : Type 0} (does : F → StoreAccess → F → Type
     (gives_names : F → Option HostError → F → Type 0) (task : PlayTask) (plan : Plan) (old new : F) : Type 0 where
   pub seen : F
   pub read : F
+  pub printed : Option (List ℕ)
   pub drives : List (Option Disk)
   pub left : List NamedBytes
   pub sees : sees_to old plan None seen
   pub calls : LogLeadsBy does (All (IsAsPlanned plan)) seen read
-  pub follows : FollowsPlan does sees_to gives_names (plan_of_left (outputs_with (outs_of task) drives left) (record_of_play task)) read new
+  pub follows : FollowsPlan does sees_to gives_names
+      (plan_of_left (outputs_with (list_of_play task) (outs_of task) printed drives left) (record_of_play task)) read new
 
 -- it follows one plan where no files of its drives go into folders, and else two
 abbrev pub FollowsPlans : {F : Type 0} → (has_none : Bool) → ReadActs F → (F → Option HostError → F → Type 0) → PlayTask → Plan → F → F → Type 0
@@ -70,7 +72,7 @@ FollowsPlans {F} false acts gives_names task plan old new = FollowsTwoPlans acts
 
 -- a program that has run has followed its plans, by where its drives come from
 abbrev pub ProgramsFollowPlans : {F : Type 0} → ReadActs F → (F → Option HostError → F → Type 0) → (Option HostError → Type 0)
-    → (List (List ℕ × NamedFile) → Ending → (waits : Bool) → Option PlayEnd → Type 0) → Type 0
+    → (List (List ℕ × NamedFile) → Ending → (waits : Bool) → Option PlayEnd → (dropped : Bool) → Type 0) → Type 0
 ProgramsFollowPlans {F} acts gives_names ended told = (task : PlayTask) (io : Streams) (old new : F) (status : ℕ)
     → HasPlayedTask acts gives_names ended told task io old new status
     → (places : List DrivePlace) × ArePlacesFound acts.tells_folder acts.lists old (map (λ n. n.now) task.drives.items) places

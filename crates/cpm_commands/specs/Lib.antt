@@ -8,6 +8,7 @@ pub mod Get
 pub mod Laws
 pub mod Left
 pub mod List
+pub mod ListText
 pub mod Messages
 pub mod OutFolder
 pub mod Plan

@@ -49,19 +49,29 @@ needs_z80 cpu e = is_8080 cpu && ended_illegal e.ended && is_instruction_z80 e.a
 abbrev pub z80_hint : List ℕ
 z80_hint = codes "hint: the Z80 has this instruction; try --z80"
 
+-- a person is told where what was printed was dropped
+abbrev pub list_hint : List ℕ
+list_hint = codes "hint: what was sent to the printer was dropped; --list FILE keeps it"
+
 abbrev pub IsToldIf : {M : Type 0} → (M → List ℕ → M → Type 0) → Bool → List ℕ → M → M → Type 0
 IsToldIf {M} tells false line old new = new ≡ old
 IsToldIf {M} tells true line old new = tells old line new
 
--- Where it ended at bytes that are no instruction, these are told; and then how it ended, unless that is not to be told; and a person who reads all this is
--- told what may help.
+-- a person who reads all this is told what may help, and where what was printed was dropped
+pub record AreHintsTold {M : Type 0} (tells : M → List ℕ → M → Type 0) (is_read : M → Bool) (task : PlayTask) (e : Ending) (dropped : Bool) (old new : M)
+    : Type 0 where
+  pub between : M
+  pub z80 : IsToldIf tells (is_read old && needs_z80 task.cpu e) z80_hint old between
+  pub list : IsToldIf tells (is_read between && dropped) list_hint between new
+
+-- Where it ended at bytes that are no instruction, these are told; and then how it ended, unless that is not to be told; and then the hints.
 pub record IsEndTold {M : Type 0} (tells : M → List ℕ → M → Type 0) (is_read : M → Bool) (task : PlayTask) (e : Ending) (waits : Bool) (end : Option PlayEnd)
-    (old new : M) : Type 0 where
+    (dropped : Bool) (old new : M) : Type 0 where
   pub between : M
   pub behind : M
   pub illegal : MatchOption (illegal_of e.ended e.pc e.at_pc) (between ≡ old) (λ i. tells old (illegal_text i) between)
   pub last : IsToldIf tells (not task.is_quiet) (end_line e waits end) between behind
-  pub hint : IsToldIf tells (is_read behind && needs_z80 task.cpu e) z80_hint behind new
+  pub hints : AreHintsTold tells is_read task e dropped behind new
 
 -- ---- of the sessions of a run
 
@@ -79,11 +89,11 @@ AreIllegalTold {M} tells (s ∷ ss) old new = (next : M) × IsIllegalTold tells 
 
 -- so it was told at last of a program: the files that are not written, and how it ended
 pub record HasToldEnd {M : Type 0} (tells : M → List ℕ → M → Type 0) (is_read : M → Bool) (task : PlayTask) (unwritten : List (List ℕ × NamedFile))
-    (e : Ending) (waits : Bool) (end : Option PlayEnd) (new : M) : Type 0 where
+    (e : Ending) (waits : Bool) (end : Option PlayEnd) (dropped : Bool) (new : M) : Type 0 where
   pub before : M
   pub between : M
   pub unwritten_told : AreToldBy (IsUnwrittenTold tells) unwritten before between
-  pub told : IsEndTold tells is_read task e waits end between new
+  pub told : IsEndTold tells is_read task e waits end dropped between new
 
 -- and of sessions
 pub record HasToldIllegal {M : Type 0} (tells : M → List ℕ → M → Type 0) (sessions : List SessionReport) (new : M) : Type 0 where

@@ -15,8 +15,10 @@ use Rattle.cpm_host.specs.declared.program.Source.TheVariants.{Cues, Typed}
 use Rattle.cpm_machine.specs.Step.{is_running}
 use Rattle.cpm_machine.specs.declared.reply.End.{End}
 use Rattle.cpm_machine.specs.declared.reply.End.TheVariants.{Running, Halted, Illegal, Quota, CountEnd, Exited}
+use Rattle.cpm_play.specs.Output.{output_state}
 use Rattle.cpm_play.specs.declared.live.PlayEnd.{PlayEnd}
-use Rattle.cpm_run.specs.Settled.{AreUntouched, Streams}
+use Rattle.cpm_play.specs.declared.live.PlayEnd.TheVariants.{Steps}
+use Rattle.cpm_run.specs.Settled.{AreUntouched, Streams, play_streams}
 use Rattle.cpm_run.specs.declared.ending.Ending.{Ending}
 use Rattle.cpm_script.specs.Cues.{cue_text, cues}
 use Rattle.cpm_script.specs.declared.cue.Cue.{Cue}
@@ -26,6 +28,7 @@ use Rattle.cpm_commands.specs.Disk.{IsDiskRead, IsDiskUnread}
 use Rattle.cpm_commands.specs.Drives.{AreDrivesRead, AreDrivesRefused, ArePlacesFound, ArePlacesUnfound, inputs_of_places}
 use Rattle.cpm_commands.specs.Files.{IsUnread}
 use Rattle.cpm_commands.specs.Left.{IsPlayLeft, IsPlayUnleft, WriteActs}
+use Rattle.cpm_commands.specs.ListText.{MayBeDropped, kept_if}
 use Rattle.cpm_commands.specs.OutFolder.{folder_view, folder_starts_of}
 use Rattle.cpm_commands.specs.Plan.{Plan, all_planned, planned_if_any}
 use Rattle.cpm_commands.specs.Record.{IsUnrecorded}
@@ -36,15 +39,15 @@ use Rattle.cpm_commands.specs.declared.play.StartedPlay.{StartedPlay}
 
 -- ---- what is asked
 
--- the program is read and what its drives come from, the system drive, a script and a recording; its drives are written, files of them into folders, and the
--- record of its keys
+-- the program is read and what its drives come from, the system drive, a script and a recording; its drives are written, files of them into folders, the
+-- record of its keys, and what it prints
 abbrev pub plan_of_play : PlayTask → List DrivePlace → Plan
 plan_of_play task places = record {
   inputs = planned_if_any Plain (option_map (λ n. n.now) task.file) ++ inputs_of_places places
       ++ planned_if_any Image (option_map (λ n. n.now) task.system)
       ++ planned_if_any Plain (option_map (λ n. n.now) task.keys) ++ planned_if_any Plain (option_map (λ n. n.now) task.replay);
   outputs = all_planned Image (map (λ n. n.now) task.outs.items) ++ all_planned Folder (map (λ n. n.now) task.out_folders.items)
-      ++ planned_if_any Plain (option_map (λ n. n.now) task.record);
+      ++ planned_if_any Plain (option_map (λ n. n.now) task.record) ++ planned_if_any Plain (option_map (λ n. n.now) task.list);
   naming = Replaces;
 }
 
@@ -52,12 +55,16 @@ plan_of_play task places = record {
 abbrev pub writes_disks : PlayTask → Bool
 writes_disks task = not (length task.outs.items == 0) || not (length task.out_folders.items == 0)
 
--- how many steps it has at most where nobody says: there is no limit where a person ends it, and where its disks are written
+-- files are named for what comes of it: for its drives, for what it prints, or for its keys
+abbrev pub writes_files : PlayTask → Bool
+writes_files task = writes_disks task || is_some task.list || is_some task.record
+
+-- how many steps it has at most where nobody says: there is no limit where a person ends it, and where files are written
 abbrev pub unasked_steps : (is_live writes : Bool) → ℕ
 unasked_steps is_live writes = if is_live || writes then 2 ^ 64 - 1 else 1000000
 
 abbrev pub steps_asked : PlayTask → ℕ
-steps_asked task = unwrap_or task.steps (unasked_steps task.is_live (writes_disks task))
+steps_asked task = unwrap_or task.steps (unasked_steps task.is_live (writes_files task))
 
 -- its keys are those of its script, and then those that are typed where that is asked
 abbrev pub source_of : PlayTask → List Cue → Source → Type 0
@@ -158,9 +165,15 @@ AreKeysRefused {F} does task old new e = AreKeysRefusedBy does (option_map (λ n
 
 -- ---- how it ended
 
--- its limit of steps has cut it off: it still runs, and doesn't wait for a key
+-- who typed, if anybody did, has not ended it
+abbrev pub by_steps : Option PlayEnd → Bool
+by_steps None = true
+by_steps (Some Steps) = true
+by_steps (Some end) = false
+
+-- its limit of steps has cut it off: it still runs, doesn't wait for a key, and nobody has ended it
 abbrev pub is_cut_off : PlayTask → ProgramPlay → Bool
-is_cut_off task play = is_some task.steps && is_running play.ending.ended && not play.waits
+is_cut_off task play = is_some task.steps && is_running play.ending.ended && not play.waits && by_steps play.end
 
 -- its disks were to be written, but not in part
 abbrev pub is_kept_back : PlayTask → ProgramPlay → Bool
@@ -255,39 +268,52 @@ write_acts {F} acts gives_names = record {
   unlists = acts.unlists;
 }
 
+-- with what it printed: that is known from nothing on where a file is named for it
+abbrev pub with_printed : PlayTask → Streams → (printed : Option (List ℕ)) → Streams
+with_printed task io printed =
+    play_streams io.unread io.left (output_state io.before.console (kept_if (is_some task.list) [])) (output_state io.written.console printed)
+    io.unrecorded io.record_now
+
 -- it was played so, and the drives at the start of it are these, as far as there are folders
 pub record HasPlayedWith {F : Type 0} (acts : ReadActs F) (task : PlayTask) (io : Streams) (old new : F) (p : StartedPlay) : Type 0 where
   pub played : HasPlayedMachine acts task io old new p.play
   pub starts : map folder_view p.starts.items ≡ task_starts task played.g
 
--- A program was played, and then the record of its keys was ended, and its drives were written, or files of them, and got their names: it was not cut off, or
--- they are written in part. It was told which files were not written, how it ended, and whether it was to stop where it waits, and did; and the status is
--- given.
+-- A program was played, and then the record of its keys was ended, and what it printed was written where a file is named for it, and its drives, or files of
+-- them, and got their names: it was not cut off, or they are written in part. It was told which files were not written, how it ended, whether it was to stop
+-- where it waits, and did, and whether what it printed was dropped; and the status is given.
 pub record HasPlayedTask {F : Type 0} (acts : ReadActs F) (gives_names : F → Option HostError → F → Type 0) (ended : Option HostError → Type 0)
-    (told : List (List ℕ × NamedFile) → Ending → (waits : Bool) → Option PlayEnd → Type 0) (task : PlayTask) (io : Streams) (old new : F) (status : ℕ)
-    : Type 0 where
+    (told : List (List ℕ × NamedFile) → Ending → (waits : Bool) → Option PlayEnd → (dropped : Bool) → Type 0) (task : PlayTask) (io : Streams)
+    (old new : F) (status : ℕ) : Type 0 where
   pub read : F
   pub play : ProgramPlay
+  pub printed : Option (List ℕ)
+  pub dropped : Bool
   pub unwritten : List (List ℕ × NamedFile)
-  pub played : HasPlayedMachine acts task io old read play
+  pub played : HasPlayedMachine acts task (with_printed task io printed) old read play
+  pub drops : MayBeDropped printed dropped
   pub recorded : ended None
   pub whole : is_kept_back task play ≡ false
-  pub left : IsPlayLeft (write_acts acts gives_names) task (task_starts task played.g) play.drives read new unwritten
-  pub tells : told unwritten play.ending (play.waits && task.stops_idle) play.end
+  pub left : IsPlayLeft (write_acts acts gives_names) task (task_starts task played.g) printed play.drives read new unwritten
+  pub tells : told unwritten play.ending (play.waits && task.stops_idle) play.end dropped
   pub gives : status ≡ status_of task play.ending
 
 -- how far it came that was refused
 pub data IsPlayRefused {F : Type 0} (acts : ReadActs F) (gives_names : F → Option HostError → F → Type 0) (ended : Option HostError → Type 0)
     (task : PlayTask) (io : Streams) (old new : F) (e : HostError) : Type 0 where
   -- it was not played, and nothing was written
-  NotPlayed : IsPlayStopped acts task io old new e → IsPlayRefused acts gives_names ended task io old new e
+  NotPlayed : (printed : Option (List ℕ)) → IsPlayStopped acts task (with_printed task io printed) old new e
+      → IsPlayRefused acts gives_names ended task io old new e
   -- the record of its keys can't have its name, and nothing was written
-  NotRecorded : (play : ProgramPlay) → HasPlayedMachine acts task io old new play → ended (Some e) → IsUnrecorded e
+  NotRecorded : (play : ProgramPlay) (printed : Option (List ℕ)) → HasPlayedMachine acts task (with_printed task io printed) old new play
+      → ended (Some e) → IsUnrecorded e
       → IsPlayRefused acts gives_names ended task io old new e
   -- it was cut off, so that nothing was written but that record
-  KeptBack : (play : ProgramPlay) → HasPlayedMachine acts task io old new play → ended None → is_kept_back task play ≡ true → e ≡ CutOff play.steps
+  KeptBack : (play : ProgramPlay) (printed : Option (List ℕ)) → HasPlayedMachine acts task (with_printed task io printed) old new play → ended None
+      → is_kept_back task play ≡ true → e ≡ CutOff play.steps
       → IsPlayRefused acts gives_names ended task io old new e
   -- what was played can't be written, or can't have its names
-  NotLeft : (play : ProgramPlay) (read : F) → (played : HasPlayedMachine acts task io old read play) → ended None → is_kept_back task play ≡ false
-      → IsPlayUnleft (write_acts acts gives_names) task (task_starts task played.g) play.drives read new e
+  NotLeft : (play : ProgramPlay) (printed : Option (List ℕ)) (read : F)
+      → (played : HasPlayedMachine acts task (with_printed task io printed) old read play) → ended None → is_kept_back task play ≡ false
+      → IsPlayUnleft (write_acts acts gives_names) task (task_starts task played.g) printed play.drives read new e
       → IsPlayRefused acts gives_names ended task io old new e

@@ -44,7 +44,7 @@ pub record FileActs (F : Type 0) : Type 1 where
 pub record ToldActs : Type 1 where
   pub ended : Option HostError → Type 0
   pub told_left_out : List DrivePlace → Type 0
-  pub told_end : PlayTask → List (List ℕ × NamedFile) → Ending → (waits : Bool) → Option PlayEnd → Type 0
+  pub told_end : PlayTask → List (List ℕ × NamedFile) → Ending → (waits : Bool) → Option PlayEnd → (dropped : Bool) → Type 0
   pub told_illegal : List SessionReport → Type 0
 
 -- those by which a program is read

@@ -28,5 +28,5 @@ pub fn programs_follow_plans<F: CommandFiles, R: KeyRecord, T: Messages>()
           told_left_out = λ places. HasToldLeftOut T.tells untold places;
         })
         F.gives_names (HasEndedRecord R.ends R.contents (R.contents typed) typed)
-        (λ unwritten ending waits end. HasToldEnd T.tells T.is_read task unwritten ending waits end told) }
+        (λ unwritten ending waits end dropped. HasToldEnd T.tells T.is_read task unwritten ending waits end dropped told) }
 {}

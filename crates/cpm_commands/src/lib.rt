@@ -12,6 +12,7 @@ mod get;
 pub mod laws;
 mod left;
 mod list;
+mod list_text;
 mod messages;
 mod out_folder;
 mod plan;

@@ -1,6 +1,7 @@
 //! What a person is told of a command, beside what it prints.
 ghost use Rattle.std.specs.Prelude.{◌≡◌, ◌++◌, ℕ, Bool, List, Some, codes, string_bytes};
-ghost use Rattle.cpm_commands.specs.Messages.{AreIllegalTold, IsEndTold, IsIllegalTold, end_line, needs_z80, typing_word, z80_hint};
+ghost use Rattle.cpm_commands.specs.Messages.{AreHintsTold, AreIllegalTold, IsEndTold, IsIllegalTold, end_line, list_hint, needs_z80};
+ghost use Rattle.cpm_commands.specs.Messages.{typing_word, z80_hint};
 ghost use Rattle.cpm_run.specs.Ending.{illegal_text};
 
 use crate::report::waiting_word;
@@ -69,6 +70,21 @@ impl fmt::Display for Z80Hint {
     }
 }
 
+/// What may help where what a machine printed was dropped.
+#[derive(Drop)]
+struct ListHint;
+
+impl fmt::Display for ListHint {
+    ghost output = { λ _. Some list_hint };
+
+    fn fmt<W: fmt::Write>(&self, f: &mut fmt::Formatter<W>) -> fmt::Result {
+        write!(
+            f,
+            "hint: what was sent to the printer was dropped; --list FILE keeps it"
+        )
+    }
+}
+
 /// Whether a program ended at bytes that are no instruction of the 8080 on which it ran, and are one of the Z80.
 fn needs_z80(cpu: Cpu, ending: Ending) -> bool
     ensures { result ≡ needs_z80 cpu ending }
@@ -93,15 +109,28 @@ impl fmt::Display for IllegalLine<'_> {
     }
 }
 
+/// Tells a person what may help, and where what a machine printed was dropped.
+fn tell_hints<M: Messages>(ending: Ending, dropped: bool, task: &PlayTask<'_>, messages: &mut M)
+    ensures { AreHintsTold M.tells M.is_read task.now ending dropped messages.old messages.new }
+{
+    if messages.is_read() && needs_z80(task.cpu, ending) {
+        messages.tell(&Z80Hint);
+    }
+    if messages.is_read() && dropped {
+        messages.tell(&ListHint);
+    }
+}
+
 /// Tells how a program ended: the bytes that are no instruction, if it ended at such, and its last line, unless it is quiet; and a person what may help.
 pub(crate) fn tell_end<M: Messages>(
     ending: Ending,
     waits: bool,
     end: Option<PlayEnd>,
+    dropped: bool,
     task: &PlayTask<'_>,
     messages: &mut M,
 )
-    ensures { IsEndTold M.tells M.is_read task.now ending waits end messages.old messages.new }
+    ensures { IsEndTold M.tells M.is_read task.now ending waits end dropped messages.old messages.new }
 {
     if let Some(illegal) = ending.illegal() {
         messages.tell(&illegal);
@@ -109,9 +138,7 @@ pub(crate) fn tell_end<M: Messages>(
     if !task.is_quiet {
         messages.tell(&EndLine { ending, waits, end });
     }
-    if messages.is_read() && needs_z80(task.cpu, ending) {
-        messages.tell(&Z80Hint);
-    }
+    tell_hints(ending, dropped, task, messages);
 }
 
 /// Tells the bytes that are no instruction, if a session ended at such.

@@ -4,22 +4,24 @@ ghost use Rattle.cpm_commands.specs.Drives.{HasToldLeftOut};
 ghost use Rattle.cpm_commands.specs.Messages.{HasToldEnd};
 ghost use Rattle.cpm_commands.specs.Plan.{plan_view};
 ghost use Rattle.cpm_commands.specs.Play.{HasPlayedTask, HasPlayedWith, IsPlayRefused, IsPlayStopped, is_cut_off, is_kept_back, plan_of_play};
-ghost use Rattle.cpm_commands.specs.Play.{source_of, status_of, status_of_end, steps_asked, writes_disks};
+ghost use Rattle.cpm_commands.specs.Play.{by_steps, source_of, status_of, status_of_end, steps_asked, writes_disks, writes_files};
 ghost use Rattle.cpm_commands.specs.Record.{HasEndedRecord};
 ghost use Rattle.cpm_machine.specs.Step.{is_running};
-ghost use Rattle.cpm_run.specs.Settled.{streams};
+ghost use Rattle.cpm_play.specs.Output.{output_state};
+ghost use Rattle.cpm_run.specs.Settled.{play_streams, streams};
 
 use crate::begin::{read_keys, read_start, tail_if_any};
 use crate::drives::{DrivePlace, add_places, find_places, tell_left_out};
 use crate::files::CommandFiles;
 use crate::left::write_left;
+use crate::list_text::ListText;
 use crate::messages::{Messages, tell_end};
 use crate::out_folder::{FolderStart, folder_starts, tell_unwritten};
 use crate::plan::{FilePlan, FileRole, OutputNaming, add_all, add_if_any};
 use crate::record::{KeyRecord, end_record};
 use cpm_host::{
-    Cue, CuedKeys, End, Ending, HostError, PlayTask, ProgramPlay, RunStage, RunWatcher, Source,
-    Typist, run_program,
+    Cue, CuedKeys, End, Ending, HostError, PlayEnd, PlayTask, ProgramPlay, RunStage, RunWatcher,
+    Source, Typist, run_program,
 };
 use std::alloc::{AllocError, Global};
 use std::io::Write;
@@ -45,6 +47,7 @@ fn plan_of<'a>(
     add_all(&mut outputs, &task.outs, FileRole::Image)?;
     add_all(&mut outputs, &task.out_folders, FileRole::Folder)?;
     add_if_any(&mut outputs, task.record, FileRole::Plain)?;
+    add_if_any(&mut outputs, task.list, FileRole::Plain)?;
     Ok(FilePlan {
         inputs,
         outputs,
@@ -74,11 +77,18 @@ fn writes_disks(task: &PlayTask<'_>) -> bool
     !task.outs.is_empty() || !task.out_folders.is_empty()
 }
 
-/// How many steps it has at most. Where a person ends it, or its disks are written, there is no limit that nobody asked for.
+/// Whether files are written of what comes of it: its disks, what it prints, or its keys.
+fn writes_files(task: &PlayTask<'_>) -> bool
+    ensures { result ≡ writes_files task.now }
+{
+    writes_disks(task) || task.list.is_some() || task.record.is_some()
+}
+
+/// How many steps it has at most. Where a person ends it, or files are written, there is no limit that nobody asked for.
 fn steps_asked(task: &PlayTask<'_>) -> u64
     ensures { result ≡ steps_asked task.now }
 {
-    let unasked = if task.is_live || writes_disks(task) {
+    let unasked = if task.is_live || writes_files(task) {
         u64::MAX
     } else {
         STEPS
@@ -106,11 +116,21 @@ fn status_of_end(end: End) -> u8
     }
 }
 
-/// Whether its limit of steps has cut a program off: it still runs, and doesn't wait for a key.
+/// Whether its steps were all that could end a play that goes on, and not who typed.
+fn by_steps(end: Option<PlayEnd>) -> bool
+    ensures { result ≡ by_steps end }
+{
+    match end {
+        None | Some(PlayEnd::Steps) => true,
+        Some(PlayEnd::Ended | PlayEnd::Typing(_)) => false,
+    }
+}
+
+/// Whether its limit of steps has cut a program off: it still runs, doesn't wait for a key, and nobody has ended it.
 fn is_cut_off(task: &PlayTask<'_>, play: &ProgramPlay) -> bool
     ensures { result ≡ is_cut_off task.now play.now }
 {
-    task.steps.is_some() && runs(play.ending.ended) && !play.waits
+    task.steps.is_some() && runs(play.ending.ended) && !play.waits && by_steps(play.end)
 }
 
 /// Whether its disks are to be written only where it was not cut off, and it was.
@@ -154,13 +174,15 @@ struct StartedPlay {
     starts: Vec<FolderStart>,
 }
 
-/// Reads what a machine begins with and its keys, and plays it. What it shows is written as it comes. What is left out of its drives is told before.
-fn play_machine<F: CommandFiles, P: Typist, W: Write, R: Write, T: RunWatcher + Messages>(
+/// Reads what a machine begins with and its keys, and plays it. What it shows and prints is written as it comes. What is left out of its drives is told
+/// before.
+fn play_machine<F: CommandFiles, P: Typist, W: Write, L: Write, R: Write, T: RunWatcher + Messages>(
     alloc: Global,
     task: &PlayTask<'_>,
     files: &mut F,
     typist: &mut P,
     out: &mut W,
+    list: &mut L,
     record: &mut R,
     watcher: &mut T,
 ) -> Result<StartedPlay, HostError>
@@ -174,7 +196,9 @@ fn play_machine<F: CommandFiles, P: Typist, W: Write, R: Write, T: RunWatcher + 
           told_left_out = λ places. HasToldLeftOut T.tells watcher.old places;
         })
         task.now
-        (streams (P.typing typist.old) (P.typing typist.new) (W.contents out.old) (W.contents out.new) (R.contents «record».old) (R.contents «record».new))
+        (play_streams (P.typing typist.old) (P.typing typist.new)
+        (output_state (W.contents out.old) (L.contents list.old)) (output_state (W.contents out.new) (L.contents list.new))
+        (R.contents «record».old) (R.contents «record».new))
         files.old files.new) }
     ensures refusal { IfErr result (IsPlayStopped
         (record {
@@ -186,7 +210,9 @@ fn play_machine<F: CommandFiles, P: Typist, W: Write, R: Write, T: RunWatcher + 
           told_left_out = λ places. HasToldLeftOut T.tells watcher.old places;
         })
         task.now
-        (streams (P.typing typist.old) (P.typing typist.new) (W.contents out.old) (W.contents out.new) (R.contents «record».old) (R.contents «record».new))
+        (play_streams (P.typing typist.old) (P.typing typist.new)
+        (output_state (W.contents out.old) (L.contents list.old)) (output_state (W.contents out.new) (L.contents list.new))
+        (R.contents «record».old) (R.contents «record».new))
         files.old files.new) }
 {
     let tail = tail_if_any(alloc, task)?;
@@ -206,14 +232,15 @@ fn play_machine<F: CommandFiles, P: Typist, W: Write, R: Write, T: RunWatcher + 
         source,
         typist,
         out,
+        list,
         record,
         watcher,
     )?;
     Ok(StartedPlay { play, starts })
 }
 
-/// Plays a machine, by a program or from the prompt of CP/M. It shows its text as it comes, writes its drives where files are named for them, once it was
-/// played, and those of their files that are new or changed where folders are, and tells how it ended. It gives the exit status.
+/// Plays a machine, by a program or from the prompt of CP/M. It shows its text as it comes. Once it was played it writes what it printed and its drives where
+/// files are named for them, and those of their files that are new or changed where folders are, and tells how it ended. It gives the exit status.
 ///
 /// One that its limit of steps has cut off is `CutOff` where files or folders are named for its drives, and these are not to be written in part: nothing is
 /// written then, but the record of its keys is.
@@ -236,7 +263,7 @@ pub fn do_play_task<F: CommandFiles, P: Typist, W: Write, R: KeyRecord, T: RunWa
           told_left_out = λ places. HasToldLeftOut T.tells watcher.old places;
         })
         F.gives_names (HasEndedRecord R.ends R.contents (R.contents «record».new) «record».new)
-        (λ unwritten ending waits end. HasToldEnd T.tells T.is_read task.now unwritten ending waits end watcher.new) task.now
+        (λ unwritten ending waits end dropped. HasToldEnd T.tells T.is_read task.now unwritten ending waits end dropped watcher.new) task.now
         (streams (P.typing typist.old) (P.typing typist.new) (W.contents out.old) (W.contents out.new) (R.contents «record».old) (R.contents «record».new))
         files.old files.new) }
     ensures refusal { IfErr result (IsPlayRefused
@@ -253,9 +280,10 @@ pub fn do_play_task<F: CommandFiles, P: Typist, W: Write, R: KeyRecord, T: RunWa
         (streams (P.typing typist.old) (P.typing typist.new) (W.contents out.old) (W.contents out.new) (R.contents «record».old) (R.contents «record».new))
         files.old files.new) }
 {
-    let room = Vec::with_capacity(alloc, 4)?;
+    let room = Vec::with_capacity(alloc, 5)?;
+    let mut list = ListText::new(alloc, task.list.is_some());
     let StartedPlay { play, starts } = play_machine(
-        alloc, task, files, typist, out, record, watcher,
+        alloc, task, files, typist, out, &mut list, record, watcher,
     )?;
     end_record(record)?;
     if is_kept_back(task, &play) {
@@ -268,8 +296,17 @@ pub fn do_play_task<F: CommandFiles, P: Typist, W: Write, R: KeyRecord, T: RunWa
         end,
         ..
     } = play;
-    let unwritten = write_left(alloc, task, starts.as_slice(), room, drives, files)?;
+    let dropped = list.has_dropped();
+    let printed = list.into_kept();
+    let unwritten = write_left(alloc, task, starts.as_slice(), room, printed, drives, files)?;
     tell_unwritten(unwritten.as_slice(), watcher);
-    tell_end(ending, is_idle(waits, task.stops_idle), end, task, watcher);
+    tell_end(
+        ending,
+        is_idle(waits, task.stops_idle),
+        end,
+        dropped,
+        task,
+        watcher,
+    );
     Ok(status_of(task, ending))
 }

@@ -171,7 +171,7 @@ pub fn do_task<
         (record {
           ended = HasEndedRecord R.ends R.contents (R.contents «record».new) «record».new;
           told_left_out = λ places. HasToldLeftOut T.tells watcher.old places;
-          told_end = λ task unwritten ending waits end. HasToldEnd T.tells T.is_read task unwritten ending waits end watcher.new;
+          told_end = λ task unwritten ending waits end dropped. HasToldEnd T.tells T.is_read task unwritten ending waits end dropped watcher.new;
           told_illegal = λ sessions. HasToldIllegal T.tells sessions watcher.new;
         })
         (record {
@@ -196,7 +196,7 @@ pub fn do_task<
         (record {
           ended = HasEndedRecord R.ends R.contents (R.contents «record».new) «record».new;
           told_left_out = λ places. HasToldLeftOut T.tells watcher.old places;
-          told_end = λ task unwritten ending waits end. HasToldEnd T.tells T.is_read task unwritten ending waits end watcher.new;
+          told_end = λ task unwritten ending waits end dropped. HasToldEnd T.tells T.is_read task unwritten ending waits end dropped watcher.new;
           told_illegal = λ sessions. HasToldIllegal T.tells sessions watcher.new;
         })
         (record {

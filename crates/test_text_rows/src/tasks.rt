@@ -102,7 +102,8 @@ fn add_play(
     add_text(alloc, out, " replay", task.replay)?;
     add_count(alloc, out, "pace", task.pace)?;
     add_text(alloc, out, " system", task.system)?;
-    add_texts(alloc, out, " out_folders", task.out_folders.as_slice())
+    add_texts(alloc, out, " out_folders", task.out_folders.as_slice())?;
+    add_text(alloc, out, " list", task.list)
 }
 
 /// Adds a configuration that is run.

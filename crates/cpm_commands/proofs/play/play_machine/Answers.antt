@@ -1,7 +1,8 @@
 use Rattle.std.proofs.Common.{◌∙◌, List, None, Some, map, refl, rules, subst, ℕ}
 use Rattle.std.proofs.lemmas.Result.{err_from_is_err_and}
 use Rattle.cpm_host.specs.Program.{IsPlayedBy, IsProgramPlayRefusal, machine_of, program_given, system_disk}
-use Rattle.cpm_run.specs.Settled.{streams}
+use Rattle.cpm_play.specs.Output.{output_state}
+use Rattle.cpm_run.specs.Settled.{play_streams}
 use Rattle.cpm_script.specs.declared.cue.Cue.{Cue}
 use Rattle.cpm_commands.specs.Drives.{AreAllLeftOutTold, ArePlacesFound, HasToldLeftOut}
 use Rattle.cpm_commands.specs.OutFolder.{folder_starts_of}
@@ -139,7 +140,8 @@ returns-in_err-play-clause-refusal g c =
     } in
     let source = c.source_of-source.result in
     let source_is = subst (λ (cs : List Cue). source_of task cs source) c.as_slice-4.ensures.value c.source_of-source.ensures in
-    let io = streams (g.P.Typist.typing c.args.typist.now) (g.P.Typist.typing c.run_program.new.typist) (g.W.Write.contents c.args.out.now) (g.W.Write.contents c.run_program.new.out)
+    let io = play_streams (g.P.Typist.typing c.args.typist.now) (g.P.Typist.typing c.run_program.new.typist)
+    (output_state (g.W.Write.contents c.args.out.now) (g.L.Write.contents c.args.list.now)) (output_state (g.W.Write.contents c.run_program.new.out) (g.L.Write.contents c.run_program.new.list))
     (g.R.Write.contents c.args.record.now) (g.R.Write.contents c.run_program.new.record) in
     rw (p.1, p.2) (NotPlayed places given said source reads source_is
     (subst (λ (n : ℕ). IsProgramPlayRefusal source given n io c.in_err-play.field-0.0) c.steps_asked.ensures c.in_err-play.ensures.refusal))
@@ -177,7 +179,8 @@ returns-clause-played g c =
     } in
     let source = c.source_of-source.result in
     let source_is = subst (λ (cs : List Cue). source_of task cs source) c.as_slice-4.ensures.value c.source_of-source.ensures in
-    let io = streams (g.P.Typist.typing c.args.typist.now) (g.P.Typist.typing c.run_program.new.typist) (g.W.Write.contents c.args.out.now) (g.W.Write.contents c.run_program.new.out)
+    let io = play_streams (g.P.Typist.typing c.args.typist.now) (g.P.Typist.typing c.run_program.new.typist)
+    (output_state (g.W.Write.contents c.args.out.now) (g.L.Write.contents c.args.list.now)) (output_state (g.W.Write.contents c.run_program.new.out) (g.L.Write.contents c.run_program.new.list))
     (g.R.Write.contents c.args.record.now) (g.R.Write.contents c.run_program.new.record) in
     record {
       played = record {
