@@ -46,6 +46,15 @@ impl<C: Clock, P: Typist + Drop> Typist for PacedTypist<'_, C, P> {
         self.typist.most_steps()
     }
 
+    fn look_in(&mut self, count: u64) {
+        self.tempo.hold(self.clock, count);
+        self.typist.look_in(count);
+    }
+
+    fn has_broken_in(&self) -> bool {
+        self.typist.has_broken_in()
+    }
+
     fn hear(&mut self, need: KeyNeed, count: u64) -> io::Result<Heard> {
         if !need.wants_key() {
             self.tempo.hold(self.clock, count);

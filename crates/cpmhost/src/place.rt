@@ -4,6 +4,7 @@ use crate::files::{found_of_input, unwritable};
 use crate::output::target_of;
 use crate::refused::{CommandRefusal, RefusalDetail};
 use cpm_commands::{FilePlan, FileRole, PlannedFile};
+use cpm_disk_commands::name_of;
 use cpm_host::{HostError, ReadError, RunError, shown};
 use std::io::ErrorKind;
 use std::os::unix::fs::{FileTypeExt, MetadataExt};
@@ -18,6 +19,18 @@ pub struct FileIdentity {
     node: u64,
     /// Of a file that isn't there yet, its name in the folder that the numbers are of.
     name: Option<String>,
+}
+
+impl FileIdentity {
+    /// Whether it is of a name in the folder that has this place, and of one that a file of CP/M may have there.
+    fn is_in(&self, folder: &FileIdentity) -> bool {
+        let Some(name) = &self.name else {
+            return false;
+        };
+        folder.name.is_none()
+            && (self.device, self.node) == (folder.device, folder.node)
+            && name_of(name.as_str()).is_some()
+    }
 }
 
 /// The place of a file that isn't there yet, if its folder is. It fails where that can't be looked at.
@@ -131,9 +144,38 @@ impl<'a> FoundFiles<'a> {
         }
         Ok(())
     }
+
+    /// Refuses an output in a folder that files are written into: whoever made one of its name there would lose all in the end.
+    fn check_folders(&self, rt: &(impl Files + AllocGlobal)) -> Result<(), CommandRefusal> {
+        for folder in &self.outputs {
+            if folder.file.role == FileRole::Folder {
+                self.check_folder(rt, &folder.place)?;
+            }
+        }
+        Ok(())
+    }
+
+    /// Refuses an output in the folder at this place.
+    fn check_folder(
+        &self,
+        rt: &(impl Files + AllocGlobal),
+        folder: &FileIdentity,
+    ) -> Result<(), CommandRefusal> {
+        for output in &self.outputs {
+            let name = output.file.name;
+            let place = place_by_folder(rt, name).map_err(|reason| unwritable(name, reason))?;
+            if let Some(place) = place
+                && output.file.role != FileRole::Folder
+                && place.is_in(folder)
+            {
+                return Err(twin(name, RefusalDetail::InFolder));
+            }
+        }
+        Ok(())
+    }
 }
 
-/// The refusal of an output that is another file too.
+/// The refusal of an output that is another file too, or may become one.
 fn twin(name: &str, behind: RefusalDetail) -> CommandRefusal {
     CommandRefusal {
         error: HostError::from(RunError::WriteFault(shown(name))),
@@ -195,7 +237,8 @@ pub fn check_pipes(
     Ok(())
 }
 
-/// Refuses a plan by which one file would be written twice, or over what is read, under whatever names. An image may be written where one was read.
+/// Refuses a plan by which one file would be written twice, or over what is read, under whatever names; and one by which a file would be written twice if
+/// one of its name were written into a folder. An image may be written where one was read.
 pub fn check_apart(
     rt: &(impl Files + AllocGlobal),
     plan: &FilePlan<'_>,
@@ -210,5 +253,5 @@ pub fn check_apart(
     for file in &plan.outputs {
         found.add_output(rt, *file)?;
     }
-    Ok(())
+    found.check_folders(rt)
 }

@@ -16,6 +16,8 @@ pub enum RefusalDetail {
     Output(ShownWord),
     /// The input of this name is the same file.
     Input(ShownWord),
+    /// The output lies in a folder that files are written into, of which one may get its name.
+    InFolder,
     /// It is a pipe, which is named twice.
     NamedTwice,
     /// It is a pipe, on which keys are typed.
@@ -59,6 +61,7 @@ impl fmt::Display for RefusalDetail {
                 f,
                 " over the input '{other}': they are one file"
             ),
+            RefusalDetail::InFolder => write!(f, ": it lies in a folder of --out-folder"),
             RefusalDetail::NamedTwice => write!(
                 f,
                 ": it is a pipe, which gives its bytes only once, and it is named twice"

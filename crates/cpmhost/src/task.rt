@@ -130,7 +130,9 @@ fn files_of<'a, R: LockableFiles>(
     task: &'a Task<'_>,
 ) -> MachineFiles<'a, R> {
     let (rules, shows_controls) = match task {
-        Task::Com(task) | Task::Boot(task) => (FileRules::of_program(task.is_live), false),
+        Task::Com(task) | Task::Boot(task) => {
+            (FileRules::of_program(task.is_live), !task.is_raw)
+        }
         Task::Run(task) => (rules_of(task), !task.is_raw),
         _ => return MachineFiles::plain(rt, outputs),
     };

@@ -1,13 +1,14 @@
 //! Keys that are typed at a terminal which gives each as it comes, and which says at once where none came: as after `stty -icanon min 0 time 0`.
 
-ghost use Rattle.std.specs.Prelude.{◌<◌, IfSome, None, false};
+ghost use Rattle.std.specs.Prelude.{◌≡◌, ◌<◌, IfSome, None, false};
 
 use crate::held::LockableFiles;
 use crate::patient::StandardInput;
 use crate::tempo::{Tempo, micros, sleep};
-use arrayvec::ArrayVec;
 use cpm_host::{Heard, KeyNeed, TypingEnd, Typist};
+use std::alloc::Global;
 use std::cell::Cell;
+use std::collections::VecDeque;
 use std::io::{ErrorKind, Write};
 use std::{fs, io};
 
@@ -17,11 +18,11 @@ const END_KEY: u8 = 0x1D;
 /// ^^, before which each of the two is a key.
 const PREFIX_KEY: u8 = 0x1E;
 
-/// How many keys are kept here at most. More stay with the terminal.
-const MOST_KEPT_KEYS: usize = 256;
-
 /// How many bytes are read at once.
 const MOST_READ: usize = 128;
+
+/// How often it is read in a turn at most: as many bytes as a terminal keeps.
+const MOST_READS: usize = 32;
 
 /// After how many microseconds a terminal is asked again for a key that a machine wants.
 const KEY_PAUSE: u64 = 8_000;
@@ -35,7 +36,8 @@ const MOST_WAIT: u64 = 40_000;
 /// What was typed, and is not given yet.
 #[derive(Drop)]
 struct TypedKeys {
-    keys: ArrayVec<u8, MOST_KEPT_KEYS>,
+    /// As many as come, so that an end behind them is heard.
+    keys: VecDeque<u8>,
     /// Whether ^^ came last, which is no key yet.
     is_prefixed: bool,
     /// Why no more is typed.
@@ -45,28 +47,49 @@ struct TypedKeys {
 }
 
 impl TypedKeys {
-    fn new() -> TypedKeys {
+    fn new(alloc: Global) -> TypedKeys {
         TypedKeys {
-            keys: ArrayVec::new(),
+            keys: VecDeque::new(alloc),
             is_prefixed: false,
             end: None,
             since: 0,
         }
     }
 
-    /// For how many bytes there is room.
-    fn room(&self) -> usize {
-        match self.end {
-            Some(_) => 0,
-            None => MOST_KEPT_KEYS
-                .saturating_sub(self.keys.len())
-                .saturating_sub(usize::from(self.is_prefixed)),
+    /// Whether bytes are read, as many as are read at once: behind an end none are, and none where memory is refused, so that they stay with the terminal.
+    fn makes_room(&mut self) -> bool {
+        // (one more for a ^^ that came before)
+        self.end.is_none() && self.keys.reserve(MOST_READ + 1).is_ok()
+    }
+
+    /// Reads what came. What is left behind the most that are read in a turn stays with the terminal until the next.
+    fn read(&mut self, input: &impl StandardInput, now: u64) {
+        for _turn in 0..MOST_READS {
+            if !self.makes_room() || !self.read_some(input, now) {
+                return;
+            }
         }
     }
 
-    /// Keeps a key. (There is room, since no more bytes are read.)
+    /// Reads some bytes, for which there is room, and says whether there may be more.
+    fn read_some(&mut self, input: &impl StandardInput, now: u64) -> bool {
+        let mut bytes = [0u8; MOST_READ];
+        match input.read_input(&mut bytes) {
+            Ok(count) => {
+                self.take_first(&bytes, count, now);
+                count == MOST_READ
+            }
+            Err(error) if is_nothing(error.kind()) => false,
+            Err(_) => {
+                self.take_end(TypingEnd::InputEnd, now);
+                false
+            }
+        }
+    }
+
+    /// Keeps a key. (There is room: it was made before the bytes were read.)
     fn keep(&mut self, key: u8) {
-        let _ = self.keys.try_push(key);
+        let _ = self.keys.push_back(key);
     }
 
     /// Takes that no more is typed. A ^^ behind which nothing came is a key.
@@ -100,6 +123,13 @@ impl TypedKeys {
         }
     }
 
+    /// Takes the first bytes that came, so many.
+    fn take_first(&mut self, bytes: &[u8], count: usize, now: u64) {
+        for &byte in bytes.iter().take(count) {
+            self.take(byte, now);
+        }
+    }
+
     /// Takes the key behind ^^. Before any but the two ^^ is a key itself.
     fn take_prefixed(&mut self, byte: u8) {
         self.is_prefixed = false;
@@ -123,7 +153,7 @@ impl TypedKeys {
     fn next(&mut self, now: u64) -> Option<u8>
         ensures { IfSome result (λ byte. byte < 128) }
     {
-        let byte = self.keys.pop_at(0)?;
+        let byte = self.keys.pop_front()?;
         self.since = now;
         if byte.is_ascii() { Some(byte) } else { None }
     }
@@ -142,6 +172,8 @@ pub struct TerminalTypist<'a, R: LockableFiles + StandardInput> {
     looked: Option<u64>,
     /// Whether it has come.
     is_ended: bool,
+    /// Whether a script that goes before what is typed is played no further, since typing has ended.
+    has_broken_in: bool,
 }
 
 impl<'a, R: LockableFiles + StandardInput> TerminalTypist<'a, R> {
@@ -154,28 +186,33 @@ impl<'a, R: LockableFiles + StandardInput> TerminalTypist<'a, R> {
     ) -> TerminalTypist<'a, R> {
         TerminalTypist {
             rt,
-            typed: TypedKeys::new(),
+            typed: TypedKeys::new(rt.alloc()),
             tempo: Tempo::new(pace),
             end,
             is_output_gone,
             looked: None,
             is_ended: false,
+            has_broken_in: false,
         }
     }
 
     /// Does what comes before a key is given to a machine that has executed so many steps: keeps the pace, and takes what came. It says what the time is.
-    fn prepare(&mut self, is_wanted: bool, count: u64) -> u64 {
+    fn prepare(&mut self, is_wanted: bool, count: u64) -> u64
+        ensures { self.new.has_broken_in ≡ self.old.has_broken_in }
+    {
         let mut now = micros(self.rt);
         if !is_wanted {
             now = self.tempo.keep(self.rt, now, count);
         }
         self.look(now);
-        self.read(now);
+        self.typed.read(self.rt, now);
         now
     }
 
     /// Looks whether typing has ended otherwise than by a key.
-    fn look(&mut self, now: u64) {
+    fn look(&mut self, now: u64)
+        ensures { self.new.has_broken_in ≡ self.old.has_broken_in }
+    {
         self.is_ended = self.is_ended || self.is_output_gone.get();
         if let Some(looked) = self.looked
             && now.saturating_sub(looked) < LOOK_PAUSE
@@ -192,27 +229,10 @@ impl<'a, R: LockableFiles + StandardInput> TerminalTypist<'a, R> {
         }
     }
 
-    /// Reads what came, as far as there is room.
-    fn read(&mut self, now: u64) {
-        let mut bytes = [0u8; MOST_READ];
-        let room = self.typed.room().min(MOST_READ);
-        if room == 0 {
-            return;
-        }
-        match self.rt.read_input(&mut bytes[..room]) {
-            Ok(count) => {
-                for &byte in bytes.iter().take(count) {
-                    self.typed.take(byte, now);
-                }
-            }
-            Err(error) if is_nothing(error.kind()) => {}
-            Err(_) => self.typed.take_end(TypingEnd::InputEnd, now),
-        }
-    }
-
     /// The next key. Where one is wanted, and none came, it is waited a little.
     fn next(&mut self, is_wanted: bool, now: u64) -> Option<u8>
-        ensures { IfSome result (λ byte. byte < 128) }
+        ensures ascii { IfSome result (λ byte. byte < 128) }
+        ensures still { self.new.has_broken_in ≡ self.old.has_broken_in }
     {
         let key = self.typed.next(now);
         if key.is_some() || !is_wanted {
@@ -220,7 +240,7 @@ impl<'a, R: LockableFiles + StandardInput> TerminalTypist<'a, R> {
         }
         let then = sleep(self.rt, KEY_PAUSE);
         self.tempo.leave_out(then.saturating_sub(now));
-        self.read(then);
+        self.typed.read(self.rt, then);
         self.typed.next(then)
     }
 }
@@ -235,7 +255,7 @@ fn is_nothing(kind: ErrorKind) -> bool {
 
 impl<R: LockableFiles + StandardInput> Typist for TerminalTypist<'_, R> {
     // What is typed isn't known.
-    ghost typing = { λ _. record { is_patient = false; unread = None; heard = None } };
+    ghost typing = { λ typist. record { is_patient = false; unread = None; heard = None; has_broken_in = typist.has_broken_in } };
 
     fn is_patient(&self) -> bool {
         false
@@ -243,6 +263,16 @@ impl<R: LockableFiles + StandardInput> Typist for TerminalTypist<'_, R> {
 
     fn most_steps(&self) -> u64 {
         self.tempo.most_steps()
+    }
+
+    // (keys that come meanwhile are kept, so that they come when the script has ended)
+    fn look_in(&mut self, count: u64) {
+        self.prepare(false, count);
+        self.has_broken_in = self.has_broken_in || self.is_ended || self.typed.end.is_some();
+    }
+
+    fn has_broken_in(&self) -> bool {
+        self.has_broken_in
     }
 
     fn hear(&mut self, need: KeyNeed, count: u64) -> io::Result<Heard> {
