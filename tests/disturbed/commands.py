@@ -82,6 +82,8 @@ out = ["c.img"]
 """
 SOURCE = b" MVI C,2\n MVI E,'A'\n CALL 5\n RET\n"
 TYPED = b"0 a\n0 b\n0 .\n"
+# it prints P and Q
+PRINTS = bytes.fromhex("0E051E50CD05000E051E51CD0500C9")
 
 
 def made():
@@ -115,6 +117,7 @@ def commands():
         Command("disk-new", ("disk", "new", "new.img"), there),
         Command("com-out", (*keep_words, "--keys", "typed.keys"), disks),
         Command("com-record", ("com", "keep.com", "--keys", "typed.keys", "--record", "record"), record),
+        Command("com-list", ("com", "prints.com", "--disk", "b.img", "--out-disk", "a.img", "--list", "record"), {**record, "prints.com": PRINTS}),
         Command("com-typed", (*keep_words, "--keyboard", "--record", "record"), record, b"cd."),
         Command("com-no-key", ("com", "keep.com", "--keyboard", "--record", "record"), record),
         Command("run", ("run", "run.toml", "--record-all", "keys"), run),
