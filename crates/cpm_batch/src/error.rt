@@ -10,7 +10,7 @@ use std::alloc::{AllocError, AllocFailed};
 use thiserror::Error;
 
 /// Why what the sessions of a configuration need can't be read. Its text is shown after its code.
-#[derive(Clone, Copy, Debug, PartialEq, Eq, Drop, Error)]
+#[derive(Clone, Copy, Debug, Drop, Error)]
 pub enum ReadError {
     /// A file can't be read, or has more than 16,777,216 bytes.
     #[error("can't read '{0}'")]

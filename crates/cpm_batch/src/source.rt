@@ -5,7 +5,7 @@ ghost use Rattle.cpm_batch.specs.Sources.{key_file, key_source, replay_of, sourc
 use cpm_config::SessionConfig;
 
 /// A session that is played by the recording of its keys in a file, in place of its script.
-#[derive(Clone, Copy, Debug)]
+#[derive(Clone, Copy)]
 pub struct Replay<'a> {
     /// The name of the session.
     pub session: &'a str,

@@ -19,7 +19,7 @@ use thiserror::Error;
 pub type ShownWord = ArrayString<200>;
 
 /// What was wrong, with the word that was at fault where there is one.
-#[derive(Clone, Copy, Debug, PartialEq, Eq, Drop, Error)]
+#[derive(Clone, Copy, Debug, Drop, Error)]
 pub enum UsageFault {
     /// There is no word after the program's name.
     #[error("no command was given")]
@@ -99,7 +99,7 @@ pub enum UsageFault {
 }
 
 /// What was wrong with a command line, and the page of the help that tells how it is written.
-#[derive(Clone, Copy, Debug, PartialEq, Eq, Drop, Error)]
+#[derive(Clone, Copy, Debug, Drop, Error)]
 #[error("{fault}; try '{line}'", line = page_line(*.page))]
 pub struct UsageRefusal {
     pub fault: UsageFault,
@@ -107,7 +107,7 @@ pub struct UsageRefusal {
 }
 
 /// Why a command line names no task.
-#[derive(Clone, Copy, Debug, PartialEq, Eq, Drop, Error)]
+#[derive(Clone, Copy, Debug, Drop, Error)]
 pub enum UsageError {
     /// The words name no task.
     #[error("{0}")]

@@ -4,7 +4,7 @@ use crate::usage::Page;
 use cpm_flags::Cpu;
 
 /// A subcommand with its words.
-#[derive(Debug, PartialEq, Eq, Drop)]
+#[derive(Drop)]
 pub enum Task<'a> {
     /// `com ..`: run a program.
     Com(PlayTask<'a>),
@@ -52,7 +52,7 @@ pub enum Task<'a> {
 /// [--record SCRIPT] [--progress] [--stop-idle] [--raw] [--quiet] [--partial] [--status]
 /// [--replay RECORDING] [--pace N] [--system IMAGE] [--out-folder FOLDER].. [--list FILE]`: start CP/M
 /// with these drives.
-#[derive(Debug, PartialEq, Eq, Drop)]
+#[derive(Drop)]
 pub struct PlayTask<'a> {
     /// The file that the program is in. There is one for `com`, and none for `boot`.
     pub file: Option<&'a str>,
@@ -101,7 +101,7 @@ pub struct PlayTask<'a> {
 /// `run CONFIG [--keyboard NAME] [--record SCRIPT] [--progress] [--stop-idle] [--record-all FOLDER] [--raw]
 /// [--within FOLDER].. [--outputs-here] [--pace N] [--replay NAME=FILE]..`: run the sessions of the
 /// configuration in CONFIG.
-#[derive(Debug, PartialEq, Eq, Drop)]
+#[derive(Drop)]
 pub struct RunTask<'a> {
     /// The file of the configuration.
     pub config: &'a str,
@@ -128,7 +128,7 @@ pub struct RunTask<'a> {
 }
 
 /// A command of `disk` with its words. The files are those of `user`, from 0 to 15.
-#[derive(Debug, PartialEq, Eq, Drop)]
+#[derive(Drop)]
 pub enum DiskTask<'a> {
     /// `disk new IMAGE [--large]`: make the image of a blank disk, of the large format with `--large`.
     New {

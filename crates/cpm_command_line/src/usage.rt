@@ -11,7 +11,7 @@ use crate::fault::{UsageFault, UsageRefusal, shown};
 pub const VERSION: &str = "cpmhost 0.6.0\n";
 
 /// A page of the help.
-#[derive(Clone, Copy, Debug, PartialEq, Eq)]
+#[derive(Clone, Copy, Debug)]
 pub enum Page {
     /// What there is.
     Overview,

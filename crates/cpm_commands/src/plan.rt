@@ -5,7 +5,7 @@ ghost use Rattle.cpm_commands.specs.Plan.{all_planned, named_files, plan_view, p
 use std::alloc::{AllocError, Global};
 
 /// How a file that is written takes its name.
-#[derive(Clone, Copy, Debug, PartialEq, Eq, Drop)]
+#[derive(Clone, Copy, Drop)]
 pub enum OutputNaming {
     /// It replaces what has the name.
     Replaces,
@@ -16,7 +16,7 @@ pub enum OutputNaming {
 }
 
 /// What a file is that a command names.
-#[derive(Clone, Copy, Debug, PartialEq, Eq, Drop)]
+#[derive(Clone, Copy, Drop)]
 pub enum FileRole {
     /// The configuration of a run, which was read before, wherever it lies.
     Configuration,
@@ -31,14 +31,14 @@ pub enum FileRole {
 }
 
 /// A file that a command names.
-#[derive(Clone, Copy, Debug, PartialEq, Eq, Drop)]
+#[derive(Clone, Copy, Drop)]
 pub struct PlannedFile<'a> {
     pub name: &'a str,
     pub role: FileRole,
 }
 
 /// The files that a command reads and writes, each in its order.
-#[derive(Debug, Drop)]
+#[derive(Drop)]
 pub struct FilePlan<'a> {
     pub inputs: Vec<PlannedFile<'a>>,
     pub outputs: Vec<PlannedFile<'a>>,

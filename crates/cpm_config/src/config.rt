@@ -18,7 +18,7 @@ use std::alloc::Global;
 use toml::Table;
 
 /// How a session begins.
-#[derive(Debug, Drop)]
+#[derive(Drop)]
 pub enum Origin {
     /// It is opened.
     Opened {
@@ -37,7 +37,7 @@ pub enum Origin {
 }
 
 /// A session of a run.
-#[derive(Debug, Drop)]
+#[derive(Drop)]
 pub struct SessionConfig {
     /// 1 to 16 letters, digits, `-` and `_`; no other session has it.
     pub name: String,
@@ -57,7 +57,7 @@ pub struct SessionConfig {
 }
 
 /// The configuration of a run.
-#[derive(Debug, Drop)]
+#[derive(Drop)]
 pub struct Config {
     /// The frames that all sessions share, 16 to 16,384.
     pub frames: u16,

@@ -10,7 +10,7 @@ use std::fmt;
 use thiserror::Error;
 
 /// What is wrong with the keys of a configuration.
-#[derive(Clone, Copy, Debug, PartialEq, Eq, Drop, Error)]
+#[derive(Clone, Copy, Debug, Drop, Error)]
 pub enum KeyFault {
     /// The top has a key that no configuration has.
     #[error("the top has a key other than frames, quantum, system and session")]
@@ -27,7 +27,7 @@ pub enum KeyFault {
 }
 
 /// A key that is unknown where it stands.
-#[derive(Clone, Copy, Debug, PartialEq, Eq, Drop)]
+#[derive(Clone, Copy, Debug, Drop)]
 pub struct UnknownKey {
     /// The key as it is shown in a message.
     pub key: ShownWord,
@@ -36,7 +36,7 @@ pub struct UnknownKey {
 }
 
 /// What is wrong with the keys of a configuration, with the key that is unknown.
-#[derive(Clone, Copy, Debug, PartialEq, Eq, Drop)]
+#[derive(Clone, Copy, Debug, Drop)]
 pub struct KeyRefusal {
     pub fault: KeyFault,
     pub unknown: Option<UnknownKey>,
@@ -57,7 +57,7 @@ impl fmt::Display for KeyRefusal {
 }
 
 /// Why a configuration is refused: the first kind of fault in the whole file, in this order.
-#[derive(Clone, Copy, Debug, PartialEq, Eq, Drop, Error)]
+#[derive(Clone, Copy, Debug, Drop, Error)]
 pub enum ConfigError {
     /// The bytes are no TOML, and were read up to this line, from 1.
     #[error("configuration, line {line}: {}", .fault.message())]

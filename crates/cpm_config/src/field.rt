@@ -5,7 +5,7 @@ ghost use Rattle.cpm_config.specs.Fields.{field_name};
 use std::fmt;
 
 /// A key of a configuration.
-#[derive(Clone, Copy, Debug, PartialEq, Eq, Drop)]
+#[derive(Clone, Copy, Debug, Drop)]
 pub enum Field {
     Frames,
     Quantum,
@@ -72,7 +72,7 @@ impl Field {
 }
 
 /// A key at the top of the configuration, or of one session.
-#[derive(Clone, Copy, Debug, PartialEq, Eq, Drop)]
+#[derive(Clone, Copy, Debug, Drop)]
 pub struct ConfigKey {
     /// The session's number in the file, from 1; 0 is the top.
     pub session: u64,

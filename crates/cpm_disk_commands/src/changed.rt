@@ -15,7 +15,7 @@ use cpm_image_files::{DiskFile, FileName, ImageFilesError, get, list};
 use std::alloc::{AllocError, Global};
 
 /// What has become of a file of a disk.
-#[derive(Debug, Drop)]
+#[derive(Drop)]
 pub enum FileChange {
     /// It has the bytes that it had at the start.
     Unchanged,
@@ -26,7 +26,7 @@ pub enum FileChange {
 }
 
 /// A file of a disk, and what has become of it.
-#[derive(Debug, Drop)]
+#[derive(Drop)]
 pub struct ComparedFile {
     pub file: NamedFile,
     pub change: FileChange,

@@ -12,7 +12,7 @@ use cpm_volume::Entry;
 use std::fmt;
 
 /// A file as a directory entry names it. Its text is `NAME.TYP of user N`.
-#[derive(Clone, Copy, Debug, PartialEq, Eq)]
+#[derive(Clone, Copy, Debug)]
 pub struct NamedFile {
     pub user: u8,
     /// Eight characters of a name and three of a type, with their attribute bits.
@@ -32,7 +32,7 @@ impl NamedFile {
 }
 
 /// The fault of a directory, with what a person has to know of the disk.
-#[derive(Clone, Copy, Debug, PartialEq, Eq)]
+#[derive(Clone, Copy, Debug)]
 pub struct Damage {
     pub fault: DriveFault,
     /// The file of the entry with the fault.

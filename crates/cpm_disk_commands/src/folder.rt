@@ -16,7 +16,7 @@ use cpm_image_files::FileName;
 use std::alloc::{AllocError, Global};
 
 /// A file of a folder that goes onto a disk: its name in the folder, and on the disk.
-#[derive(Clone, Copy, Debug)]
+#[derive(Clone, Copy)]
 pub struct FolderName<'a> {
     pub name: &'a str,
     /// Of user 0, without attributes.
@@ -24,14 +24,14 @@ pub struct FolderName<'a> {
 }
 
 /// The names of a folder: those that a disk can have, and those that are left out.
-#[derive(Debug, Drop)]
+#[derive(Drop)]
 pub struct FolderNames<'a> {
     pub kept: Vec<FolderName<'a>>,
     pub left_out: Vec<&'a str>,
 }
 
 /// A file of the host that goes onto a disk.
-#[derive(Debug, Drop)]
+#[derive(Drop)]
 pub struct HostFile {
     pub file: FileName,
     pub bytes: Vec<u8>,

@@ -79,7 +79,7 @@ pub fn run_asm(alloc: Global, source: &[u8]) -> Result<Vec<u8>, HostError>
 }
 
 /// A program, and the listing of its source.
-#[derive(Debug, Drop)]
+#[derive(Drop)]
 pub struct ProgramListing {
     /// The bytes of the program from 0100h on.
     pub image: Vec<u8>,

@@ -88,7 +88,7 @@ pub fn recorded_cues_of(alloc: Global, name: &str, text: &[u8]) -> Result<Vec<Cu
 }
 
 /// Where the keys of a program come from.
-#[derive(Clone, Copy, Debug)]
+#[derive(Clone, Copy)]
 pub enum Source<'a> {
     /// What its script says, whose lines may wait.
     Cues(CuedKeys<'a>),

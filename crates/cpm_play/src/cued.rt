@@ -29,7 +29,7 @@ use std::io;
 use std::io::Write;
 
 /// What a machine is played by.
-#[derive(Clone, Copy, Debug)]
+#[derive(Clone, Copy)]
 pub struct CuedKeys<'a> {
     /// What a script says whose lines may wait.
     pub cues: &'a [Cue],

@@ -7,7 +7,7 @@ use std::alloc::AllocError;
 use thiserror::Error;
 
 /// Why sessions are not played to their end.
-#[derive(Clone, Copy, Debug, PartialEq, Eq, Drop, Error)]
+#[derive(Clone, Copy, Debug, Drop, Error)]
 pub enum PlayError {
     /// The fork of the session at this place is refused for another reason than memory.
     #[error("the session at place {place} is not forked: {fault}")]

@@ -55,7 +55,7 @@ pub struct LivePlay {
 }
 
 /// Why the play of a session that was typed at ended.
-#[derive(Clone, Copy, Debug, PartialEq, Eq, Drop)]
+#[derive(Clone, Copy, PartialEq, Eq, Drop)]
 pub enum PlayEnd {
     /// It has executed all its steps.
     Steps,

@@ -5,7 +5,7 @@ ghost use Rattle.std.specs.Prelude.{◌<◌};
 use crate::player::Player;
 
 /// How far sessions have come.
-#[derive(Clone, Copy, Debug, PartialEq, Eq, Drop)]
+#[derive(Clone, Copy, Drop)]
 pub struct Progress {
     /// How many steps all of them have executed. (It stays at its greatest value if it gets there, as do all.)
     pub done: u64,
@@ -32,7 +32,7 @@ pub trait Watcher {
 }
 
 /// Nobody.
-#[derive(Clone, Copy, Debug, Drop)]
+#[derive(Clone, Copy, Drop)]
 pub struct NoWatcher;
 
 impl Watcher for NoWatcher {

@@ -9,7 +9,7 @@ use std::io;
 use std::io::Read;
 
 /// What a machine can do with a key.
-#[derive(Clone, Copy, Debug, PartialEq, Eq, Drop)]
+#[derive(Clone, Copy, Drop)]
 pub enum KeyNeed {
     /// One is pending. No other is pressed before it is read.
     Pending,
@@ -32,7 +32,7 @@ impl KeyNeed {
 }
 
 /// Why no more is typed.
-#[derive(Clone, Copy, Debug, PartialEq, Eq, Drop)]
+#[derive(Clone, Copy, PartialEq, Eq, Drop)]
 pub enum TypingEnd {
     /// ^] was typed.
     Quit,
@@ -43,7 +43,7 @@ pub enum TypingEnd {
 }
 
 /// What is heard of a typist that is asked for a key.
-#[derive(Clone, Copy, Debug, PartialEq, Eq, Drop)]
+#[derive(Clone, Copy, Drop)]
 pub enum Heard {
     /// This key, which is below 80h.
     Key(u8),

@@ -5,7 +5,7 @@ ghost use Rattle.cpm_refusals.specs.Codes.{code_text, status_of_code};
 use std::fmt;
 
 /// What is at fault where something is refused. It is shown as `HO` and the exit status.
-#[derive(Clone, Copy, Debug, PartialEq, Eq, Drop)]
+#[derive(Clone, Copy, Drop)]
 pub enum RefusalCode {
     /// The words of the command line.
     Usage,

@@ -11,7 +11,7 @@ use cpm_slots::{Host, SlotId};
 use std::fmt;
 
 /// How a session ended, and where. Its text is `end END count N pc HHHH`.
-#[derive(Clone, Copy, Debug, PartialEq, Eq)]
+#[derive(Clone, Copy, PartialEq, Eq)]
 pub struct Ending {
     /// How it ended, or that it still runs.
     pub ended: End,
@@ -24,7 +24,7 @@ pub struct Ending {
 }
 
 /// The bytes at which a session ended that are no instruction. Its text is `illegal at HHHH: HH HH HH HH`.
-#[derive(Clone, Copy, Debug, PartialEq, Eq)]
+#[derive(Clone, Copy, PartialEq, Eq)]
 pub struct IllegalBytes {
     /// The program counter.
     pub pc: u16,

@@ -5,7 +5,7 @@ ghost use Rattle.std.specs.Prelude.{◌≡◌, [], false, true};
 use cpm_batch::Replay;
 
 /// The file for the keys of a session, as a script by which it does the same again.
-#[derive(Clone, Copy, Debug)]
+#[derive(Clone, Copy)]
 pub struct RecordFile<'a> {
     pub name: &'a str,
     /// Whether it is written only where the session has a key of its own.
@@ -13,7 +13,7 @@ pub struct RecordFile<'a> {
 }
 
 /// What is asked of a run besides its configuration.
-#[derive(Clone, Copy, Debug)]
+#[derive(Clone, Copy)]
 pub struct RunOptions<'a> {
     /// The name of the session that is typed at, after its script, if it has one.
     pub typed: Option<&'a str>,

@@ -4,7 +4,7 @@ use crate::ending::Ending;
 use std::fmt;
 
 /// How a session ended. Its text is `NAME END COUNT BYTES`.
-#[derive(Debug, PartialEq, Eq, Drop)]
+#[derive(Drop)]
 pub struct SessionReport {
     pub name: String,
     pub ending: Ending,

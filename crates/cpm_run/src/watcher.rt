@@ -3,7 +3,7 @@
 use cpm_play::{NoWatcher, Watcher};
 
 /// What a run begins.
-#[derive(Clone, Copy, Debug, PartialEq, Eq, Drop)]
+#[derive(Clone, Copy, Drop)]
 pub enum RunStage {
     /// One types at a session.
     Typing,

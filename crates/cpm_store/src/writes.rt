@@ -8,14 +8,14 @@ use crate::store::{Store, StoreError};
 use thiserror::Error;
 
 /// A file to be written.
-#[derive(Debug, Drop)]
+#[derive(Drop)]
 pub struct Output<'a> {
     pub name: &'a str,
     pub bytes: Vec<u8>,
 }
 
 /// Which write failed, and why.
-#[derive(Clone, Copy, Debug, PartialEq, Eq, Drop, Error)]
+#[derive(Clone, Copy, Debug, Drop, Error)]
 #[error("output {place}, counted from 0: {cause}")]
 pub struct WriteError {
     /// The place of the file among those to be written, from 0.
