@@ -1,7 +1,7 @@
 //! Disk images by their names, as rows make them and look at them.
 #![tactic(auto)]
 
-use cpm_geom::{Format, Image};
+use cpm_geom::{Format, GeomError, Image};
 use std::alloc::{AllocError, Global};
 use test_language::{RowAnswer, RowFault, RowLine, Word, bytes_of};
 
@@ -109,8 +109,7 @@ impl Images {
         if bytes.is_empty() {
             return RowAnswer::bytes(alloc, &record[place..place + ENTRY]);
         }
-        let bytes = bytes_of(alloc, bytes)?;
-        record[place..place + ENTRY].copy_from_slice(&filled::<ENTRY>(bytes.as_slice())?);
+        record[place..place + ENTRY].copy_from_slice(&given::<ENTRY>(alloc, bytes)?);
         put_record(alloc, image, number / 4, &record)
     }
 
@@ -122,13 +121,9 @@ impl Images {
         let number = number_of(*number)?;
         let image = self.get_mut(name.text)?;
         if bytes.is_empty() {
-            return match image.record(number) {
-                Ok(record) => RowAnswer::bytes(alloc, record),
-                Err(error) => RowAnswer::refused(alloc, error),
-            };
+            return shown(alloc, image.record(number));
         }
-        let bytes = bytes_of(alloc, bytes)?;
-        put_record(alloc, image, number, &filled::<RECORD>(bytes.as_slice())?)
+        put_record(alloc, image, number, &given(alloc, bytes)?)
     }
 
     /// `sector NAME TRACK SECTOR BYTES`: the sector begins so, and else has zeros. Without bytes: what it is.
@@ -139,22 +134,37 @@ impl Images {
         let (track, sector) = (number_of(*track)?, number_of(*sector)?);
         let image = self.get_mut(name.text)?;
         if bytes.is_empty() {
-            return match image.sector(track, sector) {
-                Ok(bytes) => RowAnswer::bytes(alloc, bytes),
-                Err(error) => RowAnswer::refused(alloc, error),
-            };
+            return shown(alloc, image.sector(track, sector));
         }
-        let bytes = bytes_of(alloc, bytes)?;
-        match image.put_sector(track, sector, &filled::<RECORD>(bytes.as_slice())?) {
-            Ok(()) => Ok(RowAnswer::Done),
-            Err(error) => RowAnswer::refused(alloc, error),
-        }
+        done(alloc, image.put_sector(track, sector, &given(alloc, bytes)?))
+    }
+}
+
+/// The bytes of a place, or why there is none.
+fn shown(alloc: Global, found: Result<&[u8], GeomError>) -> Result<RowAnswer, RowFault> {
+    match found {
+        Ok(bytes) => RowAnswer::bytes(alloc, bytes),
+        Err(error) => RowAnswer::refused(alloc, error),
+    }
+}
+
+/// That something was put, or why it wasn't.
+fn done(alloc: Global, put: Result<(), GeomError>) -> Result<RowAnswer, RowFault> {
+    match put {
+        Ok(()) => Ok(RowAnswer::Done),
+        Err(error) => RowAnswer::refused(alloc, error),
     }
 }
 
 /// A decimal number of 16 bits.
 fn number_of(word: Word<'_>) -> Result<u16, RowFault> {
     word.text.parse::<u16>().map_err(|_| RowFault::Number)
+}
+
+/// Bytes that begin with those that words stand for, and else are zeros.
+fn given<const N: usize>(alloc: Global, words: &[Word<'_>]) -> Result<[u8; N], RowFault> {
+    let bytes = bytes_of(alloc, words)?;
+    filled(bytes.as_slice())
 }
 
 /// Bytes that begin so, and else are zeros.
@@ -184,8 +194,5 @@ fn put_record(
     number: u16,
     record: &[u8; RECORD],
 ) -> Result<RowAnswer, RowFault> {
-    match image.put_record(number, record) {
-        Ok(()) => Ok(RowAnswer::Done),
-        Err(error) => RowAnswer::refused(alloc, error),
-    }
+    done(alloc, image.put_record(number, record))
 }

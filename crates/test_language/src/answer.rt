@@ -63,20 +63,30 @@ impl RowAnswer {
 
     /// Whether it is what must come.
     pub(crate) fn is(&self, alloc: Global, line: &RowLine<'_>) -> Result<bool, RowFault> {
-        match (self, &line.wanted) {
-            (RowAnswer::Done, wanted) => Ok(matches!(wanted, Expectation::Nothing)),
-            (RowAnswer::Refused(_), Expectation::Nothing) => Ok(false),
-            (_, Expectation::Nothing) => Ok(true),
-            (RowAnswer::Words(words) | RowAnswer::Refused(words), Expectation::Words(wanted)) => {
-                Ok(words.as_str() == *wanted)
+        match line.wanted {
+            Expectation::Nothing => Ok(!matches!(self, RowAnswer::Refused(_))),
+            Expectation::Words(wanted) => self.is_words(alloc, wanted),
+            Expectation::Text => Ok(self.is_text(line.text.as_str())),
+        }
+    }
+
+    /// Whether it is these words, or the bytes that they stand for.
+    fn is_words(&self, alloc: Global, wanted: &str) -> Result<bool, RowFault> {
+        match self {
+            RowAnswer::Done => Ok(false),
+            RowAnswer::Words(words) | RowAnswer::Refused(words) => Ok(words.as_str() == wanted),
+            RowAnswer::Bytes(bytes) => is_bytes(alloc, bytes.as_slice(), wanted),
+        }
+    }
+
+    /// Whether it is a text whose lines have their ends.
+    fn is_text(&self, wanted: &str) -> bool {
+        match self {
+            RowAnswer::Done => false,
+            RowAnswer::Words(words) | RowAnswer::Refused(words) => {
+                wanted.strip_suffix('\n') == Some(words.as_str())
             }
-            (RowAnswer::Words(words) | RowAnswer::Refused(words), Expectation::Text) => {
-                Ok(line.text.as_str().strip_suffix('\n') == Some(words.as_str()))
-            }
-            (RowAnswer::Bytes(bytes), Expectation::Words(wanted)) => is_bytes(alloc, bytes, wanted),
-            (RowAnswer::Bytes(bytes), Expectation::Text) => Ok(
-                line.text.as_bytes() == bytes.as_slice(),
-            ),
+            RowAnswer::Bytes(bytes) => wanted.as_bytes() == bytes.as_slice(),
         }
     }
 
@@ -94,9 +104,13 @@ impl RowAnswer {
     }
 }
 
-/// Whether bytes are those that a text names.
+/// Whether bytes are those that a text stands for.
 fn is_bytes(alloc: Global, bytes: &[u8], wanted: &str) -> Result<bool, RowFault> {
-    let words = words_of(alloc, wanted)?;
-    let wanted = bytes_of(alloc, words.as_slice())?;
-    Ok(wanted.as_slice() == bytes)
+    Ok(bytes_in(alloc, wanted)?.as_slice() == bytes)
+}
+
+/// The bytes that a text stands for.
+fn bytes_in(alloc: Global, text: &str) -> Result<Vec<u8>, RowFault> {
+    let words = words_of(alloc, text)?;
+    bytes_of(alloc, words.as_slice())
 }

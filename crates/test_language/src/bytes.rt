@@ -12,19 +12,40 @@ const MOST: usize = 4_210_688;
 /// `\xHH`, or `rising`, the bytes 0 to 250 over and over. A number and `*` before an item repeat it.
 pub fn bytes_of(alloc: Global, words: &[Word<'_>]) -> Result<Vec<u8>, RowFault> {
     let mut bytes = Vec::new(alloc);
+    add_words(&mut bytes, words)?;
+    Ok(bytes)
+}
+
+/// Adds the bytes that words stand for.
+fn add_words(bytes: &mut Vec<u8>, words: &[Word<'_>]) -> Result<(), RowFault> {
     let mut times = None;
     for word in words {
-        match times_of(*word)? {
-            Some((count, rest)) if rest.text.is_empty() => times = Some(count),
-            Some((count, rest)) => add_items(&mut bytes, count, rest)?,
-            None => add_items(&mut bytes, times.take().unwrap_or(1), *word)?,
-        }
+        times = add_word(bytes, times, *word)?;
     }
     // (a number that repeats nothing)
-    if times.is_some() {
-        return Err(RowFault::Bytes);
+    match times {
+        None => Ok(()),
+        Some(_) => Err(RowFault::Bytes),
     }
-    Ok(bytes)
+}
+
+/// Adds the bytes of a word, as often as one before it said. How often a later word stands, where one said it that repeats nothing yet.
+fn add_word(
+    bytes: &mut Vec<u8>,
+    times: Option<usize>,
+    word: Word<'_>,
+) -> Result<Option<usize>, RowFault> {
+    match times_of(word)? {
+        Some((count, rest)) if rest.text.is_empty() => Ok(Some(count)),
+        Some((count, rest)) => {
+            add_items(bytes, count, rest)?;
+            Ok(times)
+        }
+        None => {
+            add_items(bytes, times.unwrap_or(1), word)?;
+            Ok(None)
+        }
+    }
 }
 
 /// How often an item stands, and the item, where a word begins with a number and `*`.
@@ -53,13 +74,20 @@ fn add_items(bytes: &mut Vec<u8>, times: usize, word: Word<'_>) -> Result<(), Ro
         return add_rising(bytes, times);
     }
     for _ in 0..times {
-        if word.is_quoted {
-            add_text(bytes, word.text)?;
-        } else {
-            bytes.push(byte(word).map_err(|_| RowFault::Bytes)?)?;
-        }
+        add_item(bytes, word)?;
     }
     Ok(())
+}
+
+/// Adds an item once: a text in quotes, or a byte.
+fn add_item(bytes: &mut Vec<u8>, word: Word<'_>) -> Result<(), RowFault> {
+    if word.is_quoted {
+        return add_text(bytes, word.text);
+    }
+    match byte(word) {
+        Ok(byte) => Ok(bytes.push(byte)?),
+        Err(_) => Err(RowFault::Bytes),
+    }
 }
 
 /// Adds so many bytes, no two neighbours alike.
@@ -74,13 +102,21 @@ fn add_rising(bytes: &mut Vec<u8>, times: usize) -> Result<(), RowFault> {
 fn add_text(bytes: &mut Vec<u8>, text: &str) -> Result<(), RowFault> {
     let mut rest = text.as_bytes().iter();
     for _ in 0..text.len() {
-        match rest.next() {
-            Some(b'\\') => bytes.push(escaped(&mut rest)?)?,
-            Some(character) => bytes.push(*character)?,
+        match next_byte(&mut rest)? {
+            Some(byte) => bytes.push(byte)?,
             None => return Ok(()),
         }
     }
     Ok(())
+}
+
+/// The next byte of a text in quotes.
+fn next_byte(rest: &mut Iter<'_, u8>) -> Result<Option<u8>, RowFault> {
+    match rest.next() {
+        Some(b'\\') => Ok(Some(escaped(rest)?)),
+        Some(character) => Ok(Some(*character)),
+        None => Ok(None),
+    }
 }
 
 /// The byte that an escape stands for, after its `\`.
@@ -90,48 +126,59 @@ fn escaped(rest: &mut Iter<'_, u8>) -> Result<u8, RowFault> {
         Some(b'n') => Ok(b'\n'),
         Some(b't') => Ok(b'\t'),
         Some(b'\\') => Ok(b'\\'),
-        Some(b'x') => {
-            let (Some(high), Some(low)) = (rest.next(), rest.next()) else {
-                return Err(RowFault::Bytes);
-            };
-            let mut byte = [0];
-            match hex::decode_to_slice([*high, *low].as_slice(), &mut byte) {
-                Ok(()) => Ok(byte[0]),
-                Err(_) => Err(RowFault::Bytes),
-            }
-        }
+        Some(b'x') => escaped_digits(rest),
         _ => Err(RowFault::Bytes),
+    }
+}
+
+/// The byte that two digits stand for, after `\x`.
+fn escaped_digits(rest: &mut Iter<'_, u8>) -> Result<u8, RowFault> {
+    let (Some(high), Some(low)) = (rest.next(), rest.next()) else {
+        return Err(RowFault::Bytes);
+    };
+    let mut byte = [0];
+    match hex::decode_to_slice([*high, *low].as_slice(), &mut byte) {
+        Ok(()) => Ok(byte[0]),
+        Err(_) => Err(RowFault::Bytes),
     }
 }
 
 /// Adds bytes to a text as rows write them.
 pub fn write_bytes(alloc: Global, out: &mut String, bytes: &[u8]) -> Result<(), AllocError> {
-    let mut is_text = false;
-    for (place, byte) in bytes.iter().enumerate() {
-        let is_shown = matches!(*byte, b' '..=b'~') && *byte != b'"' && *byte != b'\\';
-        if is_shown && !is_text && place > 0 {
-            out.push(' ')?;
-        }
-        if is_shown != is_text {
-            out.push('"')?;
-        }
-        if is_shown {
-            out.push(char::from(*byte))?;
-        } else {
-            add_digits(alloc, out, place, *byte)?;
-        }
-        is_text = is_shown;
+    let mut before = None;
+    for byte in bytes {
+        let is_shown = is_shown(*byte);
+        out.push_str(between(before, is_shown))?;
+        add_byte(alloc, out, *byte, is_shown)?;
+        before = Some(is_shown);
     }
-    if is_text {
+    if matches!(before, Some(true)) {
         out.push('"')?;
     }
     Ok(())
 }
 
-/// Adds the digits of a byte, apart from what stands before it.
-fn add_digits(alloc: Global, out: &mut String, place: usize, byte: u8) -> Result<(), AllocError> {
-    if place > 0 {
-        out.push(' ')?;
+/// Whether a byte is shown as a character, between quotes.
+fn is_shown(byte: u8) -> bool {
+    matches!(byte, b' '..=b'!' | b'#'..=b'[' | b']'..=b'~')
+}
+
+/// What stands before a byte, by whether the byte before it is shown as a character, if there is one, and whether it is itself.
+fn between(before: Option<bool>, is_shown: bool) -> &'static str {
+    match (before, is_shown) {
+        (None, true) => "\"",
+        (Some(false), true) => " \"",
+        (Some(true), false) => "\" ",
+        (Some(false), false) => " ",
+        (None, false) | (Some(true), true) => "",
     }
-    out.push_str(hex::encode_upper(alloc, [byte].as_slice())?.as_str())
+}
+
+/// Adds a byte: a character, or two digits.
+fn add_byte(alloc: Global, out: &mut String, byte: u8, is_shown: bool) -> Result<(), AllocError> {
+    if is_shown {
+        out.push(char::from(byte))
+    } else {
+        out.push_str(hex::encode_upper(alloc, [byte].as_slice())?.as_str())
+    }
 }

@@ -6,6 +6,7 @@ mod bytes;
 mod fault;
 mod line;
 mod row;
+mod row_report;
 mod runner;
 mod scene;
 mod word;

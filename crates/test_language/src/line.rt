@@ -4,7 +4,7 @@ use crate::bytes::bytes_of;
 use crate::fault::RowFault;
 use crate::scene::Scene;
 use crate::word::{Word, words_of};
-use std::alloc::Global;
+use std::alloc::{AllocError, Global};
 
 /// What a line must answer.
 #[derive(Clone, Copy)]
@@ -43,20 +43,30 @@ fn fault_of(wanted: Expectation<'_>, has_text: bool) -> Option<RowFault> {
     }
 }
 
+/// The text of a line without the mark at its end, and whether the mark is there.
+fn without_mark(text: &str) -> (&str, bool) {
+    match text.strip_suffix(" <<") {
+        Some(done) => (done, true),
+        None => (text, false),
+    }
+}
+
+/// What stands before the equals sign, and what is wanted.
+fn without_wanted(text: &str) -> (&str, Expectation<'_>) {
+    if let Some((done, wanted)) = text.split_once(" = ") {
+        return (done, Expectation::Words(wanted));
+    }
+    match text.strip_suffix(" =") {
+        Some(done) => (done, Expectation::Text),
+        None => (text, Expectation::Nothing),
+    }
+}
+
 impl<'a> RowLine<'a> {
     /// The line of this text, whose own text between marks is still to be read.
     pub fn of(alloc: Global, number: usize, text: &'a str) -> RowLine<'a> {
-        let (done, has_text) = match text.strip_suffix(" <<") {
-            Some(done) => (done, true),
-            None => (text, false),
-        };
-        let (done, wanted) = match done.split_once(" = ") {
-            Some((done, wanted)) => (done, Expectation::Words(wanted)),
-            None => match done.strip_suffix(" =") {
-                Some(done) => (done, Expectation::Text),
-                None => (done, Expectation::Nothing),
-            },
-        };
+        let (done, has_text) = without_mark(text);
+        let (done, wanted) = without_wanted(done);
         let (words, fault) = match words_of(alloc, done) {
             Ok(words) => (words, fault_of(wanted, has_text)),
             Err(fault) => (Vec::new(alloc), Some(fault)),
@@ -69,6 +79,12 @@ impl<'a> RowLine<'a> {
             has_text,
             fault,
         }
+    }
+
+    /// Takes a line of its text.
+    pub(crate) fn add_text(&mut self, text: &str) -> Result<(), AllocError> {
+        self.text.push_str(text)?;
+        self.text.push('\n')
     }
 
     /// Why it is no line of a scene: it is none at all, has words where there are none, or a text that it doesn't take.

@@ -3,6 +3,7 @@
 use crate::answer::RowAnswer;
 use crate::fault::RowFault;
 use crate::line::{Expectation, RowLine};
+use crate::row_report::RowReport;
 use crate::scene::Scene;
 use std::alloc::{AllocError, Global};
 
@@ -31,6 +32,8 @@ pub struct Row<'a, S: Scene> {
     /// How many of the lines that were done say what must come.
     pub expectations: u64,
     pub course: Course,
+    /// What came of the line that failed, in words.
+    came: String,
 }
 
 impl<'a, S: Scene> Row<'a, S> {
@@ -42,26 +45,46 @@ impl<'a, S: Scene> Row<'a, S> {
             scene: S::new(alloc)?,
             expectations: 0,
             course: Course::Right,
+            came: String::new(alloc),
         })
     }
 
-    /// Does a line, unless the row has failed. The result, in words, where it is not what must come.
-    pub fn act(&mut self, alloc: Global, line: &RowLine<'_>) -> Result<Option<String>, AllocError> {
+    /// Does a line, unless the row has failed.
+    fn act(&mut self, alloc: Global, line: &RowLine<'_>) -> Result<(), AllocError> {
         if !matches!(self.course, Course::Right) {
             self.course = Course::GoesOn;
-            return Ok(None);
+            return Ok(());
         }
         if !matches!(line.wanted, Expectation::Nothing) {
             self.expectations = self.expectations.saturating_add(1);
         }
-        let Some(wrongly) = done_wrongly(alloc, &mut self.scene, line)? else {
-            return Ok(None);
-        };
-        self.course = match wrongly.fault {
-            Some(fault) => Course::Fault(fault),
-            None => Course::Other,
-        };
-        Ok(Some(wrongly.came))
+        self.course = done(alloc, &mut self.scene, line, &mut self.came)?;
+        Ok(())
+    }
+
+    /// Does a line of a row that must be right, and tells what came where it is something else.
+    pub fn act_right(
+        &mut self,
+        alloc: Global,
+        line: &RowLine<'_>,
+        report: &mut RowReport<'_>,
+    ) -> Result<(), AllocError> {
+        self.act(alloc, line)?;
+        match self.course {
+            Course::Other | Course::Fault(_) => {
+                report.tell_line(self.name, line, self.came.as_str())
+            }
+            _ => Ok(()),
+        }
+    }
+
+    /// Does a line of a row that must be wrong, or takes the one that names its fault.
+    pub fn act_wrong(&mut self, alloc: Global, line: &RowLine<'_>) -> Result<(), AllocError> {
+        if line.verb() == "fails" {
+            self.take_fault(line);
+            return Ok(());
+        }
+        self.act(alloc, line)
     }
 
     /// Its fault, where nothing was compared that is wrong.
@@ -74,74 +97,70 @@ impl<'a, S: Scene> Row<'a, S> {
     }
 
     /// Takes the line that names its fault.
-    pub fn take_fault(&mut self, alloc: Global, line: &RowLine<'_>) -> Result<(), AllocError> {
-        let Some(fault) = self.fault() else {
-            self.course = Course::GoesOn;
-            return Ok(());
+    fn take_fault(&mut self, line: &RowLine<'_>) {
+        self.course = match (self.fault(), line.wanted) {
+            (None, _) => Course::GoesOn,
+            (Some(fault), Expectation::Words(wanted)) if wanted == fault.name() => Course::Named,
+            (Some(fault), _) => Course::Fault(fault),
         };
-        let name = format!(in alloc; "{fault:?}")?;
-        self.course = match line.wanted {
-            Expectation::Words(wanted) if wanted == name.as_str() => Course::Named,
-            _ => Course::Fault(fault),
-        };
-        Ok(())
     }
 }
 
-/// The result of a line that is not what must come.
-#[derive(Drop)]
-struct Wrongly {
-    /// The fault by which nothing could be compared.
-    fault: Option<RowFault>,
-    /// What came, in words.
-    came: String,
-}
-
-/// Does a line, as often as it says. The result where once it is not what must come.
-fn done_wrongly<S: Scene>(
+/// Does a line, as often as it says. The course of the row after it.
+fn done<S: Scene>(
     alloc: Global,
     scene: &mut S,
     line: &RowLine<'_>,
-) -> Result<Option<Wrongly>, AllocError> {
+    came: &mut String,
+) -> Result<Course, AllocError> {
     if let Some(fault) = line.fault_in::<S>() {
-        return Ok(Some(by_fault(alloc, fault)?));
+        return failed(fault, came);
     }
     for _ in 0..line.times() {
-        let answer = scene.act(alloc, line);
-        if let Some(wrongly) = came_wrongly(alloc, line, answer)? {
-            return Ok(Some(wrongly));
+        let course = done_once(alloc, scene, line, came)?;
+        if !matches!(course, Course::Right) {
+            return Ok(course);
         }
     }
-    Ok(None)
+    Ok(Course::Right)
 }
 
-/// The result of a line where it is not what must come.
-fn came_wrongly(
+/// Does a line once.
+fn done_once<S: Scene>(
+    alloc: Global,
+    scene: &mut S,
+    line: &RowLine<'_>,
+    came: &mut String,
+) -> Result<Course, AllocError> {
+    match scene.act(alloc, line) {
+        Ok(answer) => compared(alloc, line, &answer, came),
+        Err(fault) => failed(fault, came),
+    }
+}
+
+/// The course of a row after an answer.
+fn compared(
     alloc: Global,
     line: &RowLine<'_>,
-    answer: Result<RowAnswer, RowFault>,
-) -> Result<Option<Wrongly>, AllocError> {
-    let answer = match answer {
-        Ok(answer) => answer,
-        Err(fault) => return Ok(Some(by_fault(alloc, fault)?)),
-    };
-    let fault = match answer.is(alloc, line) {
-        Ok(true) => return Ok(None),
-        Ok(false) => None,
-        Err(fault) => Some(fault),
-    };
-    let mut came = String::new(alloc);
-    answer.write(alloc, &mut came)?;
-    if let Some(fault) = fault {
-        came.push_str(format!(in alloc; ", and {fault}")?.as_str())?;
+    answer: &RowAnswer,
+    came: &mut String,
+) -> Result<Course, AllocError> {
+    match answer.is(alloc, line) {
+        Ok(true) => Ok(Course::Right),
+        Ok(false) => {
+            answer.write(alloc, came)?;
+            Ok(Course::Other)
+        }
+        Err(fault) => {
+            answer.write(alloc, came)?;
+            came.push_str(", and ")?;
+            failed(fault, came)
+        }
     }
-    Ok(Some(Wrongly { fault, came }))
 }
 
-/// The result of a line that can't be done.
-fn by_fault(alloc: Global, fault: RowFault) -> Result<Wrongly, AllocError> {
-    Ok(Wrongly {
-        fault: Some(fault),
-        came: format!(in alloc; "{fault}")?,
-    })
+/// The course of a row that has a fault.
+fn failed(fault: RowFault, came: &mut String) -> Result<Course, AllocError> {
+    came.push_str(fault.text())?;
+    Ok(Course::Fault(fault))
 }

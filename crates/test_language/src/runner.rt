@@ -1,7 +1,8 @@
 //! Runs the rows of a file.
 
-use crate::line::{Expectation, RowLine};
+use crate::line::RowLine;
 use crate::row::{Course, Row};
+use crate::row_report::RowReport;
 use crate::scene::Scene;
 use std::alloc::{AllocError, Global};
 
@@ -17,69 +18,98 @@ pub struct Tally {
 #[derive(Drop)]
 struct RowRunner<'a, S: Scene> {
     alloc: Global,
-    file: &'a str,
     /// Whether each row is wrong, and must fail.
     are_wrong: bool,
     row: Option<Row<'a, S>>,
     /// The line whose text is being read.
     line: Option<RowLine<'a>>,
-    tally: Tally,
-    /// What is told of rows that are not as they should be.
-    told: String,
+    report: RowReport<'a>,
 }
 
 impl<'a, S: Scene> RowRunner<'a, S> {
+    /// Before the first row.
+    fn new(alloc: Global, file: &'a str, are_wrong: bool) -> RowRunner<'a, S> {
+        RowRunner {
+            alloc,
+            are_wrong,
+            row: None,
+            line: None,
+            report: RowReport::new(alloc, file),
+        }
+    }
+
+    /// Runs the rows of a file, and adds to a text what is told of them.
+    fn run(&mut self, text: &'a str, told: &mut String) -> Result<Tally, AllocError> {
+        self.take_lines(text)?;
+        self.end()?;
+        told.push_str(self.report.told.as_str())?;
+        Ok(self.report.tally)
+    }
+
+    /// Takes the lines of a file, of which the first line was read.
+    fn take_lines(&mut self, text: &'a str) -> Result<(), AllocError> {
+        let mut lines = text.lines();
+        let _ = lines.next();
+        let mut number = 1_usize;
+        for line in lines {
+            number = number.saturating_add(1);
+            self.take(number, line)?;
+        }
+        Ok(())
+    }
+
     /// Takes a line of the file.
     fn take(&mut self, number: usize, text: &'a str) -> Result<(), AllocError> {
-        match self.line.take() {
-            Some(line) => self.take_text(line, text),
+        match &mut self.line {
+            Some(_) if text == ">>" => self.end_text(),
+            Some(line) => line.add_text(text),
             None => self.take_line(number, text),
         }
     }
 
-    /// Takes a line of the text that belongs to a line, or its end.
-    fn take_text(&mut self, line: RowLine<'a>, text: &str) -> Result<(), AllocError> {
-        if text == ">>" {
-            return self.act(&line);
+    /// Does the line whose text has been read.
+    fn end_text(&mut self) -> Result<(), AllocError> {
+        match self.line.take() {
+            Some(line) => self.act(&line),
+            None => Ok(()),
         }
-        let mut line = line;
-        line.text.push_str(text)?;
-        line.text.push('\n')?;
-        self.line = Some(line);
-        Ok(())
     }
 
     /// Takes a line that is no part of a text.
     fn take_line(&mut self, number: usize, text: &'a str) -> Result<(), AllocError> {
         if text.is_empty() || text.starts_with('#') {
-            return Ok(());
+            Ok(())
+        } else if text.starts_with("  ") {
+            self.begin_line(number, text)
+        } else {
+            self.begin_row(number, text)
         }
-        if !text.starts_with("  ") {
-            self.end_row()?;
-            self.row = Some(Row::begin(self.alloc, number, text)?);
-            return Ok(());
-        }
+    }
+
+    /// Does a line of the row, once its text has been read.
+    fn begin_line(&mut self, number: usize, text: &'a str) -> Result<(), AllocError> {
         let line = RowLine::of(self.alloc, number, text);
-        if line.has_text {
-            self.line = Some(line);
-            return Ok(());
+        if !line.has_text {
+            return self.act(&line);
         }
-        self.act(&line)
+        self.line = Some(line);
+        Ok(())
+    }
+
+    /// Begins a row.
+    fn begin_row(&mut self, number: usize, name: &'a str) -> Result<(), AllocError> {
+        self.end_row()?;
+        self.row = Some(Row::begin(self.alloc, number, name)?);
+        Ok(())
     }
 
     /// Does a line of the row, unless the row has failed.
     fn act(&mut self, line: &RowLine<'_>) -> Result<(), AllocError> {
-        let Some(row) = &mut self.row else {
-            return self.fail_file(line.number, "this line stands before the first row");
-        };
-        if self.are_wrong && line.verb() == "fails" {
-            return row.take_fault(self.alloc, line);
+        match &mut self.row {
+            Some(row) if self.are_wrong => row.act_wrong(self.alloc, line),
+            Some(row) => row.act_right(self.alloc, line, &mut self.report),
+            None => self.report.fail(line.number, "", "this line stands before the first row"),
         }
-        let Some(came) = row.act(self.alloc, line)? else {
-            return Ok(());
-        };
-        let name = row.name;
-        self.fail(name, line, came.as_str())
     }
 
     /// Ends the row, if there is one.
@@ -87,8 +117,7 @@ impl<'a, S: Scene> RowRunner<'a, S> {
         let Some(row) = self.row.take() else {
             return Ok(());
         };
-        self.tally.rows = self.tally.rows.saturating_add(1);
-        self.tally.expectations = self.tally.expectations.saturating_add(row.expectations);
+        self.report.count_row(row.expectations);
         if self.are_wrong {
             self.end_wrong(&row)
         } else {
@@ -100,9 +129,10 @@ impl<'a, S: Scene> RowRunner<'a, S> {
     fn end_right(&mut self, row: &Row<'a, S>) -> Result<(), AllocError> {
         match row.course {
             Course::Right if row.expectations > 0 => Ok(()),
-            Course::Right => self.fail_row(row, "the row expects nothing"),
+            Course::Right => self.report.fail(row.number, row.name, ": the row expects nothing"),
+            // (its line was told of)
             _ => {
-                self.tally.failed = self.tally.failed.saturating_add(1);
+                self.report.count_failed();
                 Ok(())
             }
         }
@@ -112,50 +142,20 @@ impl<'a, S: Scene> RowRunner<'a, S> {
     fn end_wrong(&mut self, row: &Row<'a, S>) -> Result<(), AllocError> {
         match (row.course, row.fault()) {
             (Course::Other | Course::Named, _) => Ok(()),
-            (_, Some(fault)) => {
-                let told = format!(in self.alloc;
-                    "the row doesn't name its fault: fails = {fault:?}"
-                )?;
-                self.fail_row(row, told.as_str())
+            (_, Some(fault)) => self.report.fail_unnamed(row.number, row.name, fault),
+            (_, None) => {
+                let what = ": the row is wrong, and doesn't fail at its last line";
+                self.report.fail(row.number, row.name, what)
             }
-            (_, None) => self.fail_row(row, "the row is wrong, and doesn't fail at its last line"),
         }
     }
 
-    /// Tells of a line that didn't answer what it must, where the row should be right.
-    fn fail(&mut self, name: &str, line: &RowLine<'_>, came: &str) -> Result<(), AllocError> {
-        if self.are_wrong {
-            return Ok(());
+    /// Ends the file.
+    fn end(&mut self) -> Result<(), AllocError> {
+        if let Some(line) = &self.line {
+            self.report.fail(line.number, "", "the text behind this line has no end")?;
         }
-        let number = line.number;
-        let told = format!(in self.alloc; "{}:{number}: {name}\n    came:   {came}\n", self.file)?;
-        self.told.push_str(told.as_str())?;
-        match line.wanted {
-            Expectation::Nothing => Ok(()),
-            Expectation::Words(wanted) => self.tell_wanted(wanted),
-            Expectation::Text => self.tell_wanted(line.text.as_str()),
-        }
-    }
-
-    /// Tells of a line of the file that belongs to no row.
-    fn fail_file(&mut self, number: usize, what: &str) -> Result<(), AllocError> {
-        self.tally.failed = self.tally.failed.saturating_add(1);
-        let line = format!(in self.alloc; "{}:{number}: {what}\n", self.file)?;
-        self.told.push_str(line.as_str())
-    }
-
-    fn tell_wanted(&mut self, wanted: &str) -> Result<(), AllocError> {
-        self.told.push_str("    wanted: ")?;
-        self.told.push_str(wanted)?;
-        self.told.push('\n')
-    }
-
-    /// Tells of a row as a whole.
-    fn fail_row(&mut self, row: &Row<'a, S>, what: &str) -> Result<(), AllocError> {
-        self.tally.failed = self.tally.failed.saturating_add(1);
-        let Row { number, name, .. } = row;
-        let line = format!(in self.alloc; "{}:{number}: {name}: {what}\n", self.file)?;
-        self.told.push_str(line.as_str())
+        self.end_row()
     }
 }
 
@@ -168,22 +168,6 @@ pub fn run_rows<'a, S: Scene>(
     are_wrong: bool,
     told: &mut String,
 ) -> Result<Tally, AllocError> {
-    let mut runner: RowRunner<'a, S> = RowRunner {
-        alloc,
-        file,
-        are_wrong,
-        row: None,
-        line: None,
-        tally: Tally::default(),
-        told: String::new(alloc),
-    };
-    for (place, line) in text.lines().enumerate().skip(1) {
-        runner.take(place.saturating_add(1), line)?;
-    }
-    if let Some(line) = runner.line.take() {
-        runner.fail_file(line.number, "the text behind this line has no end")?;
-    }
-    runner.end_row()?;
-    told.push_str(runner.told.as_str())?;
-    Ok(runner.tally)
+    let mut runner: RowRunner<'a, S> = RowRunner::new(alloc, file, are_wrong);
+    runner.run(text, told)
 }

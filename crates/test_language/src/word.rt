@@ -15,21 +15,24 @@ pub struct Word<'a> {
 /// The words of a text, where every second part between quotes is one word. The last quote must be closed.
 pub fn words_of(alloc: Global, text: &str) -> Result<Vec<Word<'_>>, RowFault> {
     let mut words = Vec::new(alloc);
+    add_words(&mut words, text)?;
+    Ok(words)
+}
+
+/// Adds the words of a text.
+fn add_words<'a>(words: &mut Vec<Word<'a>>, text: &'a str) -> Result<(), RowFault> {
     let mut is_quoted = false;
     for part in text.split('"') {
         if is_quoted {
-            words.push(Word {
-                text: part,
-                is_quoted,
-            })?;
+            add_word(words, part, true)?;
         } else {
-            add_plain(&mut words, part)?;
+            add_plain(words, part)?;
         }
         is_quoted = !is_quoted;
     }
     // after the last part it is what stands in quotes next, unless a quote is open
     if is_quoted {
-        Ok(words)
+        Ok(())
     } else {
         Err(RowFault::Quote)
     }
@@ -38,11 +41,18 @@ pub fn words_of(alloc: Global, text: &str) -> Result<Vec<Word<'_>>, RowFault> {
 /// Adds the words between the spaces of a part.
 fn add_plain<'a>(words: &mut Vec<Word<'a>>, part: &'a str) -> Result<(), AllocError> {
     for text in part.split_whitespace() {
-        words.push(Word {
-            text,
-            is_quoted: false,
-        })?;
+        add_word(words, text, false)?;
     }
+    Ok(())
+}
+
+/// Adds a word.
+fn add_word<'a>(
+    words: &mut Vec<Word<'a>>,
+    text: &'a str,
+    is_quoted: bool,
+) -> Result<(), AllocError> {
+    words.push(Word { text, is_quoted })?;
     Ok(())
 }
 

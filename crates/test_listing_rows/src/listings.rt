@@ -118,17 +118,7 @@ impl Listings {
         let [name, value] = arguments else {
             return Err(RowFault::Words);
         };
-        let registers = &mut self.registers;
-        match name.text {
-            "A" => registers.a = byte(*value)?,
-            "F" => registers.flags = unpack(Cpu::Z80, CLEAR, byte(*value)?),
-            "BC" => [registers.b, registers.c] = address(*value)?.to_be_bytes(),
-            "DE" => [registers.d, registers.e] = address(*value)?.to_be_bytes(),
-            "HL" => [registers.h, registers.l] = address(*value)?.to_be_bytes(),
-            "SP" => registers.sp = address(*value)?,
-            "PC" => registers.pc = address(*value)?,
-            _ => return Err(RowFault::Words),
-        }
+        set_register(&mut self.registers, name.text, *value)?;
         Ok(RowAnswer::Done)
     }
 
@@ -137,12 +127,40 @@ impl Listings {
         let [cpu, steps] = arguments else {
             return Err(RowFault::Words);
         };
-        let cpu = match cpu.text {
-            "8080" => Cpu::I8080,
-            "z80" => Cpu::Z80,
-            _ => return Err(RowFault::Words),
-        };
-        RowAnswer::words(alloc, regs_line(cpu, &self.registers, number(*steps)?))
+        let (cpu, steps) = (cpu_of(cpu.text)?, number(*steps)?);
+        RowAnswer::words(alloc, regs_line(cpu, &self.registers, steps))
+    }
+}
+
+/// Gives a register a value.
+fn set_register(registers: &mut Regs, name: &str, value: Word<'_>) -> Result<(), RowFault> {
+    match name {
+        "A" => registers.a = byte(value)?,
+        "F" => registers.flags = unpack(Cpu::Z80, CLEAR, byte(value)?),
+        "SP" => registers.sp = address(value)?,
+        "PC" => registers.pc = address(value)?,
+        _ => return set_pair(registers, name, value),
+    }
+    Ok(())
+}
+
+/// Gives a pair of registers a value.
+fn set_pair(registers: &mut Regs, name: &str, value: Word<'_>) -> Result<(), RowFault> {
+    match name {
+        "BC" => [registers.b, registers.c] = address(value)?.to_be_bytes(),
+        "DE" => [registers.d, registers.e] = address(value)?.to_be_bytes(),
+        "HL" => [registers.h, registers.l] = address(value)?.to_be_bytes(),
+        _ => return Err(RowFault::Words),
+    }
+    Ok(())
+}
+
+/// The processor of this name.
+fn cpu_of(name: &str) -> Result<Cpu, RowFault> {
+    match name {
+        "8080" => Ok(Cpu::I8080),
+        "z80" => Ok(Cpu::Z80),
+        _ => Err(RowFault::Words),
     }
 }
 

@@ -69,20 +69,8 @@ impl Sources {
         arguments: &[Word<'_>],
     ) -> Result<RowAnswer, RowFault> {
         let bytes = bytes_of(alloc, arguments)?;
-        let mut source = Vec::new(alloc);
-        let mut rest = bytes.as_slice();
-        for _ in 0..bytes.len() {
-            if rest.is_empty() {
-                break;
-            }
-            let line = list_line(self.address, filled::<3>(rest));
-            let statement = line.as_str().get(STATEMENT..).unwrap_or("");
-            source.extend_from_slice(statement.as_bytes())?;
-            source.push(b'\n')?;
-            let length = instruction_length(Cpu::I8080, filled::<4>(rest));
-            rest = rest.get(length..).unwrap_or(&[]);
-        }
-        self.source = source;
+        self.source = Vec::new(alloc);
+        add_statements(&mut self.source, self.address, bytes.as_slice())?;
         Ok(RowAnswer::Done)
     }
 
@@ -142,6 +130,29 @@ impl Sources {
     }
 }
 
+/// Adds the statements of the lines that list bytes.
+fn add_statements(source: &mut Vec<u8>, address: u16, bytes: &[u8]) -> Result<(), AllocError> {
+    let mut rest = bytes;
+    for _ in 0..bytes.len() {
+        if rest.is_empty() {
+            break;
+        }
+        add_statement(source, address, filled::<3>(rest))?;
+        let length = instruction_length(Cpu::I8080, filled::<4>(rest));
+        rest = rest.get(length..).unwrap_or(&[]);
+    }
+    Ok(())
+}
+
+/// Adds the statement of the line that lists the instruction of these bytes.
+fn add_statement(source: &mut Vec<u8>, address: u16, bytes: [u8; 3]) -> Result<(), AllocError> {
+    let line = list_line(address, bytes);
+    let statement = line.as_str().get(STATEMENT..).unwrap_or("");
+    source.extend_from_slice(statement.as_bytes())?;
+    source.push(b'\n')?;
+    Ok(())
+}
+
 /// A value with what is wrong with it.
 fn shown_value(alloc: Global, value: CheckedValue) -> Result<RowAnswer, RowFault> {
     let unknown = if value.is_unknown { " unknown" } else { "" };
@@ -159,20 +170,25 @@ fn refused(alloc: Global, error: AsmError) -> Result<RowAnswer, RowFault> {
 fn shown_places(alloc: Global, places: &[Placement]) -> Result<RowAnswer, RowFault> {
     let mut text = String::new(alloc);
     for placed in places {
-        if !text.is_empty() {
-            text.push('\n')?;
-        }
-        let Placement {
-            line,
-            address,
-            length,
-        } = *placed;
-        text.push_str(format!(in alloc; "line {line}: {address:04X} {length}")?.as_str())?;
+        add_place(alloc, &mut text, *placed)?;
     }
     if text.is_empty() {
         text.push_str("none")?;
     }
     Ok(RowAnswer::Words(text))
+}
+
+/// Adds the line of a place.
+fn add_place(alloc: Global, out: &mut String, placed: Placement) -> Result<(), AllocError> {
+    if !out.is_empty() {
+        out.push('\n')?;
+    }
+    let Placement {
+        line,
+        address,
+        length,
+    } = placed;
+    out.push_str(format!(in alloc; "line {line}: {address:04X} {length}")?.as_str())
 }
 
 /// `keyword WORD`: what a word in capital letters means, or `none`.

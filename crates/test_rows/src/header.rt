@@ -1,7 +1,7 @@
 //! The first line of a file of rows.
 
 /// What the first line says: `12 rows of machines`, or `3 wrong rows of machines`, each of which must fail.
-#[derive(Clone, Copy, Debug, PartialEq, Eq)]
+#[derive(Clone, Copy)]
 pub struct Header<'a> {
     pub rows: u64,
     pub are_wrong: bool,
@@ -11,20 +11,16 @@ pub struct Header<'a> {
 impl<'a> Header<'a> {
     /// What the first line of a text says, if it is one.
     pub fn of(text: &'a str) -> Option<Header<'a>> {
-        let line = text.lines().next()?;
-        let (rows, rest) = line.split_once(' ')?;
+        let (rows, rest) = text.lines().next()?.split_once(' ')?;
         let rows = rows.parse::<u64>().ok()?;
-        match rest.strip_prefix("rows of ") {
-            Some(subject) => Some(Header {
-                rows,
-                are_wrong: false,
-                subject,
-            }),
-            None => Some(Header {
-                rows,
-                are_wrong: true,
-                subject: rest.strip_prefix("wrong rows of ")?,
-            }),
-        }
+        let (subject, are_wrong) = match rest.strip_prefix("rows of ") {
+            Some(subject) => (subject, false),
+            None => (rest.strip_prefix("wrong rows of ")?, true),
+        };
+        Some(Header {
+            rows,
+            are_wrong,
+            subject,
+        })
     }
 }

@@ -12,100 +12,148 @@ use std::{env, fs};
 use test_bdos_rows::{Calls, Commands, Consoles, EditedLines};
 use test_disk_command_rows::{Batches, DiskCommands, Stores};
 use test_disk_rows::{Directories, Drives, ImageFiles, ImageLines, OneDrive};
-use test_language::{Tally, run_rows};
+use test_language::{Scene, Tally, run_rows};
 use test_listing_rows::{Listings, Sources};
 use test_machine_rows::{Hosts, Machines};
 use test_memory_rows::{Instructions, Memories};
 use test_run_rows::{Programs, Runs};
 use test_text_rows::{CommandLines, Configurations, Scripts};
 
-/// The result of a file: its rows, and what is reported of those that are not as they should be.
-#[derive(Drop)]
-struct FileOutcome {
-    tally: Tally,
-    told: String,
+/// A file of rows, of which the first line was read.
+#[derive(Clone, Copy)]
+struct RowFile<'a> {
+    alloc: Global,
+    name: &'a str,
+    text: &'a str,
+    header: Header<'a>,
 }
 
-/// Runs the rows of a file. None where no rows are of its subject.
-fn run_subject(
-    alloc: Global,
-    file: &str,
-    text: &str,
-    header: &Header<'_>,
-    told: &mut String,
-) -> Result<Option<Tally>, AllocError> {
-    let are_wrong = header.are_wrong;
-    let tally = match header.subject {
-        "calls" => run_rows::<Calls>(alloc, file, text, are_wrong, told)?,
-        "commands" => run_rows::<Commands>(alloc, file, text, are_wrong, told)?,
-        "consoles" => run_rows::<Consoles>(alloc, file, text, are_wrong, told)?,
-        "edited-lines" => run_rows::<EditedLines>(alloc, file, text, are_wrong, told)?,
-        "drives" => run_rows::<Drives>(alloc, file, text, are_wrong, told)?,
-        "one-drive" => run_rows::<OneDrive>(alloc, file, text, are_wrong, told)?,
-        "directories" => run_rows::<Directories>(alloc, file, text, are_wrong, told)?,
-        "images" => run_rows::<ImageLines>(alloc, file, text, are_wrong, told)?,
-        "image-files" => run_rows::<ImageFiles>(alloc, file, text, are_wrong, told)?,
-        "memories" => run_rows::<Memories>(alloc, file, text, are_wrong, told)?,
-        "instructions" => run_rows::<Instructions>(alloc, file, text, are_wrong, told)?,
-        "machines" => run_rows::<Machines>(alloc, file, text, are_wrong, told)?,
-        "hosts" => run_rows::<Hosts>(alloc, file, text, are_wrong, told)?,
-        "listings" => run_rows::<Listings>(alloc, file, text, are_wrong, told)?,
-        "sources" => run_rows::<Sources>(alloc, file, text, are_wrong, told)?,
-        "scripts" => run_rows::<Scripts>(alloc, file, text, are_wrong, told)?,
-        "configurations" => run_rows::<Configurations>(alloc, file, text, are_wrong, told)?,
-        "command-lines" => run_rows::<CommandLines>(alloc, file, text, are_wrong, told)?,
-        "stores" => run_rows::<Stores>(alloc, file, text, are_wrong, told)?,
-        "batches" => run_rows::<Batches>(alloc, file, text, are_wrong, told)?,
-        "disk-commands" => run_rows::<DiskCommands>(alloc, file, text, are_wrong, told)?,
-        "programs" | "debugger" => run_rows::<Programs>(alloc, file, text, are_wrong, told)?,
-        "runs" => run_rows::<Runs>(alloc, file, text, are_wrong, told)?,
-        _ => return Ok(None),
-    };
-    Ok(Some(tally))
+impl RowFile<'_> {
+    /// Runs its rows on a kind of scenes.
+    fn run<S: Scene>(self, told: &mut String) -> Result<Option<Tally>, AllocError> {
+        let are_wrong = self.header.are_wrong;
+        let tally = run_rows::<S>(self.alloc, self.name, self.text, are_wrong, told)?;
+        Ok(Some(tally))
+    }
+
+    /// Runs its rows. None where no rows are of its subject.
+    fn run_subject(self, told: &mut String) -> Result<Option<Tally>, AllocError> {
+        match self.header.subject {
+            "calls" => self.run::<Calls>(told),
+            "commands" => self.run::<Commands>(told),
+            "consoles" => self.run::<Consoles>(told),
+            "edited-lines" => self.run::<EditedLines>(told),
+            "drives" => self.run::<Drives>(told),
+            "one-drive" => self.run::<OneDrive>(told),
+            "directories" => self.run::<Directories>(told),
+            "images" => self.run::<ImageLines>(told),
+            "image-files" => self.run::<ImageFiles>(told),
+            _ => self.run_machines(told),
+        }
+    }
+
+    /// The same of the subjects of machines and programs.
+    fn run_machines(self, told: &mut String) -> Result<Option<Tally>, AllocError> {
+        match self.header.subject {
+            "memories" => self.run::<Memories>(told),
+            "instructions" => self.run::<Instructions>(told),
+            "machines" => self.run::<Machines>(told),
+            "hosts" => self.run::<Hosts>(told),
+            "programs" | "debugger" => self.run::<Programs>(told),
+            "runs" => self.run::<Runs>(told),
+            _ => self.run_texts(told),
+        }
+    }
+
+    /// The same of the subjects of texts, and of commands that write files.
+    fn run_texts(self, told: &mut String) -> Result<Option<Tally>, AllocError> {
+        match self.header.subject {
+            "listings" => self.run::<Listings>(told),
+            "sources" => self.run::<Sources>(told),
+            "scripts" => self.run::<Scripts>(told),
+            "configurations" => self.run::<Configurations>(told),
+            "command-lines" => self.run::<CommandLines>(told),
+            "stores" => self.run::<Stores>(told),
+            "batches" => self.run::<Batches>(told),
+            "disk-commands" => self.run::<DiskCommands>(told),
+            _ => Ok(None),
+        }
+    }
 }
 
 /// Runs the rows of a file, of which there must be as many as its first line says.
-fn run_text(alloc: Global, file: &str, text: &str) -> Result<FileOutcome, AllocError> {
-    let mut told = String::new(alloc);
-    let mut failed = 1;
-    let mut tally = Tally::default();
-    match Header::of(text) {
-        None => told.push_str(format!(in alloc;
-            "{file}:1: the first line is no 'N rows of SUBJECT'\n"
-        )?.as_str())?,
-        Some(header) => match run_subject(alloc, file, text, &header, &mut told)? {
-            None => told.push_str(format!(in alloc;
-                "{file}:1: no rows are of '{}'\n",
-                header.subject
-            )?.as_str())?,
-            Some(found) => {
-                tally = found;
-                failed = found.failed;
-                if found.rows != header.rows {
-                    failed = failed.saturating_add(1);
-                    told.push_str(format!(in alloc;
-                        "{file}:1: there are {} rows\n",
-                        found.rows
-                    )?.as_str())?;
-                }
-            }
-        },
+fn run_text(alloc: Global, name: &str, text: &str, told: &mut String) -> Result<Tally, AllocError> {
+    let Some(header) = Header::of(text) else {
+        return not_run(told, &[name, ":1: the first line is no 'N rows of SUBJECT'\n"]);
+    };
+    let file = RowFile {
+        alloc,
+        name,
+        text,
+        header,
+    };
+    match file.run_subject(told)? {
+        Some(tally) => counted(file, tally, told),
+        None => not_run(told, &[name, ":1: no rows are of '", header.subject, "'\n"]),
     }
-    tally.failed = failed;
-    Ok(FileOutcome { tally, told })
+}
+
+/// The rows of a file that were run, where a wrong number of them is a failure more.
+fn counted(file: RowFile<'_>, tally: Tally, told: &mut String) -> Result<Tally, AllocError> {
+    if tally.rows == file.header.rows {
+        return Ok(tally);
+    }
+    let (name, rows) = (file.name, tally.rows);
+    told.push_str(format!(in file.alloc; "{name}:1: there are {rows} rows\n")?.as_str())?;
+    Ok(Tally {
+        failed: tally.failed.saturating_add(1),
+        ..tally
+    })
+}
+
+/// Tells why no rows of a file are run, which is a failure.
+fn not_run(told: &mut String, why: &[&str]) -> Result<Tally, AllocError> {
+    for text in why {
+        told.push_str(text)?;
+    }
+    Ok(Tally {
+        failed: 1,
+        ..Tally::default()
+    })
 }
 
 /// Runs the rows of a file of this name.
-fn run_file(rt: &(impl Files + AllocGlobal), file: &str) -> Result<FileOutcome, AllocError> {
-    match fs::read_to_string(rt, file) {
-        Ok(text) => run_text(rt.alloc(), file, text.as_str()),
-        Err(error) => Ok(FileOutcome {
-            tally: Tally {
-                failed: 1,
-                ..Tally::default()
-            },
-            told: format!(in rt.alloc(); "{file}: {error}\n")?,
-        }),
+fn run_file(
+    rt: &(impl Files + AllocGlobal),
+    name: &str,
+    told: &mut String,
+) -> Result<Tally, AllocError> {
+    match fs::read_to_string(rt, name) {
+        Ok(text) => run_text(rt.alloc(), name, text.as_str(), told),
+        Err(error) => {
+            let why = format!(in rt.alloc(); "{error}")?;
+            not_run(told, &[name, ": ", why.as_str(), "\n"])
+        }
+    }
+}
+
+/// Runs the rows of a file, and shows what is told of them.
+fn show_file(
+    rt: &(impl Files + Print + AllocGlobal),
+    name: &str,
+) -> Result<Tally, AllocError> {
+    let mut told = String::new(rt.alloc());
+    let tally = run_file(rt, name, &mut told)?;
+    let _ = print!(rt; "{told}");
+    Ok(tally)
+}
+
+/// The rows of two.
+fn sum(one: Tally, other: Tally) -> Tally {
+    Tally {
+        rows: one.rows.saturating_add(other.rows),
+        failed: one.failed.saturating_add(other.failed),
+        expectations: one.expectations.saturating_add(other.expectations),
     }
 }
 
@@ -113,13 +161,14 @@ fn run_file(rt: &(impl Files + AllocGlobal), file: &str) -> Result<FileOutcome, 
 fn run_all(rt: &(impl Files + Print + AllocGlobal), files: &[String]) -> Result<bool, AllocError> {
     let mut all = Tally::default();
     for file in files {
-        let outcome = run_file(rt, file.as_str())?;
-        let _ = print!(rt; "{}", outcome.told);
-        all.rows = all.rows.saturating_add(outcome.tally.rows);
-        all.failed = all.failed.saturating_add(outcome.tally.failed);
-        all.expectations = all.expectations.saturating_add(outcome.tally.expectations);
+        all = sum(all, show_file(rt, file.as_str())?);
     }
-    let count = files.len();
+    let is_said = say(rt, files.len(), all);
+    Ok(all.failed == 0 && all.rows > 0 && is_said)
+}
+
+/// Says how many rows there were, and whether that was printed.
+fn say(rt: &impl Print, count: usize, all: Tally) -> bool {
     let Tally {
         rows,
         failed,
@@ -128,7 +177,7 @@ fn run_all(rt: &(impl Files + Print + AllocGlobal), files: &[String]) -> Result<
     let said = println!(rt;
         "{rows} rows of {count} files with {expectations} expectations, {failed} failed"
     );
-    Ok(failed == 0 && rows > 0 && said.is_ok())
+    said.is_ok()
 }
 
 /// The words of the command line after the program's own name.

@@ -24,40 +24,43 @@ impl Scene for CommandLines {
 
     fn act(&mut self, alloc: Global, line: &RowLine<'_>) -> Result<RowAnswer, RowFault> {
         match line.verb() {
-            "cpmhost" => named(alloc, line.words.as_slice()),
-            "line" => named(alloc, line.arguments()),
-            "help" => asked(alloc, line.arguments()),
-            "version" => version_of(alloc, line.arguments()),
+            "cpmhost" => asked(alloc, line.verb(), line.words.as_slice()),
+            "line" | "help" | "version" => asked(alloc, line.verb(), line.arguments()),
             _ => Err(RowFault::Unknown),
         }
     }
 }
 
-/// `cpmhost WORDS`, and `line WORDS` with another name of the program or without one: the task, or what is said of the words.
-fn named(alloc: Global, words: &[Word<'_>]) -> Result<RowAnswer, RowFault> {
+/// `cpmhost WORDS`, `help WORDS` or another verb with words: what they ask for.
+fn asked(alloc: Global, verb: &str, words: &[Word<'_>]) -> Result<RowAnswer, RowFault> {
     let texts = texts_of(alloc, words)?;
     let words = borrowed(alloc, texts.as_slice())?;
-    match command(alloc, words.as_slice()) {
+    match verb {
+        "help" => help_of(alloc, words.as_slice()),
+        "version" => version_of(alloc, words.as_slice()),
+        _ => task_of(alloc, words.as_slice()),
+    }
+}
+
+/// `cpmhost WORDS`, and `line WORDS` with another name of the program or without one: the task, or what is said of the words.
+fn task_of(alloc: Global, words: &[&str]) -> Result<RowAnswer, RowFault> {
+    match command(alloc, words) {
         Ok(task) => Ok(RowAnswer::Words(shown_task(alloc, &task)?)),
         Err(error) => RowAnswer::refused_text(alloc, error),
     }
 }
 
 /// `help WORDS`: the page of the help that the words ask for.
-fn asked(alloc: Global, words: &[Word<'_>]) -> Result<RowAnswer, RowFault> {
-    let texts = texts_of(alloc, words)?;
-    let words = borrowed(alloc, texts.as_slice())?;
-    match command(alloc, words.as_slice()) {
+fn help_of(alloc: Global, words: &[&str]) -> Result<RowAnswer, RowFault> {
+    match command(alloc, words) {
         Ok(Task::Help(page)) => RowAnswer::name(alloc, page),
         _ => RowAnswer::truth(alloc, false),
     }
 }
 
 /// `version WORDS`: the version, where the words ask for it.
-fn version_of(alloc: Global, words: &[Word<'_>]) -> Result<RowAnswer, RowFault> {
-    let texts = texts_of(alloc, words)?;
-    let words = borrowed(alloc, texts.as_slice())?;
-    if asks_version(words.as_slice()) {
+fn version_of(alloc: Global, words: &[&str]) -> Result<RowAnswer, RowFault> {
+    if asks_version(words) {
         RowAnswer::bytes(alloc, VERSION.as_bytes())
     } else {
         RowAnswer::truth(alloc, false)
@@ -68,17 +71,20 @@ fn version_of(alloc: Global, words: &[Word<'_>]) -> Result<RowAnswer, RowFault> 
 fn texts_of(alloc: Global, words: &[Word<'_>]) -> Result<Vec<String>, RowFault> {
     let mut texts = Vec::new(alloc);
     for word in words {
-        let bytes = if word.is_quoted {
-            bytes_of(alloc, &[*word])?
-        } else {
-            Vec::from_slice(alloc, word.text.as_bytes())?
-        };
-        match String::from_utf8(bytes) {
-            Ok(text) => texts.push(text)?,
-            Err(_) => return Err(RowFault::Bytes),
-        }
+        texts.push(text_of(alloc, *word)?)?;
     }
     Ok(texts)
+}
+
+/// The text that a word stands for.
+fn text_of(alloc: Global, word: Word<'_>) -> Result<String, RowFault> {
+    if !word.is_quoted {
+        return Ok(String::from_str(alloc, word.text)?);
+    }
+    match String::from_utf8(bytes_of(alloc, &[word])?) {
+        Ok(text) => Ok(text),
+        Err(_) => Err(RowFault::Bytes),
+    }
 }
 
 /// The same texts, borrowed.

@@ -38,15 +38,9 @@ impl Scene for Configurations {
 
     fn act(&mut self, alloc: Global, line: &RowLine<'_>) -> Result<RowAnswer, RowFault> {
         match line.verb() {
-            "text" => {
-                self.text = line.given(alloc, line.arguments())?;
-                Ok(RowAnswer::Done)
-            }
+            "text" => self.take_text(alloc, line),
             "add" => self.add(alloc, line),
-            "change" => {
-                self.text = changed(alloc, self.text.as_slice(), line.text.as_str())?;
-                Ok(RowAnswer::Done)
-            }
+            "change" => self.change(alloc, line.text.as_str()),
             "changed" => self.read_changed(alloc, line.text.as_str()),
             "copies" => self.add_copies(alloc, line.text.as_str()),
             "prefixes" => self.read_prefixes(alloc),
@@ -62,10 +56,22 @@ impl Scene for Configurations {
 }
 
 impl Configurations {
+    /// `text TEXT`: what is read.
+    fn take_text(&mut self, alloc: Global, line: &RowLine<'_>) -> Result<RowAnswer, RowFault> {
+        self.text = line.given(alloc, line.arguments())?;
+        Ok(RowAnswer::Done)
+    }
+
     /// `add TEXT`: adds it to the text.
     fn add(&mut self, alloc: Global, line: &RowLine<'_>) -> Result<RowAnswer, RowFault> {
         let more = line.given(alloc, line.arguments())?;
         self.text.extend_from_slice(more.as_slice())?;
+        Ok(RowAnswer::Done)
+    }
+
+    /// `change`, with a change between marks: the text is changed so.
+    fn change(&mut self, alloc: Global, change: &str) -> Result<RowAnswer, RowFault> {
+        self.text = changed(alloc, self.text.as_slice(), change)?;
         Ok(RowAnswer::Done)
     }
 
@@ -103,8 +109,7 @@ impl Configurations {
         for number in 1..=MOST_COPIES {
             add_copy(alloc, &mut self.text, copy, number)?;
             if let Err(error) = Config::read(alloc, self.text.as_slice()) {
-                let (taken, refusal) = (number.saturating_sub(1), shown_refusal(alloc, error)?);
-                return RowAnswer::words(alloc, format!(in alloc; "{taken} taken, then {refusal}")?);
+                return shown_copies(alloc, number.saturating_sub(1), error);
             }
         }
         RowAnswer::words(alloc, "all taken")
@@ -113,23 +118,18 @@ impl Configurations {
     /// `prefixes`: the fewest and the most sessions of the beginnings of the text that are read; the others are refused, and not
     /// because of memory.
     fn read_prefixes(&self, alloc: Global) -> Result<RowAnswer, RowFault> {
-        let (mut least, mut most, mut refused) = (usize::MAX, 0, 0);
+        let (mut least, mut most, mut others) = (usize::MAX, 0, "");
         let bytes = self.text.as_slice();
         for end in 0..=bytes.len() {
-            match Config::read(alloc, &bytes[..end]) {
-                Ok(config) => {
-                    least = least.min(config.sessions.len());
-                    most = most.max(config.sessions.len());
+            match sessions_in(alloc, &bytes[..end])? {
+                Some(count) => {
+                    least = least.min(count);
+                    most = most.max(count);
                 }
-                Err(ConfigError::OutOfMemory) => return Err(RowFault::OutOfMemory),
-                Err(_) => refused = 1,
+                None => others = " or refused",
             }
         }
-        let others = if refused == 0 { "" } else { " or refused" };
-        RowAnswer::words(
-            alloc,
-            format!(in alloc; "{least} to {most} sessions{others}")?,
-        )
+        Ok(RowAnswer::Words(format!(in alloc; "{least} to {most} sessions{others}")?))
     }
 
     /// `fork SESSION PARENT AT STEPS`: the session of this number, from 1, is forked so, and the place at which a fork of the
@@ -139,10 +139,15 @@ impl Configurations {
             return Err(RowFault::Words);
         };
         let (at, steps) = (number(*at)?, number(*steps)?);
-        let parent = String::from_str(alloc, parent.text)?;
         let session = self.session(*place)?;
+        let parent = String::from_str(alloc, parent.text)?;
         session.origin = Origin::Forked { parent, at };
         session.steps = steps;
+        self.shown_fork_fault(alloc)
+    }
+
+    /// The place at which a fork breaks a rule, or `none`.
+    fn shown_fork_fault(&self, alloc: Global) -> Result<RowAnswer, RowFault> {
         let Some(config) = &self.config else {
             return Err(RowFault::Absent);
         };
@@ -193,25 +198,57 @@ impl Configurations {
     }
 }
 
+/// So many copies of a text that were taken, and why the next one was refused.
+fn shown_copies(alloc: Global, taken: usize, error: ConfigError) -> Result<RowAnswer, RowFault> {
+    let refusal = shown_refusal(alloc, error)?;
+    Ok(RowAnswer::Words(format!(in alloc; "{taken} taken, then {refusal}")?))
+}
+
+/// How many sessions a text has, if it is read. That memory is refused is no answer.
+fn sessions_in(alloc: Global, text: &[u8]) -> Result<Option<usize>, RowFault> {
+    match Config::read(alloc, text) {
+        Ok(config) => Ok(Some(config.sessions.len())),
+        Err(ConfigError::OutOfMemory) => Err(RowFault::OutOfMemory),
+        Err(_) => Ok(None),
+    }
+}
+
 /// A text with a change: in place of its lines that begin with `-` stand those that begin with `+`.
 fn changed(alloc: Global, text: &[u8], change: &str) -> Result<Vec<u8>, RowFault> {
     let (mut old, mut new) = (String::new(alloc), String::new(alloc));
+    add_change(&mut old, &mut new, change)?;
+    replaced(alloc, text, old.as_str(), new.as_str())
+}
+
+/// Adds the lines of a change to those that go and to those that come.
+fn add_change(old: &mut String, new: &mut String, change: &str) -> Result<(), RowFault> {
     for line in change.lines() {
         match (line.strip_prefix('-'), line.strip_prefix('+')) {
-            (Some(line), _) => add_line(&mut old, line)?,
-            (None, Some(line)) => add_line(&mut new, line)?,
+            (Some(line), _) => add_line(old, line)?,
+            (None, Some(line)) => add_line(new, line)?,
             (None, None) => return Err(RowFault::Words),
         }
     }
+    Ok(())
+}
+
+/// A text with other lines in place of some.
+fn replaced(alloc: Global, text: &[u8], old: &str, new: &str) -> Result<Vec<u8>, RowFault> {
     let Ok(text) = str::from_utf8(text) else {
         return Err(RowFault::Unready);
     };
-    let Some((front, back)) = text.split_once(old.as_str()) else {
+    let Some((front, back)) = text.split_once(old) else {
         return Err(RowFault::Absent);
     };
-    let mut whole = Vec::from_slice(alloc, front.as_bytes())?;
-    whole.extend_from_slice(new.as_str().as_bytes())?;
-    whole.extend_from_slice(back.as_bytes())?;
+    Ok(joined(alloc, &[front, new, back])?)
+}
+
+/// Texts one after the other.
+fn joined(alloc: Global, texts: &[&str]) -> Result<Vec<u8>, AllocError> {
+    let mut whole = Vec::new(alloc);
+    for text in texts {
+        whole.extend_from_slice(text.as_bytes())?;
+    }
     Ok(whole)
 }
 
@@ -224,10 +261,15 @@ fn add_line(out: &mut String, line: &str) -> Result<(), AllocError> {
 /// Adds a text with a number in place of each `%`.
 fn add_copy(alloc: Global, out: &mut Vec<u8>, copy: &str, number: usize) -> Result<(), RowFault> {
     let digits = format!(in alloc; "{number}")?;
+    Ok(add_replaced(out, copy, digits.as_str())?)
+}
+
+/// Adds a text with another one in place of each `%`.
+fn add_replaced(out: &mut Vec<u8>, copy: &str, digits: &str) -> Result<(), AllocError> {
     let mut is_first = true;
     for part in copy.split('%') {
         if !is_first {
-            out.extend_from_slice(digits.as_str().as_bytes())?;
+            out.extend_from_slice(digits.as_bytes())?;
         }
         out.extend_from_slice(part.as_bytes())?;
         is_first = false;

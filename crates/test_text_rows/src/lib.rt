@@ -10,7 +10,8 @@ mod tasks;
 pub use command_lines::CommandLines;
 pub use configurations::Configurations;
 pub use scripts::Scripts;
-use std::alloc::Global;
+use cpm_flags::Cpu;
+use std::alloc::{AllocError, Global};
 use test_language::RowFault;
 
 /// Adds values in quotes after what they are, where there are some.
@@ -20,9 +21,14 @@ fn add_texts(alloc: Global, out: &mut String, name: &str, values: &[&str]) -> Re
     }
     out.push_str(name)?;
     for value in values {
-        out.push_str(format!(in alloc; " {value:?}")?.as_str())?;
+        add_quoted(alloc, out, value)?;
     }
     Ok(())
+}
+
+/// Adds a value in quotes after a space.
+fn add_quoted(alloc: Global, out: &mut String, value: &str) -> Result<(), AllocError> {
+    out.push_str(format!(in alloc; " {value:?}")?.as_str())
 }
 
 /// Adds a value in quotes after what it is, where there is one.
@@ -36,4 +42,20 @@ fn add_text(
         Some(value) => add_texts(alloc, out, name, &[value]),
         None => Ok(()),
     }
+}
+
+/// Adds a number after what it is.
+fn add_number(alloc: Global, out: &mut String, name: &str, number: u64) -> Result<(), RowFault> {
+    out.push_str(name)?;
+    out.push_str(format!(in alloc; " {number}")?.as_str())?;
+    Ok(())
+}
+
+/// Adds a processor.
+fn add_cpu(out: &mut String, cpu: Cpu) -> Result<(), RowFault> {
+    out.push_str(match cpu {
+        Cpu::I8080 => " cpu I8080",
+        Cpu::Z80 => " cpu Z80",
+    })?;
+    Ok(())
 }

@@ -38,10 +38,7 @@ impl Scene for Scripts {
 
     fn act(&mut self, alloc: Global, line: &RowLine<'_>) -> Result<RowAnswer, RowFault> {
         match line.verb() {
-            "script" => {
-                self.script = line.given(alloc, line.arguments())?;
-                Ok(RowAnswer::Done)
-            }
+            "script" => self.take_script(alloc, line),
             "first" => self.cut(line.arguments()),
             "record" => self.record(alloc, line.arguments()),
             "keys" => self.keys(alloc),
@@ -56,6 +53,12 @@ impl Scene for Scripts {
 }
 
 impl Scripts {
+    /// `script TEXT`: what is read.
+    fn take_script(&mut self, alloc: Global, line: &RowLine<'_>) -> Result<RowAnswer, RowFault> {
+        self.script = line.given(alloc, line.arguments())?;
+        Ok(RowAnswer::Done)
+    }
+
     /// `first N`: the script ends after so many bytes.
     fn cut(&mut self, arguments: &[Word<'_>]) -> Result<RowAnswer, RowFault> {
         let [bytes] = arguments else {
@@ -169,16 +172,25 @@ fn add_item(out: &mut String, item: &str) -> Result<(), AllocError> {
     out.push_str(item)
 }
 
+/// How many items there are, and the last one.
+fn shown_many(alloc: Global, count: usize, what: &str, last: &str) -> Result<RowAnswer, RowFault> {
+    Ok(RowAnswer::Words(format!(in alloc; "{count} {what}, the last {last}")?))
+}
+
 /// Keys, or how many there are with the last one; `none` where there are none.
 fn shown_keys(alloc: Global, keys: &[Key]) -> Result<RowAnswer, RowFault> {
-    let Some(last) = keys.last() else {
-        return RowAnswer::words(alloc, "none");
-    };
-    let mut out = String::new(alloc);
-    if keys.len() > MOST_SHOWN {
-        let (length, last) = (keys.len(), shown_key(alloc, *last)?);
-        return RowAnswer::words(alloc, format!(in alloc; "{length} keys, the last {last}")?);
+    match keys.last() {
+        None => RowAnswer::words(alloc, "none"),
+        Some(last) if keys.len() > MOST_SHOWN => {
+            shown_many(alloc, keys.len(), "keys", shown_key(alloc, *last)?.as_str())
+        }
+        Some(_) => shown_each_key(alloc, keys),
     }
+}
+
+/// Keys, each of them.
+fn shown_each_key(alloc: Global, keys: &[Key]) -> Result<RowAnswer, RowFault> {
+    let mut out = String::new(alloc);
     for key in keys {
         add_item(&mut out, shown_key(alloc, *key)?.as_str())?;
     }
@@ -192,24 +204,33 @@ fn shown_cue(alloc: Global, cue: &Cue) -> Result<String, RowFault> {
             let key = shown_key(alloc, *key)?;
             Ok(format!(in alloc; "key {key}")?)
         }
-        Cue::Wait(text) => match str::from_utf8(text.as_slice()) {
-            Ok(text) => Ok(format!(in alloc; "wait {text:?}")?),
-            Err(_) => Err(RowFault::Unready),
-        },
+        Cue::Wait(text) => shown_wait(alloc, text.as_slice()),
         Cue::Press(byte) => Ok(format!(in alloc; "press {byte:02X}")?),
+    }
+}
+
+/// A cue that waits for a text.
+fn shown_wait(alloc: Global, text: &[u8]) -> Result<String, RowFault> {
+    match str::from_utf8(text) {
+        Ok(text) => Ok(format!(in alloc; "wait {text:?}")?),
+        Err(_) => Err(RowFault::Unready),
     }
 }
 
 /// Cues, or how many there are with the last one; `none` where there are none.
 fn shown_cues(alloc: Global, cues: &[Cue]) -> Result<RowAnswer, RowFault> {
-    let Some(last) = cues.last() else {
-        return RowAnswer::words(alloc, "none");
-    };
-    let mut out = String::new(alloc);
-    if cues.len() > MOST_SHOWN {
-        let (length, last) = (cues.len(), shown_cue(alloc, last)?);
-        return RowAnswer::words(alloc, format!(in alloc; "{length} cues, the last {last}")?);
+    match cues.last() {
+        None => RowAnswer::words(alloc, "none"),
+        Some(last) if cues.len() > MOST_SHOWN => {
+            shown_many(alloc, cues.len(), "cues", shown_cue(alloc, last)?.as_str())
+        }
+        Some(_) => shown_each_cue(alloc, cues),
     }
+}
+
+/// Cues, each of them.
+fn shown_each_cue(alloc: Global, cues: &[Cue]) -> Result<RowAnswer, RowFault> {
+    let mut out = String::new(alloc);
     for cue in cues {
         add_item(&mut out, shown_cue(alloc, cue)?.as_str())?;
     }

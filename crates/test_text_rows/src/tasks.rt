@@ -1,7 +1,7 @@
 //! What a command line asks for, in words: the names of the task's fields, each with its value where it has one.
 
-use crate::{add_text, add_texts};
-use cpm_command_line::{DiskTask, PlayTask, RunTask, Task};
+use crate::{add_cpu, add_number, add_text, add_texts};
+use cpm_command_line::{DiskTask, Page, PlayTask, RunTask, Task};
 use cpm_flags::Cpu;
 use std::alloc::Global;
 use test_language::RowFault;
@@ -9,43 +9,60 @@ use test_language::RowFault;
 /// A task in words.
 pub fn shown_task(alloc: Global, task: &Task<'_>) -> Result<String, RowFault> {
     let mut out = String::new(alloc);
+    add_task(alloc, &mut out, task)?;
+    Ok(out)
+}
+
+/// Adds a task.
+fn add_task(alloc: Global, out: &mut String, task: &Task<'_>) -> Result<(), RowFault> {
     match task {
-        Task::Com(task) => add_play(alloc, &mut out, "com", task)?,
-        Task::Boot(task) => add_play(alloc, &mut out, "boot", task)?,
+        Task::Com(task) => add_play(alloc, out, "com", task),
+        Task::Boot(task) => add_play(alloc, out, "boot", task),
         Task::Asm {
             source,
             out: image,
             list,
-        } => {
-            add_text(alloc, &mut out, "asm source", Some(source))?;
-            add_text(alloc, &mut out, " out", Some(image))?;
-            add_text(alloc, &mut out, " list", *list)?;
-        }
-        Task::List { file, cpu } => {
-            add_text(alloc, &mut out, "list file", Some(file))?;
-            add_cpu(&mut out, *cpu)?;
-        }
-        Task::Check { image } => add_text(alloc, &mut out, "check image", Some(image))?,
-        Task::Run(task) => add_run(alloc, &mut out, task)?,
+        } => add_asm(alloc, out, source, image, *list),
+        Task::List { file, cpu } => add_program(alloc, out, "list file", file, *cpu),
+        Task::Check { image } => add_text(alloc, out, "check image", Some(image)),
+        Task::Run(task) => add_run(alloc, out, task),
         Task::Debug { file, cpu, list } => {
-            add_text(alloc, &mut out, "debug file", Some(file))?;
-            add_cpu(&mut out, *cpu)?;
-            add_text(alloc, &mut out, " list", *list)?;
+            add_program(alloc, out, "debug file", file, *cpu)?;
+            add_text(alloc, out, " list", *list)
         }
-        Task::Disk(task) => add_disk(alloc, &mut out, task)?,
-        Task::Help(page) => {
-            out.push_str(format!(in alloc; "help {page:?}")?.as_str())?;
-        }
+        Task::Disk(task) => add_disk(alloc, out, task),
+        Task::Help(page) => add_help(alloc, out, *page),
     }
-    Ok(out)
 }
 
-/// Adds a processor.
-fn add_cpu(out: &mut String, cpu: Cpu) -> Result<(), RowFault> {
-    out.push_str(match cpu {
-        Cpu::I8080 => " cpu I8080",
-        Cpu::Z80 => " cpu Z80",
-    })?;
+/// Adds a source that is assembled.
+fn add_asm(
+    alloc: Global,
+    out: &mut String,
+    source: &str,
+    image: &str,
+    list: Option<&str>,
+) -> Result<(), RowFault> {
+    add_text(alloc, out, "asm source", Some(source))?;
+    add_text(alloc, out, " out", Some(image))?;
+    add_text(alloc, out, " list", list)
+}
+
+/// Adds a program's file and its processor.
+fn add_program(
+    alloc: Global,
+    out: &mut String,
+    name: &str,
+    file: &str,
+    cpu: Cpu,
+) -> Result<(), RowFault> {
+    add_text(alloc, out, name, Some(file))?;
+    add_cpu(out, cpu)
+}
+
+/// Adds a page of the help.
+fn add_help(alloc: Global, out: &mut String, page: Page) -> Result<(), RowFault> {
+    out.push_str(format!(in alloc; "help {page:?}")?.as_str())?;
     Ok(())
 }
 
@@ -64,16 +81,15 @@ fn add_count(
     name: &str,
     count: Option<u64>,
 ) -> Result<(), RowFault> {
-    if let Some(count) = count {
-        out.push_str(format!(in alloc; " {name} {count}")?.as_str())?;
+    match count {
+        Some(count) => add_number(alloc, out, name, count),
+        None => Ok(()),
     }
-    Ok(())
 }
 
 /// Adds a user.
 fn add_user(alloc: Global, out: &mut String, user: u8) -> Result<(), RowFault> {
-    out.push_str(format!(in alloc; " user {user}")?.as_str())?;
-    Ok(())
+    add_number(alloc, out, " user", u64::from(user))
 }
 
 /// Adds a machine that is played: the command's name, then its program with its words, its keys and its drives.
@@ -87,20 +103,35 @@ fn add_play(
     add_text(alloc, out, " file", task.file)?;
     add_texts(alloc, out, " tail", task.tail.as_slice())?;
     add_cpu(out, task.cpu)?;
-    add_count(alloc, out, "steps", task.steps)?;
+    add_count(alloc, out, " steps", task.steps)?;
+    add_keys(alloc, out, task)?;
+    add_flags(out, task)?;
+    add_replay(alloc, out, task)
+}
+
+/// Adds the keys of a machine, its drives and what is recorded.
+fn add_keys(alloc: Global, out: &mut String, task: &PlayTask<'_>) -> Result<(), RowFault> {
     add_text(alloc, out, " keys", task.keys)?;
     add_texts(alloc, out, " drives", task.drives.as_slice())?;
     add_texts(alloc, out, " outs", task.outs.as_slice())?;
     add_flag(out, " is_live", task.is_live)?;
-    add_text(alloc, out, " record", task.record)?;
+    add_text(alloc, out, " record", task.record)
+}
+
+/// Adds how a machine is played.
+fn add_flags(out: &mut String, task: &PlayTask<'_>) -> Result<(), RowFault> {
     add_flag(out, " has_progress", task.has_progress)?;
     add_flag(out, " stops_idle", task.stops_idle)?;
     add_flag(out, " is_raw", task.is_raw)?;
     add_flag(out, " is_quiet", task.is_quiet)?;
     add_flag(out, " is_partial", task.is_partial)?;
-    add_flag(out, " has_status", task.has_status)?;
+    add_flag(out, " has_status", task.has_status)
+}
+
+/// Adds the recording that a machine is played from, its system and where its files go.
+fn add_replay(alloc: Global, out: &mut String, task: &PlayTask<'_>) -> Result<(), RowFault> {
     add_text(alloc, out, " replay", task.replay)?;
-    add_count(alloc, out, "pace", task.pace)?;
+    add_count(alloc, out, " pace", task.pace)?;
     add_text(alloc, out, " system", task.system)?;
     add_texts(alloc, out, " out_folders", task.out_folders.as_slice())?;
     add_text(alloc, out, " list", task.list)
@@ -113,11 +144,16 @@ fn add_run(alloc: Global, out: &mut String, task: &RunTask<'_>) -> Result<(), Ro
     add_text(alloc, out, " record", task.record)?;
     add_flag(out, " has_progress", task.has_progress)?;
     add_flag(out, " stops_idle", task.stops_idle)?;
+    add_sessions(alloc, out, task)
+}
+
+/// Adds what is read and written for the sessions of a configuration.
+fn add_sessions(alloc: Global, out: &mut String, task: &RunTask<'_>) -> Result<(), RowFault> {
     add_text(alloc, out, " scripts", task.scripts)?;
     add_flag(out, " is_raw", task.is_raw)?;
     add_texts(alloc, out, " folders", task.folders.as_slice())?;
     add_flag(out, " has_outputs_here", task.has_outputs_here)?;
-    add_count(alloc, out, "pace", task.pace)?;
+    add_count(alloc, out, " pace", task.pace)?;
     add_texts(alloc, out, " replays", task.replays.as_slice())
 }
 
