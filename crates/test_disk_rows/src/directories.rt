@@ -2,13 +2,13 @@
 
 use crate::fcb::FcbBytes;
 use crate::one_drive::pattern;
-use crate::runs::WordCounts;
-use crate::words::{filled, name, number, small, write_name};
+use crate::runs::{WordCounts, yes_or_no};
+use crate::words::{filled, is_of_images, name, number, small, write_name};
 use cpm_directory::{
     DirectoryError, Entry, Fcb, LentImage, Pattern, Reserved, block_at, entry, find, first_free,
     login, parse_fcb, put_entry, well_formed,
 };
-use cpm_geom::{Dpb, Format};
+use cpm_geom::{Dpb, Format, Image};
 use std::alloc::{AllocError, Global};
 use test_images::Images;
 use test_language::{RowAnswer, RowFault, RowLine, Scene, Word};
@@ -47,7 +47,7 @@ impl Scene for Directories {
             "fcb" => self.fcb.whole(alloc, arguments),
             "field" => self.fcb.field(alloc, arguments),
             "parse" => parse(alloc, line.given(alloc, arguments)?.as_slice()),
-            "image" | "entry" | "record" | "sector" => self.images.act(alloc, line),
+            verb if is_of_images(verb) => self.images.act(alloc, line),
             verb => match arguments {
                 [] => Err(RowFault::Unknown),
                 [word] => self.act_one(alloc, verb, *word),
@@ -66,11 +66,7 @@ impl Directories {
         };
         let (index, bytes) = (number(*index)?, filled(alloc, bytes)?);
         let mut changed = self.images.copy(alloc, image.text)?;
-        let dpb = changed.format().dpb();
-        if index > dpb.last_entry {
-            return Err(RowFault::Unready);
-        }
-        put_entry(&mut changed, index, &Entry::from_bytes(&dpb, &bytes));
+        put_bytes(&mut changed, index, &bytes)?;
         self.images.put(alloc, image.text, changed)?;
         Ok(RowAnswer::Done)
     }
@@ -82,10 +78,7 @@ impl Directories {
         };
         let index = number(*index)?;
         let image = self.images.copy(alloc, image.text)?;
-        if index > image.format().dpb().last_entry {
-            return Err(RowFault::Unready);
-        }
-        shown(alloc, &entry(&image, index))
+        shown(alloc, &entry_of(&image, index)?)
     }
 
     /// `find IMAGE USER NAME FROM GROUP`: the first entry of the name, from an entry on, of a group of extents if it is given.
@@ -93,21 +86,10 @@ impl Directories {
         let [image, user, word, from, group @ ..] = arguments else {
             return Err(RowFault::Words);
         };
-        let user = small(*user)?;
-        let pattern = match group {
-            [] => pattern(alloc, user, *word)?,
-            [group] => Pattern::Files {
-                user,
-                name: name(alloc, *word)?,
-                group: Some(number(*group)?),
-            },
-            _ => return Err(RowFault::Words),
-        };
+        let pattern = pattern_in(alloc, small(*user)?, *word, group)?;
         let image = self.images.copy(alloc, image.text)?;
-        place(
-            alloc,
-            find(&LentImage::new(&image), &pattern, number(*from)?),
-        )
+        let found = find(&LentImage::new(&image), &pattern, number(*from)?);
+        place(alloc, found)
     }
 
     /// Does a line of one word after its first.
@@ -129,13 +111,7 @@ impl Directories {
                 self.reserved = Reserved::none(format_of(word)?);
                 Ok(RowAnswer::Done)
             }
-            "block" => {
-                let dpb = format_of(word)?.dpb();
-                place(
-                    alloc,
-                    block_at(&dpb, &Fcb::from_bytes(&dpb, &self.fcb.bytes)),
-                )
-            }
+            "block" => self.block(alloc, &format_of(word)?.dpb()),
             "fcb-again" => self.fcb_again(alloc, &format_of(word)?.dpb()),
             _ => self.act_image(alloc, verb, word),
         }
@@ -149,24 +125,18 @@ impl Directories {
         word: Word<'_>,
     ) -> Result<RowAnswer, RowFault> {
         let image = self.images.copy(alloc, word.text)?;
+        self.act_on(alloc, verb, &image)
+    }
+
+    fn act_on(&mut self, alloc: Global, verb: &str, image: &Image) -> Result<RowAnswer, RowFault> {
         match verb {
-            "check" => match well_formed(&image) {
-                Ok(()) => RowAnswer::words(alloc, "sound"),
-                Err(fault) => RowAnswer::refused(alloc, fault),
-            },
-            "free-entry" => place(alloc, first_free(&LentImage::new(&image))),
+            "check" => checked(alloc, image),
+            "free-entry" => place(alloc, first_free(&LentImage::new(image))),
             "log-in" => {
-                self.reserved = login(&LentImage::new(&image));
+                self.reserved = login(&LentImage::new(image));
                 Ok(RowAnswer::Done)
             }
-            "users" => {
-                let mut users = WordCounts::new(alloc);
-                for index in 0..=image.format().dpb().last_entry {
-                    let user = format!(in alloc; "{:02X}", entry(&image, index).user)?;
-                    users.add(alloc, user)?;
-                }
-                users.into_answer(alloc)
-            }
+            "users" => users(alloc, image),
             _ => Err(RowFault::Unknown),
         }
     }
@@ -175,14 +145,15 @@ impl Directories {
     fn reserved_to(&self, alloc: Global, last: u16) -> Result<RowAnswer, RowFault> {
         let mut found = WordCounts::new(alloc);
         for block in 0..=last {
-            let word = if self.reserved.contains(block) {
-                "yes"
-            } else {
-                "no"
-            };
-            found.add(alloc, word)?;
+            found.add(alloc, yes_or_no(self.reserved.contains(block)))?;
         }
-        found.into_answer(alloc)
+        found.into_answer()
+    }
+
+    /// `block FORMAT`: the block of the file control block.
+    fn block(&self, alloc: Global, dpb: &Dpb) -> Result<RowAnswer, RowFault> {
+        let fcb = Fcb::from_bytes(dpb, &self.fcb.bytes);
+        place(alloc, block_at(dpb, &fcb))
     }
 
     /// `fcb-again FORMAT`: the bytes of the file control block, decoded and encoded.
@@ -213,21 +184,91 @@ impl Directories {
     }
 }
 
+/// A directory entry, if there is one of that number.
+fn entry_of(image: &Image, index: u16) -> Result<Entry, RowFault> {
+    if index > image.format().dpb().last_entry {
+        return Err(RowFault::Unready);
+    }
+    Ok(entry(image, index))
+}
+
+/// Makes a directory entry what these bytes say, if there is one of that number.
+fn put_bytes(image: &mut Image, index: u16, bytes: &[u8; 32]) -> Result<(), RowFault> {
+    let dpb = image.format().dpb();
+    if index > dpb.last_entry {
+        return Err(RowFault::Unready);
+    }
+    put_entry(image, index, &Entry::from_bytes(&dpb, bytes));
+    Ok(())
+}
+
+/// The entries of a user with a name, of a group of extents if one is given, or `every` entry.
+fn pattern_in(
+    alloc: Global,
+    user: u8,
+    word: Word<'_>,
+    group: &[Word<'_>],
+) -> Result<Pattern, RowFault> {
+    match group {
+        [] => pattern(alloc, user, word),
+        [group] => Ok(Pattern::Files {
+            user,
+            name: name(alloc, word)?,
+            group: Some(number(*group)?),
+        }),
+        _ => Err(RowFault::Words),
+    }
+}
+
+/// `check NAME`: whether the directory is sound, or its fault.
+fn checked(alloc: Global, image: &Image) -> Result<RowAnswer, RowFault> {
+    match well_formed(image) {
+        Ok(()) => RowAnswer::words(alloc, "sound"),
+        Err(fault) => RowAnswer::refused(alloc, fault),
+    }
+}
+
+/// `users NAME`: the user of each entry.
+fn users(alloc: Global, image: &Image) -> Result<RowAnswer, RowFault> {
+    let mut users = WordCounts::new(alloc);
+    for index in 0..=image.format().dpb().last_entry {
+        users.add_byte(alloc, entry(image, index).user)?;
+    }
+    users.into_answer()
+}
+
 /// What an entry says.
 fn shown(alloc: Global, entry: &Entry) -> Result<RowAnswer, RowFault> {
-    let extent = &entry.extent;
-    let mut text = format!(in alloc; "user {:02X} ", entry.user)?;
-    write_name(alloc, &mut text, &extent.name)?;
-    let parts = format!(in alloc;
-        " EX {:02X} S1 {:02X} S2 {:02X} RC {:02X} blocks",
-        extent.ex, extent.s1, extent.s2, extent.record_count
-    )?;
-    text.push_str(parts.as_str())?;
-    for block in &extent.blocks {
-        let number = format!(in alloc; " {block}")?;
-        text.push_str(number.as_str())?;
-    }
+    let mut text = String::new(alloc);
+    write_entry(&mut text, entry)?;
     Ok(RowAnswer::Words(text))
+}
+
+/// Adds what an entry says: its user, its name, the bytes after that, and the blocks.
+fn write_entry(text: &mut String, entry: &Entry) -> Result<(), AllocError> {
+    let extent = &entry.extent;
+    write_byte(text, "user", entry.user)?;
+    text.push(' ')?;
+    write_name(text, &extent.name)?;
+    write_byte(text, " EX", extent.ex)?;
+    write_byte(text, " S1", extent.s1)?;
+    write_byte(text, " S2", extent.s2)?;
+    write_byte(text, " RC", extent.record_count)?;
+    write_blocks(text, &extent.blocks)
+}
+
+/// Adds a byte after its name.
+fn write_byte(text: &mut String, name: &str, byte: u8) -> Result<(), AllocError> {
+    text.push_str(name)?;
+    write!(text, " {byte:02X}")
+}
+
+fn write_blocks(text: &mut String, blocks: &[u16]) -> Result<(), AllocError> {
+    text.push_str(" blocks")?;
+    for block in blocks {
+        write!(text, " {block}")?;
+    }
+    Ok(())
 }
 
 /// The place that a call found, or why it found none.

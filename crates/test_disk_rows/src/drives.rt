@@ -1,8 +1,8 @@
 //! Rows of the drives of a session: the functions on files over a file control block and a buffer, and the sectors.
 
 use crate::fcb::FcbBytes;
-use crate::runs::WordCounts;
-use crate::words::{done, filled, name, number, small};
+use crate::runs::{WordCounts, yes_or_no};
+use crate::words::{byte_at, done, filled, is_of_images, name, number, only, small};
 use cpm_drives::{Disks, FileFunction};
 use cpm_geom::{Format, Image};
 use cpm_volume::Fault as DriveError;
@@ -13,6 +13,49 @@ use test_language::{RowAnswer, RowFault, RowLine, Scene, Word, address, count};
 
 /// Where the new name of a file stands in a file control block.
 const NEW_NAME: usize = 17;
+
+/// The lines of one word.
+const ALONE: [&str; 20] = [
+    "other-session",
+    "open",
+    "close",
+    "make",
+    "erase",
+    "set-attributes",
+    "size",
+    "set-random",
+    "search-first",
+    "search-next",
+    "read",
+    "read-random",
+    "protect",
+    "reset",
+    "warm-boot",
+    "current",
+    "login-vector",
+    "read-only-vector",
+    "allocation-vector",
+    "drives-there",
+];
+
+/// The functions by their words.
+const FUNCTIONS: [(&str, FileFunction); 15] = [
+    ("open", FileFunction::OpenFile),
+    ("close", FileFunction::CloseFile),
+    ("search-first", FileFunction::SearchFirst),
+    ("search-next", FileFunction::SearchNext),
+    ("erase", FileFunction::EraseFiles),
+    ("read", FileFunction::ReadNext),
+    ("write", FileFunction::WriteNext),
+    ("make", FileFunction::MakeFile),
+    ("rename", FileFunction::RenameFiles),
+    ("set-attributes", FileFunction::SetAttributes),
+    ("read-random", FileFunction::ReadRandom),
+    ("write-random", FileFunction::WriteRandom),
+    ("size", FileFunction::ComputeSize),
+    ("set-random", FileFunction::SetRandomRecord),
+    ("write-cleared", FileFunction::WriteRandomCleared),
+];
 
 /// A session: its drives, a file control block, and the buffer of a record.
 #[derive(Drop)]
@@ -42,29 +85,7 @@ impl Scene for Drives {
     }
 
     fn is_alone(verb: &str) -> bool {
-        matches!(
-            verb,
-            "other-session"
-                | "open"
-                | "close"
-                | "make"
-                | "erase"
-                | "set-attributes"
-                | "size"
-                | "set-random"
-                | "search-first"
-                | "search-next"
-                | "read"
-                | "read-random"
-                | "protect"
-                | "reset"
-                | "warm-boot"
-                | "current"
-                | "login-vector"
-                | "read-only-vector"
-                | "allocation-vector"
-                | "drives-there"
-        )
+        ALONE.contains(&verb)
     }
 
     fn takes_text(_verb: &str) -> bool {
@@ -84,7 +105,7 @@ impl Scene for Drives {
             }
             "end" => self.end(alloc, arguments),
             "system" => self.lend(alloc, arguments),
-            "image" | "entry" | "record" | "sector" => self.images.act(alloc, line),
+            verb if is_of_images(verb) => self.images.act(alloc, line),
             verb => self.here.act(alloc, &self.system, verb, arguments),
         }
     }
@@ -93,10 +114,7 @@ impl Scene for Drives {
 impl Drives {
     /// `system NAME`: drive P is a copy of the image.
     fn lend(&mut self, alloc: Global, arguments: &[Word<'_>]) -> Result<RowAnswer, RowFault> {
-        let [name] = arguments else {
-            return Err(RowFault::Words);
-        };
-        self.system = self.images.copy(alloc, name.text)?;
+        self.system = self.images.copy(alloc, only(arguments)?.text)?;
         Ok(RowAnswer::Done)
     }
 
@@ -132,7 +150,7 @@ impl DriveCaller {
         match verb {
             "fcb" => self.fcb.whole(alloc, arguments),
             "field" => self.fcb.field(alloc, arguments),
-            "buffer" => self.buffer_byte(alloc, arguments),
+            "buffer" => byte_at(alloc, &self.buffer, arguments),
             "repeat" => self.repeat(alloc, system, arguments),
             "each-drive" => self.each_drive(alloc, system, arguments),
             _ => match function_of(verb) {
@@ -250,7 +268,7 @@ impl DriveCaller {
         for _ in 0..count(*times)? {
             add_code(alloc, &mut codes, self.call(system, function))?;
         }
-        codes.into_answer(alloc)
+        codes.into_answer()
     }
 
     /// `each-drive FUNCTION`: the function with each of the bytes 0 to 255 as the drive of the same file control block.
@@ -260,10 +278,7 @@ impl DriveCaller {
         system: &Image,
         arguments: &[Word<'_>],
     ) -> Result<RowAnswer, RowFault> {
-        let [verb] = arguments else {
-            return Err(RowFault::Words);
-        };
-        let function = function_of(verb.text).ok_or(RowFault::Unknown)?;
+        let function = function_of(only(arguments)?.text).ok_or(RowFault::Unknown)?;
         let bytes = self.fcb.bytes;
         let mut codes = WordCounts::new(alloc);
         for drive in 0..=255u8 {
@@ -271,40 +286,21 @@ impl DriveCaller {
             self.fcb.bytes[0] = drive;
             add_code(alloc, &mut codes, self.call(system, function))?;
         }
-        codes.into_answer(alloc)
+        codes.into_answer()
     }
 
     /// `drives-there`: which of the drives 0 to 255 are there.
     fn drives_there(&self, alloc: Global) -> Result<RowAnswer, RowFault> {
         let mut found = WordCounts::new(alloc);
         for drive in 0..=255u8 {
-            found.add(
-                alloc,
-                if self.disks.is_there(drive) {
-                    "yes"
-                } else {
-                    "no"
-                },
-            )?;
+            found.add(alloc, yes_or_no(self.disks.is_there(drive)))?;
         }
-        found.into_answer(alloc)
-    }
-
-    /// `buffer PLACE`: a byte of the buffer.
-    fn buffer_byte(&self, alloc: Global, arguments: &[Word<'_>]) -> Result<RowAnswer, RowFault> {
-        let [place] = arguments else {
-            return Err(RowFault::Words);
-        };
-        let byte = self.buffer.get(count(*place)?).ok_or(RowFault::Number)?;
-        RowAnswer::bytes(alloc, [*byte].as_slice())
+        found.into_answer()
     }
 
     /// `reset-drives VECTOR`: RESET DRIVE.
     fn reset_drives(&mut self, arguments: &[Word<'_>]) -> Result<RowAnswer, RowFault> {
-        let [vector] = arguments else {
-            return Err(RowFault::Words);
-        };
-        self.disks.reset_drives(address(*vector)?);
+        self.disks.reset_drives(address(only(arguments)?)?);
         Ok(RowAnswer::Done)
     }
 
@@ -318,7 +314,7 @@ impl DriveCaller {
         let [drive, track, sector] = arguments else {
             return Err(RowFault::Words);
         };
-        let (drive, track, sector) = (small(*drive)?, number(*track)?, number(*sector)?);
+        let (drive, track, sector) = sector_of(*drive, *track, *sector)?;
         let buffer = &mut self.buffer;
         let is_there = self.disks.read_sector(system, drive, track, sector, buffer);
         RowAnswer::truth(alloc, is_there)
@@ -333,19 +329,25 @@ impl DriveCaller {
         let [drive, track, sector, bytes @ ..] = arguments else {
             return Err(RowFault::Words);
         };
-        let (drive, track, sector) = (small(*drive)?, number(*track)?, number(*sector)?);
+        let (drive, track, sector) = sector_of(*drive, *track, *sector)?;
         let bytes = filled(alloc, bytes)?;
         let is_there = self.disks.write_sector(drive, track, sector, &bytes);
         RowAnswer::truth(alloc, is_there)
     }
 }
 
+/// The place of a sector: its drive, its track and its number there.
+fn sector_of(
+    drive: Word<'_>,
+    track: Word<'_>,
+    sector: Word<'_>,
+) -> Result<(u8, u16, u16), RowFault> {
+    Ok((small(drive)?, number(track)?, number(sector)?))
+}
+
 /// The one number after a first word.
 fn one_number(arguments: &[Word<'_>]) -> Result<u8, RowFault> {
-    let [word] = arguments else {
-        return Err(RowFault::Words);
-    };
-    small(*word)
+    small(only(arguments)?)
 }
 
 /// What a function answers: its code, or the fault of the drive.
@@ -362,31 +364,18 @@ fn add_code(
     codes: &mut WordCounts,
     code: Result<u8, DriveError>,
 ) -> Result<(), AllocError> {
-    let word = match code {
-        Ok(code) => format!(in alloc; "{code:02X}")?,
-        Err(fault) => format!(in alloc; "{fault:?}")?,
-    };
-    codes.add(alloc, word)
+    match code {
+        Ok(code) => codes.add_byte(alloc, code),
+        Err(fault) => codes.add(alloc, format!(in alloc; "{fault:?}")?.as_str()),
+    }
 }
 
 /// The function of a word.
 fn function_of(word: &str) -> Option<FileFunction> {
-    match word {
-        "open" => Some(FileFunction::OpenFile),
-        "close" => Some(FileFunction::CloseFile),
-        "search-first" => Some(FileFunction::SearchFirst),
-        "search-next" => Some(FileFunction::SearchNext),
-        "erase" => Some(FileFunction::EraseFiles),
-        "read" => Some(FileFunction::ReadNext),
-        "write" => Some(FileFunction::WriteNext),
-        "make" => Some(FileFunction::MakeFile),
-        "rename" => Some(FileFunction::RenameFiles),
-        "set-attributes" => Some(FileFunction::SetAttributes),
-        "read-random" => Some(FileFunction::ReadRandom),
-        "write-random" => Some(FileFunction::WriteRandom),
-        "size" => Some(FileFunction::ComputeSize),
-        "set-random" => Some(FileFunction::SetRandomRecord),
-        "write-cleared" => Some(FileFunction::WriteRandomCleared),
-        _ => None,
+    for (name, function) in &FUNCTIONS {
+        if *name == word {
+            return Some(*function);
+        }
     }
+    None
 }

@@ -7,6 +7,19 @@ use test_language::{RowAnswer, RowFault, Word, bytes_of};
 /// The bytes of a file control block.
 const SIZE: usize = 36;
 
+/// The fields that the manual names, but for the blocks: where each is, and how long.
+const FIELDS: [(&str, usize, usize); 9] = [
+    ("dr", 0, 1),
+    ("name", 1, 11),
+    ("ex", 12, 1),
+    ("s1", 13, 1),
+    ("s2", 14, 1),
+    ("rc", 15, 1),
+    ("new-name", 17, 11),
+    ("cr", 32, 1),
+    ("r0", 33, 3),
+];
+
 /// A file control block in memory.
 #[derive(Drop)]
 pub(crate) struct FcbBytes {
@@ -70,22 +83,19 @@ impl FcbBytes {
 
 /// Where a field is that the manual names, and how long it is.
 fn place_of(field: &str) -> Result<(usize, usize), RowFault> {
-    match field {
-        "dr" => Ok((0, 1)),
-        "name" => Ok((1, 11)),
-        "ex" => Ok((12, 1)),
-        "s1" => Ok((13, 1)),
-        "s2" => Ok((14, 1)),
-        "rc" => Ok((15, 1)),
-        "new-name" => Ok((17, 11)),
-        "cr" => Ok((32, 1)),
-        "r0" => Ok((33, 3)),
-        _ => {
-            let number = field.strip_prefix('d').ok_or(RowFault::Words)?;
-            match number.parse::<u8>() {
-                Ok(number) if number < 16 => Ok((16 + usize::from(number), 1)),
-                _ => Err(RowFault::Words),
-            }
+    for (name, start, length) in &FIELDS {
+        if *name == field {
+            return Ok((*start, *length));
         }
+    }
+    Ok((place_of_block(field)?, 1))
+}
+
+/// Where a byte of the blocks is, `d0` to `d15`.
+fn place_of_block(field: &str) -> Result<usize, RowFault> {
+    let number = field.strip_prefix('d').ok_or(RowFault::Words)?;
+    match number.parse::<u8>() {
+        Ok(number) if number < 16 => Ok(16 + usize::from(number)),
+        _ => Err(RowFault::Words),
     }
 }

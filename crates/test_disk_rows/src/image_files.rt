@@ -1,10 +1,10 @@
 //! Rows of files on an image as wholes, and of texts.
 
-use crate::words::{name as name_of, small, write_name};
+use crate::words::{name as name_of, only, small, write_name};
 use cpm_drive::Drive;
 use cpm_geom::Image;
 use cpm_image_files::{
-    DiskFile, FileName, ImageFilesError, from_text, get, list, put, remove, rename, to_text,
+    DiskFile, DiskListing, FileName, ImageFilesError, from_text, get, list, put, remove, rename, to_text,
 };
 use cpm_volume::{Answer as RecordAnswer, Extent, Fcb};
 use std::alloc::{AllocError, Global};
@@ -45,14 +45,8 @@ impl Scene for ImageFiles {
             "read" => self.read(alloc, arguments),
             "list" => self.list(alloc, arguments),
             "is-name" => is_name(alloc, arguments),
-            "to-text" => Ok(RowAnswer::Bytes(to_text(
-                alloc,
-                line.given(alloc, arguments)?.as_slice(),
-            )?)),
-            "from-text" => Ok(RowAnswer::Bytes(from_text(
-                alloc,
-                line.given(alloc, arguments)?.as_slice(),
-            )?)),
+            "to-text" => in_host_form(alloc, line),
+            "from-text" => in_disk_form(alloc, line),
             _ => self.images.act(alloc, line),
         }
     }
@@ -133,59 +127,80 @@ impl ImageFiles {
         };
         let user = small(*user)?;
         let mut drive = Drive::new(self.images.copy(alloc, image.text)?);
-        drive.log_in();
-        let mut fcb = fcb_of(name_of(alloc, *name)?);
-        if drive.open_file(user, &mut fcb).is_none() {
-            return Ok(RowAnswer::Refused(String::from_str(alloc, "NoFile")?));
-        }
-        read_records(alloc, &mut drive, user, &mut fcb)
+        read_file(alloc, &mut drive, user, name_of(alloc, *name)?)
     }
 
     /// `list IMAGE`: a line for each file, with its user, its name and its records, and one with the free blocks.
     fn list(&self, alloc: Global, arguments: &[Word<'_>]) -> Result<RowAnswer, RowFault> {
-        let [image] = arguments else {
-            return Err(RowFault::Words);
-        };
-        let image = self.images.copy(alloc, image.text)?;
-        let listing = match list(alloc, &image) {
-            Ok(listing) => listing,
-            Err(error) => return refusal(alloc, error),
-        };
-        let mut text = String::new(alloc);
-        for file in &listing.files {
-            write_listed(alloc, &mut text, file)?;
+        let image = self.images.copy(alloc, only(arguments)?.text)?;
+        match list(alloc, &image) {
+            Ok(listing) => shown_listing(alloc, &listing),
+            Err(error) => refusal(alloc, error),
         }
-        let free = format!(in alloc; "{} blocks free", listing.free_blocks)?;
-        text.push_str(free.as_str())?;
-        Ok(RowAnswer::Words(text))
     }
 }
 
-/// Adds the line of a file.
-fn write_listed(alloc: Global, text: &mut String, file: &DiskFile) -> Result<(), AllocError> {
-    let user = format!(in alloc; "{} ", file.user)?;
-    text.push_str(user.as_str())?;
-    write_name(alloc, text, &file.name)?;
-    let records = format!(in alloc; " {}\n", file.records)?;
-    text.push_str(records.as_str())
+/// `to-text BYTES`: a text in the form of a disk in that of the host.
+fn in_host_form(alloc: Global, line: &RowLine<'_>) -> Result<RowAnswer, RowFault> {
+    let given = line.given(alloc, line.arguments())?;
+    Ok(RowAnswer::Bytes(to_text(alloc, given.as_slice())?))
 }
 
-/// The records of an open file, to the last.
-fn read_records(
+/// `from-text BYTES`: the reverse.
+fn in_disk_form(alloc: Global, line: &RowLine<'_>) -> Result<RowAnswer, RowFault> {
+    let given = line.given(alloc, line.arguments())?;
+    Ok(RowAnswer::Bytes(from_text(alloc, given.as_slice())?))
+}
+
+/// The lines of a list.
+fn shown_listing(alloc: Global, listing: &DiskListing) -> Result<RowAnswer, RowFault> {
+    let mut text = String::new(alloc);
+    for file in &listing.files {
+        write_listed(&mut text, file)?;
+    }
+    write!(text, "{} blocks free", listing.free_blocks)?;
+    Ok(RowAnswer::Words(text))
+}
+
+/// Adds the line of a file.
+fn write_listed(text: &mut String, file: &DiskFile) -> Result<(), AllocError> {
+    write!(text, "{} ", file.user)?;
+    write_name(text, &file.name)?;
+    writeln!(text, " {}", file.records)
+}
+
+/// The records of a file, or `NoFile`.
+fn read_file(
     alloc: Global,
     drive: &mut Drive,
     user: u8,
-    fcb: &mut Fcb,
+    name: [u8; 11],
 ) -> Result<RowAnswer, RowFault> {
+    drive.log_in();
+    let mut fcb = fcb_of(name);
+    if drive.open_file(user, &mut fcb).is_none() {
+        return RowAnswer::refused_text(alloc, "NoFile");
+    }
     let mut bytes = Vec::new(alloc);
+    add_records(&mut bytes, drive, user, &mut fcb)?;
+    Ok(RowAnswer::Bytes(bytes))
+}
+
+/// Adds the records of an open file, to the last.
+fn add_records(
+    bytes: &mut Vec<u8>,
+    drive: &mut Drive,
+    user: u8,
+    fcb: &mut Fcb,
+) -> Result<(), AllocError> {
     let mut buffer = [0; 128];
     for _ in 0..MOST_RECORDS {
         match drive.read_next(user, fcb, &mut buffer) {
             RecordAnswer::Done => bytes.extend_from_slice(&buffer)?,
-            _ => return Ok(RowAnswer::Bytes(bytes)),
+            _ => break,
         }
     }
-    Ok(RowAnswer::Bytes(bytes))
+    Ok(())
 }
 
 /// Why nothing is done, as the code names it.

@@ -1,6 +1,6 @@
 //! Rows of disk images: their formats, and their bytes.
 
-use cpm_geom::Image;
+use cpm_geom::{Dpb, Image};
 use std::alloc::{AllocError, Global};
 use test_images::Images;
 use test_language::{RowAnswer, RowFault, RowLine, Scene, Word, bytes_of};
@@ -77,14 +77,31 @@ impl ImageLines {
             return Err(RowFault::Words);
         };
         let dpb = self.images.copy(alloc, name.text)?.format().dpb();
-        let first = format!(in alloc;
-            "SPT {} BSH {} BLM {} EXM {} DSM {}",
-            dpb.sectors_per_track, dpb.block_shift, dpb.block_mask, dpb.extent_mask, dpb.last_block
-        )?;
-        let last = format!(in alloc;
-            "{first} DRM {} AL {:04X} CKS {} OFF {}",
-            dpb.last_entry, dpb.directory_bits, dpb.checksum_size, dpb.track_offset
-        )?;
-        Ok(RowAnswer::Words(last))
+        let mut text = String::new(alloc);
+        write_parameters(&mut text, &dpb)?;
+        Ok(RowAnswer::Words(text))
     }
+}
+
+/// Adds the fields of a disk parameter block, each after its name in the manual.
+fn write_parameters(text: &mut String, dpb: &Dpb) -> Result<(), AllocError> {
+    let before = [
+        ("SPT", dpb.sectors_per_track),
+        (" BSH", u16::from(dpb.block_shift)),
+        (" BLM", u16::from(dpb.block_mask)),
+        (" EXM", u16::from(dpb.extent_mask)),
+        (" DSM", dpb.last_block),
+        (" DRM", dpb.last_entry),
+    ];
+    let after = [(" CKS", dpb.checksum_size), (" OFF", dpb.track_offset)];
+    write_fields(text, before.as_slice())?;
+    write!(text, " AL {:04X}", dpb.directory_bits)?;
+    write_fields(text, after.as_slice())
+}
+
+fn write_fields(text: &mut String, fields: &[(&str, u16)]) -> Result<(), AllocError> {
+    for (name, value) in fields {
+        write!(text, "{name} {value}")?;
+    }
+    Ok(())
 }

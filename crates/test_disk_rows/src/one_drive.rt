@@ -1,7 +1,7 @@
 //! Rows of one drive by itself, without the session's choice of drives.
 
 use crate::fcb::FcbBytes;
-use crate::words::{done, filled, name, number};
+use crate::words::{byte_at, filled, is_of_images, name, number, only};
 use cpm_directory::{LentImage, Pattern};
 use cpm_drive::{
     Drive, Marks, close_file_lent, compute_size, open_file_lent, read_next_protected,
@@ -12,7 +12,22 @@ use cpm_volume::{Answer as RecordAnswer, Fault as DriveError, Fcb};
 use std::alloc::{AllocError, Global};
 use std::fmt::Display;
 use test_images::Images;
-use test_language::{RowAnswer, RowFault, RowLine, Scene, Word, count};
+use test_language::{RowAnswer, RowFault, RowLine, Scene, Word};
+
+/// The lines of one word.
+const ALONE: [&str; 11] = [
+    "log-in",
+    "protect",
+    "is-logged-in",
+    "is-protected",
+    "open",
+    "close",
+    "make",
+    "read",
+    "open-lent",
+    "close-lent",
+    "read-protected",
+];
 
 /// A drive, a user, a file control block, and the buffer of a record.
 #[derive(Drop)]
@@ -36,20 +51,7 @@ impl Scene for OneDrive {
     }
 
     fn is_alone(verb: &str) -> bool {
-        matches!(
-            verb,
-            "log-in"
-                | "protect"
-                | "is-logged-in"
-                | "is-protected"
-                | "open"
-                | "close"
-                | "make"
-                | "read"
-                | "open-lent"
-                | "close-lent"
-                | "read-protected"
-        )
+        ALONE.contains(&verb)
     }
 
     fn takes_text(_verb: &str) -> bool {
@@ -61,10 +63,10 @@ impl Scene for OneDrive {
         match line.verb() {
             "drive" => self.begin(alloc, arguments),
             "keep" => self.keep(alloc, arguments),
-            "image" | "entry" | "record" | "sector" => self.images.act(alloc, line),
+            verb if is_of_images(verb) => self.images.act(alloc, line),
             "fcb" => self.fcb.whole(alloc, arguments),
             "field" => self.fcb.field(alloc, arguments),
-            "buffer" => self.buffer_byte(alloc, arguments),
+            "buffer" => byte_at(alloc, &self.buffer, arguments),
             verb => match arguments {
                 [] => self.act_file(alloc, verb),
                 _ => self.act_words(alloc, verb, arguments),
@@ -82,33 +84,22 @@ impl OneDrive {
         let image = self.images.copy(alloc, image.text)?;
         let format = image.format();
         self.drive = Drive::new(image);
-        if let [word] = rest {
-            if word.text != "protected" {
-                return Err(RowFault::Words);
+        match rest {
+            [] => Ok(RowAnswer::Done),
+            [word] if word.text == "protected" => {
+                self.drive.marks = Marks::new(format, true);
+                Ok(RowAnswer::Done)
             }
-            self.drive.marks = Marks::new(format, true);
-            return Ok(RowAnswer::Done);
+            _ => Err(RowFault::Words),
         }
-        done(rest)
     }
 
     /// `keep NAME`: what is on the drive gets the name of an image.
     fn keep(&mut self, alloc: Global, arguments: &[Word<'_>]) -> Result<RowAnswer, RowFault> {
-        let [name] = arguments else {
-            return Err(RowFault::Words);
-        };
+        let name = only(arguments)?;
         let image = self.drive.image.image().copy(alloc)?;
         self.images.put(alloc, name.text, image)?;
         Ok(RowAnswer::Done)
-    }
-
-    /// `buffer PLACE`: a byte of the buffer.
-    fn buffer_byte(&self, alloc: Global, arguments: &[Word<'_>]) -> Result<RowAnswer, RowFault> {
-        let [place] = arguments else {
-            return Err(RowFault::Words);
-        };
-        let byte = self.buffer.get(count(*place)?).ok_or(RowFault::Number)?;
-        RowAnswer::bytes(alloc, [*byte].as_slice())
     }
 
     /// Does a line of one word.
@@ -124,14 +115,17 @@ impl OneDrive {
             }
             "is-logged-in" => RowAnswer::truth(alloc, self.drive.marks.is_logged_in),
             "is-protected" => RowAnswer::truth(alloc, self.drive.marks.is_protected),
-            _ => {
-                let dpb = self.drive.image.format().dpb();
-                let mut fcb = Fcb::from_bytes(&dpb, &self.fcb.bytes);
-                let answer = self.call(alloc, verb, &mut fcb)?;
-                self.fcb.bytes = fcb.to_bytes(&dpb);
-                Ok(answer)
-            }
+            _ => self.act_fcb(alloc, verb),
         }
+    }
+
+    /// Does a line that is a call on a file.
+    fn act_fcb(&mut self, alloc: Global, verb: &str) -> Result<RowAnswer, RowFault> {
+        let dpb = self.drive.image.format().dpb();
+        let mut fcb = Fcb::from_bytes(&dpb, &self.fcb.bytes);
+        let answer = self.call(alloc, verb, &mut fcb)?;
+        self.fcb.bytes = fcb.to_bytes(&dpb);
+        Ok(answer)
     }
 
     /// A call on the file of a file control block.
@@ -177,10 +171,7 @@ impl OneDrive {
             }
             "search" => self.search(alloc, arguments),
             "user" | "is-reserved" | "is-read-only" => {
-                let [word] = arguments else {
-                    return Err(RowFault::Words);
-                };
-                self.act_number(alloc, verb, number(*word)?)
+                self.act_number(alloc, verb, number(only(arguments)?)?)
             }
             _ => self.act_name(alloc, verb, arguments),
         }
@@ -199,14 +190,17 @@ impl OneDrive {
                 Ok(RowAnswer::Done)
             }
             "is-reserved" => RowAnswer::truth(alloc, self.drive.marks.reserved.contains(number)),
-            _ => {
-                if number > self.drive.image.format().dpb().last_entry {
-                    return Err(RowFault::Unready);
-                }
-                let extent = self.drive.image.entry(number).extent;
-                RowAnswer::truth(alloc, extent.is_read_only())
-            }
+            _ => self.is_read_only(alloc, number),
         }
+    }
+
+    /// `is-read-only ENTRY`.
+    fn is_read_only(&self, alloc: Global, entry: u16) -> Result<RowAnswer, RowFault> {
+        if entry > self.drive.image.format().dpb().last_entry {
+            return Err(RowFault::Unready);
+        }
+        let extent = self.drive.image.entry(entry).extent;
+        RowAnswer::truth(alloc, extent.is_read_only())
     }
 
     /// `read-random N`, `write-random N BYTES` and the like: record N of the file of the file control block.

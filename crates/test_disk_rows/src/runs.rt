@@ -1,8 +1,12 @@
 //! Words of which equal neighbours are written once, as rows write bytes: `2*00 14*Select FF`.
 
 use std::alloc::{AllocError, Global};
-use std::fmt::Display;
 use test_language::{RowAnswer, RowFault};
+
+/// The word for whether something is so.
+pub(crate) fn yes_or_no(is_so: bool) -> &'static str {
+    if is_so { "yes" } else { "no" }
+}
 
 /// Words, with how often each stands.
 #[derive(Drop)]
@@ -23,24 +27,25 @@ impl WordCounts {
     }
 
     /// Adds a word.
-    pub(crate) fn add(
-        &mut self,
-        alloc: Global,
-        word: impl Display + Drop,
-    ) -> Result<(), AllocError> {
-        let word = format!(in alloc; "{word}")?;
-        if self.times > 0 && word.as_str() == self.last.as_str() {
+    pub(crate) fn add(&mut self, alloc: Global, word: &str) -> Result<(), AllocError> {
+        if self.times > 0 && word == self.last.as_str() {
             self.times = self.times.saturating_add(1);
             return Ok(());
         }
-        self.end_run(alloc)?;
-        self.last = word;
+        self.end_run()?;
+        self.last = String::from_str(alloc, word)?;
         self.times = 1;
         Ok(())
     }
 
+    /// Adds a byte: two hexadecimal digits.
+    pub(crate) fn add_byte(&mut self, alloc: Global, byte: u8) -> Result<(), AllocError> {
+        let word = format!(in alloc; "{byte:02X}")?;
+        self.add(alloc, word.as_str())
+    }
+
     /// Writes the word that was added last.
-    fn end_run(&mut self, alloc: Global) -> Result<(), AllocError> {
+    fn end_run(&mut self) -> Result<(), AllocError> {
         if self.times == 0 {
             return Ok(());
         }
@@ -48,16 +53,15 @@ impl WordCounts {
             self.text.push(' ')?;
         }
         if self.times > 1 {
-            let times = format!(in alloc; "{}*", self.times)?;
-            self.text.push_str(times.as_str())?;
+            write!(self.text, "{}*", self.times)?;
         }
         self.text.push_str(self.last.as_str())
     }
 
     /// All words.
-    pub(crate) fn into_answer(self, alloc: Global) -> Result<RowAnswer, RowFault> {
+    pub(crate) fn into_answer(self) -> Result<RowAnswer, RowFault> {
         let mut runs = self;
-        runs.end_run(alloc)?;
+        runs.end_run()?;
         let WordCounts { text, .. } = runs;
         Ok(RowAnswer::Words(text))
     }

@@ -1,7 +1,7 @@
 //! Numbers, names and records, as rows of disks write them.
 
 use std::alloc::{AllocError, Global};
-use test_language::{RowAnswer, RowFault, Word, bytes_of};
+use test_language::{RowAnswer, RowFault, Word, bytes_of, count};
 
 /// A decimal number of 16 bits.
 pub(crate) fn number(word: Word<'_>) -> Result<u16, RowFault> {
@@ -18,24 +18,46 @@ pub(crate) fn filled<const N: usize>(
     alloc: Global,
     words: &[Word<'_>],
 ) -> Result<[u8; N], RowFault> {
-    let start = bytes_of(alloc, words)?;
-    let mut bytes = [0; N];
-    for (place, byte) in bytes.iter_mut().enumerate() {
-        *byte = start.get(place).copied().unwrap_or(0);
-    }
+    padded(bytes_of(alloc, words)?.as_slice())
+}
+
+/// These bytes, with zeros behind them.
+fn padded<const N: usize>(start: &[u8]) -> Result<[u8; N], RowFault> {
     if start.len() > N {
         return Err(RowFault::Bytes);
     }
+    let mut bytes = [0; N];
+    bytes[..start.len()].copy_from_slice(start);
     Ok(bytes)
 }
 
 /// Eight characters of a name and three of a type, with their attribute bits.
 pub(crate) fn name(alloc: Global, word: Word<'_>) -> Result<[u8; 11], RowFault> {
-    let words = [word];
-    if bytes_of(alloc, words.as_slice())?.len() != 11 {
-        return Err(RowFault::Bytes);
+    let bytes = bytes_of(alloc, [word].as_slice())?;
+    <[u8; 11]>::try_from(bytes.as_slice()).map_err(|_| RowFault::Bytes)
+}
+
+/// The one word after a first one.
+pub(crate) fn only<'a>(arguments: &[Word<'a>]) -> Result<Word<'a>, RowFault> {
+    match arguments {
+        [word] => Ok(*word),
+        _ => Err(RowFault::Words),
     }
-    filled(alloc, words.as_slice())
+}
+
+/// `buffer PLACE`: a byte of a buffer.
+pub(crate) fn byte_at(
+    alloc: Global,
+    buffer: &[u8],
+    arguments: &[Word<'_>],
+) -> Result<RowAnswer, RowFault> {
+    let byte = buffer.get(count(only(arguments)?)?).ok_or(RowFault::Number)?;
+    RowAnswer::bytes(alloc, [*byte].as_slice())
+}
+
+/// Whether a line is one about images, which `Images` does.
+pub(crate) fn is_of_images(verb: &str) -> bool {
+    ["image", "entry", "record", "sector"].contains(&verb)
 }
 
 /// What a line answers that is done, where no word stands after its first.
@@ -48,19 +70,18 @@ pub(crate) fn done(arguments: &[Word<'_>]) -> Result<RowAnswer, RowFault> {
 }
 
 /// Adds a name as rows write it, in quotes, its characters with an attribute bit as `\xHH`.
-pub(crate) fn write_name(
-    alloc: Global,
-    text: &mut String,
-    name: &[u8; 11],
-) -> Result<(), AllocError> {
+pub(crate) fn write_name(text: &mut String, name: &[u8; 11]) -> Result<(), AllocError> {
     text.push('"')?;
     for character in name {
-        if matches!(*character, b' '..=b'~') {
-            text.push(char::from(*character))?;
-        } else {
-            let escape = format!(in alloc; "\\x{character:02X}")?;
-            text.push_str(escape.as_str())?;
-        }
+        write_character(text, *character)?;
     }
     text.push('"')
+}
+
+fn write_character(text: &mut String, character: u8) -> Result<(), AllocError> {
+    if matches!(character, b' '..=b'~') {
+        text.push(char::from(character))
+    } else {
+        write!(text, "\\x{character:02X}")
+    }
 }
