@@ -1,11 +1,12 @@
 //! What a run reads for the sessions of a configuration, and what it writes after them.
 
+use crate::files::{refused_with, shown_status};
 use crate::stores::Stores;
 use cpm_batch::{Input, ReadError, SessionFiles, Start, outputs_of, read_inputs};
-use cpm_config::Config;
+use cpm_config::{Config, SessionConfig};
 use cpm_geom::Image;
-use cpm_script::{Cue, Key};
-use cpm_store::{MemoryStore, Store};
+use cpm_script::Cue;
+use cpm_store::{MemoryStore, Output, Store};
 use std::alloc::{AllocError, Global};
 use test_images::Images;
 use test_language::{RowAnswer, RowFault, RowLine, Scene, Word, bytes_of};
@@ -30,10 +31,7 @@ impl Scene for Batches {
     }
 
     fn is_alone(verb: &str) -> bool {
-        matches!(
-            verb,
-            "config" | "inputs" | "status" | "failures" | "write-all" | "told"
-        )
+        ["config", "inputs", "status", "failures", "write-all", "told"].contains(&verb)
     }
 
     fn takes_text(verb: &str) -> bool {
@@ -45,10 +43,7 @@ impl Scene for Batches {
             "config" => self.take(alloc, line),
             "drive" => self.put(alloc, line.arguments()),
             "inputs" => self.inputs(alloc),
-            "status" => match self.status {
-                Some(status) => RowAnswer::words(alloc, status),
-                None => RowAnswer::words(alloc, "none"),
-            },
+            "status" => shown_status(alloc, self.status),
             "outputs" => self.outputs(alloc, line.arguments()),
             "image" | "entry" | "record" | "sector" => self.images.act(alloc, line),
             _ => self.files.act(alloc, line),
@@ -96,7 +91,7 @@ impl Batches {
     fn refuse(&mut self, alloc: Global, error: ReadError) -> Result<RowAnswer, RowFault> {
         let code = error.code();
         self.status = Some(code.status());
-        Ok(RowAnswer::Refused(format!(in alloc; "{code} {error}")?))
+        refused_with(alloc, code, error)
     }
 
     /// `outputs CONSOLE LIST IMAGES`: the files that are written, each with its length, where each session left these texts and
@@ -110,19 +105,26 @@ impl Batches {
         };
         let mut all = Vec::new(alloc);
         for session in &config.sessions {
-            all.push(SessionFiles {
-                session,
-                console: bytes_of(alloc, &[*console])?,
-                list: bytes_of(alloc, &[*list])?,
-                drives: self.drives(alloc, images)?,
-            })?;
+            all.push(self.left_by(alloc, session, [*console, *list], images)?)?;
         }
-        let mut out = String::new(alloc);
-        for output in &outputs_of(alloc, all)? {
-            let (name, length) = (output.name, output.bytes.len());
-            add_item(&mut out, format!(in alloc; "{name} {length}")?.as_str())?;
-        }
-        Ok(RowAnswer::Words(out))
+        shown_outputs(alloc, outputs_of(alloc, all)?.as_slice())
+    }
+
+    /// What a session left: the texts of its console and its list device, and its drives.
+    fn left_by<'a>(
+        &self,
+        alloc: Global,
+        session: &'a SessionConfig,
+        texts: [Word<'_>; 2],
+        images: &[Word<'_>],
+    ) -> Result<SessionFiles<'a>, RowFault> {
+        let [console, list] = texts;
+        Ok(SessionFiles {
+            session,
+            console: bytes_of(alloc, &[console])?,
+            list: bytes_of(alloc, &[list])?,
+            drives: self.drives(alloc, images)?,
+        })
     }
 
     /// Copies of images as the drives from A on.
@@ -149,75 +151,85 @@ fn read(
     config: &Config,
     store: &mut MemoryStore,
 ) -> Result<Result<String, ReadError>, RowFault> {
-    let inputs = match config.fork_fault() {
-        None => read_inputs(alloc, config, &[], store),
-        Some(_) => return Err(RowFault::Unready),
-    };
-    match inputs {
+    if config.fork_fault().is_some() {
+        return Err(RowFault::Unready);
+    }
+    match read_inputs(alloc, config, &[], store) {
         Ok((_, sessions)) => Ok(Ok(shown_inputs(alloc, sessions.as_slice())?)),
         Err(error) => Ok(Err(error)),
     }
 }
 
-/// Adds an item after those before it.
-fn add_item(out: &mut String, item: &str) -> Result<(), AllocError> {
-    if !out.is_empty() {
-        out.push_str(", ")?;
+/// The names of the files that are written, each with its length.
+fn shown_outputs(alloc: Global, outputs: &[Output<'_>]) -> Result<RowAnswer, RowFault> {
+    let mut out = String::new(alloc);
+    let mut separator = "";
+    for output in outputs {
+        out.push_str(separator)?;
+        write!(out, "{} {}", output.name, output.bytes.len())?;
+        separator = ", ";
     }
-    out.push_str(item)
+    Ok(RowAnswer::Words(out))
 }
 
 /// What was read for sessions, each on a line.
 fn shown_inputs(alloc: Global, inputs: &[Input<'_>]) -> Result<String, RowFault> {
     let mut out = String::new(alloc);
+    let mut separator = "";
     for input in inputs {
-        if !out.is_empty() {
-            out.push('\n')?;
-        }
-        out.push_str(input.session.name.as_str())?;
-        out.push_str(shown_start(alloc, &input.start)?.as_str())?;
-        let cues = shown_cues(alloc, input.cues.as_slice())?;
-        out.push_str(format!(in alloc; "; cues {cues}")?.as_str())?;
+        out.push_str(separator)?;
+        write_input(&mut out, input)?;
+        separator = "\n";
     }
     Ok(out)
 }
 
-/// How a session begins.
-fn shown_start(alloc: Global, start: &Start) -> Result<String, AllocError> {
+/// Adds what was read for a session.
+fn write_input(out: &mut String, input: &Input<'_>) -> Result<(), RowFault> {
+    out.push_str(input.session.name.as_str())?;
+    write_start(out, &input.start)?;
+    out.push_str("; cues ")?;
+    if input.cues.is_empty() {
+        return Ok(out.push_str("none")?);
+    }
+    write_cues(out, input.cues.as_slice())
+}
+
+/// Adds how a session begins.
+fn write_start(out: &mut String, start: &Start) -> Result<(), AllocError> {
     match start {
         Start::Opened { cpu, quota, drives } => {
             let drives = drives.len();
-            format!(in alloc; ": opened on {cpu:?}, quota {quota}, drives {drives}")
+            write!(out, ": opened on {cpu:?}, quota {quota}, drives {drives}")
         }
         Start::Forked { parent, at } => {
-            format!(in alloc; ": forked from session {parent}, counted from 0, at {at}")
+            write!(out, ": forked from session {parent}, counted from 0, at {at}")
         }
     }
 }
 
-/// A cue: `key COUNT BYTE`, `wait TEXT` or `press BYTE`.
-fn shown_cue(alloc: Global, cue: &Cue) -> Result<String, RowFault> {
-    match cue {
-        Cue::Key(key) => {
-            let Key { count, byte } = *key;
-            Ok(format!(in alloc; "key {count} {byte:02X}")?)
-        }
-        Cue::Wait(text) => match str::from_utf8(text.as_slice()) {
-            Ok(text) => Ok(format!(in alloc; "wait {text:?}")?),
-            Err(_) => Err(RowFault::Unready),
-        },
-        Cue::Press(byte) => Ok(format!(in alloc; "press {byte:02X}")?),
-    }
-}
-
-/// What a script says, one cue after another; `none` where it says nothing.
-fn shown_cues(alloc: Global, cues: &[Cue]) -> Result<String, RowFault> {
-    let mut out = String::new(alloc);
+/// Adds what a script says, one cue after another.
+fn write_cues(out: &mut String, cues: &[Cue]) -> Result<(), RowFault> {
+    let mut separator = "";
     for cue in cues {
-        add_item(&mut out, shown_cue(alloc, cue)?.as_str())?;
+        out.push_str(separator)?;
+        write_cue(out, cue)?;
+        separator = ", ";
     }
-    if out.is_empty() {
-        out.push_str("none")?;
+    Ok(())
+}
+
+/// Adds a cue: `key COUNT BYTE`, `wait TEXT` or `press BYTE`.
+fn write_cue(out: &mut String, cue: &Cue) -> Result<(), RowFault> {
+    match cue {
+        Cue::Key(key) => write!(out, "key {} {:02X}", key.count, key.byte)?,
+        Cue::Wait(text) => write_wait(out, text.as_slice())?,
+        Cue::Press(byte) => write!(out, "press {byte:02X}")?,
     }
-    Ok(out)
+    Ok(())
+}
+
+fn write_wait(out: &mut String, text: &[u8]) -> Result<(), RowFault> {
+    let text = str::from_utf8(text).map_err(|_| RowFault::Unready)?;
+    Ok(write!(out, "wait {text:?}")?)
 }

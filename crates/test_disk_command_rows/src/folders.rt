@@ -3,8 +3,9 @@
 use crate::disk_commands::DiskCommands;
 use crate::files::named;
 use crate::names::text_of;
-use cpm_disk_commands::{HostFile, names_of_folder};
-use std::alloc::Global;
+use crate::not_done::NotDone;
+use cpm_disk_commands::{FolderNames, HostFile, names_of_folder};
+use std::alloc::{AllocError, Global};
 use test_language::{RowAnswer, RowFault, Word, bytes_of};
 
 /// `folder NAME..`: the files of a disk that these names of a folder become, and those that are left out.
@@ -13,17 +14,20 @@ pub fn folder(alloc: Global, arguments: &[Word<'_>]) -> Result<RowAnswer, RowFau
     for name in arguments {
         names.push(text_of(alloc, *name)?)?;
     }
-    let found = names_of_folder(alloc, names.as_slice())?;
     let mut out = String::new(alloc);
-    for kept in &found.kept {
-        let name = kept.name;
-        let file = named(&kept.file);
-        out.push_str(format!(in alloc; "{name} is {file}\n")?.as_str())?;
-    }
-    for name in &found.left_out {
-        out.push_str(format!(in alloc; "{name} is left out\n")?.as_str())?;
-    }
+    write_names(&mut out, &names_of_folder(alloc, names.as_slice())?)?;
     RowAnswer::bytes(alloc, out.as_bytes())
+}
+
+/// Adds a line for each name: the file that it becomes, or that it is left out.
+fn write_names(out: &mut String, names: &FolderNames<'_>) -> Result<(), AllocError> {
+    for kept in &names.kept {
+        writeln!(out, "{} is {}", kept.name, named(&kept.file))?;
+    }
+    for name in &names.left_out {
+        writeln!(out, "{name} is left out")?;
+    }
+    Ok(())
 }
 
 impl DiskCommands {
@@ -32,18 +36,14 @@ impl DiskCommands {
         &mut self,
         alloc: Global,
         arguments: &[Word<'_>],
-    ) -> Result<RowAnswer, RowFault> {
+    ) -> Result<RowAnswer, NotDone> {
         let [bytes, names @ ..] = arguments else {
-            return Err(RowFault::Words);
+            return Err(NotDone::Fault(RowFault::Words));
         };
         for name in names {
-            match self.file(alloc, *name)? {
-                Ok(file) => self.host_files.push(HostFile {
-                    file,
-                    bytes: bytes_of(alloc, [*bytes].as_slice())?,
-                })?,
-                Err(error) => return self.refused(alloc, error),
-            }
+            let file = self.file(alloc, *name)?;
+            let bytes = bytes_of(alloc, [*bytes].as_slice())?;
+            self.host_files.push(HostFile { file, bytes })?;
         }
         Ok(RowAnswer::Done)
     }

@@ -7,6 +7,7 @@ mod disk_commands;
 mod files;
 mod folders;
 mod names;
+mod not_done;
 mod stores;
 
 pub use batches::Batches;

@@ -1,5 +1,6 @@
 //! A store over memory, of which one call can be made to fail, and files that are written to it in a batch.
 
+use crate::names::only;
 use cpm_store::{MemoryStore, Output, Store, WriteError, write_all};
 use std::alloc::{AllocError, Global};
 use test_language::{RowAnswer, RowFault, RowLine, Scene, Word, bytes_of, number};
@@ -37,13 +38,14 @@ impl Scene for Stores {
     }
 
     fn act(&mut self, alloc: Global, line: &RowLine<'_>) -> Result<RowAnswer, RowFault> {
+        let arguments = line.arguments();
         match line.verb() {
-            "write" => self.write(alloc, line.arguments()),
-            "read" => self.read(alloc, line.arguments()),
-            "file" => self.file(alloc, line.arguments()),
-            "fail-call" => self.fail(line.arguments()),
+            "write" => self.write(alloc, arguments),
+            "read" => self.read(alloc, arguments),
+            "file" => self.file(alloc, arguments),
+            "fail-call" => self.fail(arguments),
             "failures" => RowAnswer::words(alloc, self.store.failures()),
-            "output" => self.plan(alloc, line.arguments()),
+            "output" => self.plan(alloc, arguments),
             "write-all" => self.write_all(alloc),
             "told" => RowAnswer::words(alloc, self.told.as_str()),
             _ => Err(RowFault::Unknown),
@@ -66,10 +68,7 @@ impl Stores {
 
     /// `read NAME`: the bytes of a file.
     fn read(&mut self, alloc: Global, arguments: &[Word<'_>]) -> Result<RowAnswer, RowFault> {
-        let [name] = arguments else {
-            return Err(RowFault::Words);
-        };
-        match self.store.read(alloc, name.text) {
+        match self.store.read(alloc, only(arguments)?.text) {
             Ok(bytes) => Ok(RowAnswer::Bytes(bytes)),
             Err(error) => RowAnswer::refused(alloc, error),
         }
@@ -77,10 +76,7 @@ impl Stores {
 
     /// `file NAME`: the bytes of a file without a call of the store, or `none`.
     fn file(&self, alloc: Global, arguments: &[Word<'_>]) -> Result<RowAnswer, RowFault> {
-        let [name] = arguments else {
-            return Err(RowFault::Words);
-        };
-        match self.store.file(name.text) {
+        match self.store.file(only(arguments)?.text) {
             Some(bytes) => RowAnswer::bytes(alloc, bytes),
             None => RowAnswer::words(alloc, "none"),
         }
@@ -88,10 +84,7 @@ impl Stores {
 
     /// `fail N`: the call of this number fails, the next one being 1.
     fn fail(&mut self, arguments: &[Word<'_>]) -> Result<RowAnswer, RowFault> {
-        let [call] = arguments else {
-            return Err(RowFault::Words);
-        };
-        let call = number(*call)?;
+        let call = number(only(arguments)?)?;
         if call == 0 {
             return Err(RowFault::Unready);
         }
@@ -112,21 +105,30 @@ impl Stores {
 
     /// `write-all`: writes them in order.
     fn write_all(&mut self, alloc: Global) -> Result<RowAnswer, RowFault> {
-        let mut outputs = Vec::new(alloc);
-        for planned in &self.planned {
-            let bytes = Vec::from_slice(alloc, planned.bytes.as_slice())?;
-            outputs.push(Output {
-                name: planned.name.as_str(),
-                bytes,
-            })?;
-        }
+        let outputs = outputs_of(alloc, self.planned.as_slice())?;
         match write_all(outputs.as_slice(), &mut self.store) {
             Ok(()) => RowAnswer::words(alloc, "written"),
             Err(error) => {
                 self.told = error.to_string(alloc)?;
-                let WriteError { place, cause } = error;
-                Ok(RowAnswer::Refused(format!(in alloc; "output {place}: {cause:?}")?))
+                refused_write(alloc, error)
             }
         }
     }
+}
+
+/// The files that are to be written, with copies of their bytes.
+fn outputs_of(alloc: Global, planned: &[PlannedWrite]) -> Result<Vec<Output<'_>>, RowFault> {
+    let mut outputs = Vec::new(alloc);
+    for PlannedWrite { name, bytes } in planned {
+        let bytes = Vec::from_slice(alloc, bytes.as_slice())?;
+        let name = name.as_str();
+        outputs.push(Output { name, bytes })?;
+    }
+    Ok(outputs)
+}
+
+/// Which of them could not be written, and why.
+fn refused_write(alloc: Global, error: WriteError) -> Result<RowAnswer, RowFault> {
+    let WriteError { place, cause } = error;
+    RowAnswer::refused_text(alloc, format_args!("output {place}: {cause:?}"))
 }
