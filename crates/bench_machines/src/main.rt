@@ -25,20 +25,23 @@ use cpm_slots::Host;
 use forks::{fork_and_close, host_of_forks, host_of_opened};
 use sessions::{
     HostTurns, host_of_drives, look_often, make_openings, open_and_close, run_beside, run_host,
-    run_machine, run_machine_with,
+    run_machine,
 };
 use soak::soak;
+use std::alloc::Global;
 use std::process::ExitCode;
 use std::{env, fs};
 
 /// The greatest resident memory of this process so far, in KiB, as Linux counts it.
 fn resident(rt: &HostRuntime) -> Option<u64> {
     let status = fs::read_to_string(rt, "/proc/self/status").ok()?;
-    let line = status
-        .as_str()
-        .lines()
-        .find(|line| line.starts_with("VmHWM:"))?;
-    line.split_whitespace().nth(1)?.parse().ok()
+    most_resident(status.as_str())
+}
+
+/// The number of that memory in the status of a process.
+fn most_resident(status: &str) -> Option<u64> {
+    let (_, behind) = status.split_once("VmHWM:")?;
+    behind.split_whitespace().next()?.parse().ok()
 }
 
 /// Makes so many memories in one store, each with a quota of 16 pages and one page written, and keeps them to the end.
@@ -48,54 +51,71 @@ fn share(rt: &HostRuntime, number: u16) -> Option<u64> {
     }
     let mut store = FrameStore::new(rt.alloc(), 16 * number).ok()?;
     for _ in 0..number {
-        if store.taken() >= 64 {
-            return None;
-        }
-        let table = store.reserve(16).ok()?;
-        if !store.is_taken(table) {
-            return None;
-        }
-        let mut view = store.view(table);
-        if !has_room(&view) {
-            return None;
-        }
-        cpm_memory::set_byte(&mut view, 0x2000, 1);
+        share_one(&mut store)?;
     }
     resident(rt)
+}
+
+/// Makes one of them.
+fn share_one(store: &mut FrameStore) -> Option<()> {
+    if store.taken() >= 64 {
+        return None;
+    }
+    let table = store.reserve(16).ok()?;
+    if !store.is_taken(table) {
+        return None;
+    }
+    let mut view = store.view(table);
+    if !has_room(&view) {
+        return None;
+    }
+    cpm_memory::set_byte(&mut view, 0x2000, 1);
+    Some(())
 }
 
 /// Makes so many memories of their own, each with one page written, and keeps them to the end.
 fn own(rt: &HostRuntime, number: u16) -> Option<u64> {
     let mut memories = Vec::new(rt.alloc());
     for _ in 0..number {
-        let mut memory = FlatMemory::new(rt.alloc()).ok()?;
-        if has_room(&memory) {
-            cpm_memory::set_byte(&mut memory, 0x2000, 1);
-        }
-        memories.push(memory).ok()?;
+        memories.push(own_one(rt.alloc())?).ok()?;
     }
     resident(rt)
 }
 
-/// Makes the host that the words ask for.
-fn host_by(rt: &HostRuntime, words: &[&str]) -> Option<Host> {
-    let alloc = rt.alloc();
-    match words {
-        ["drives", "small", number] => {
-            host_of_drives(alloc, Format::Ibm3740, number.parse().ok()?)
-        }
-        ["drives", "large", number] => host_of_drives(alloc, Format::Large, number.parse().ok()?),
-        ["opened", file, number] => {
-            host_of_opened(alloc, drive_of(rt, file)?, number.parse().ok()?)
-        }
-        ["forked", file, number] => host_of_forks(alloc, drive_of(rt, file)?, number.parse().ok()?),
+/// Makes one of them.
+fn own_one(alloc: Global) -> Option<FlatMemory> {
+    let mut memory = FlatMemory::new(alloc).ok()?;
+    if has_room(&memory) {
+        cpm_memory::set_byte(&mut memory, 0x2000, 1);
+    }
+    Some(memory)
+}
+
+/// The format of that size.
+fn format_of(size: &str) -> Option<Format> {
+    match size {
+        "small" => Some(Format::Ibm3740),
+        "large" => Some(Format::Large),
         _ => None,
     }
 }
 
-/// Makes a host, and keeps it to the end.
+/// Makes a host with so many sessions, of the kind that is asked for: `drives SIZE`, `opened IMAGE` or `forked IMAGE`.
+fn host_by(rt: &HostRuntime, kind: &str, of: &str, sessions: u16) -> Option<Host> {
+    match kind {
+        "drives" => host_of_drives(rt.alloc(), format_of(of)?, sessions),
+        "opened" => host_of_opened(rt.alloc(), drive_of(rt, of)?, sessions),
+        "forked" => host_of_forks(rt.alloc(), drive_of(rt, of)?, sessions),
+        _ => None,
+    }
+}
+
+/// Makes a host, where the words ask for it, and keeps it to the end.
 fn hold(rt: &HostRuntime, words: &[&str]) -> Option<u64> {
-    let _host = host_by(rt, words)?;
+    let [kind, of, sessions] = words else {
+        return None;
+    };
+    let _host = host_by(rt, kind, of, sessions.parse().ok()?)?;
     resident(rt)
 }
 
@@ -124,41 +144,30 @@ fn quantum_of(words: &[&str]) -> Option<Option<u64>> {
 
 /// Runs the sessions of a folder, where the words ask for it.
 fn run_soak(rt: &HostRuntime, words: &[&str]) -> Option<()> {
+    let [folder, number, steps, rest @ ..] = words else {
+        return None;
+    };
+    let (number, steps) = (number.parse().ok()?, steps.parse().ok()?);
+    soak(rt, folder, number, steps, quantum_of(rest)?)
+}
+
+/// The drive in a file, where one is named, or a blank one.
+fn drive_or_blank(rt: &HostRuntime, words: &[&str]) -> Option<Image> {
     match words {
-        [folder, number, steps, rest @ ..] => {
-            let quantum = quantum_of(rest)?;
-            soak(
-                rt,
-                folder,
-                number.parse().ok()?,
-                steps.parse().ok()?,
-                quantum,
-            )
-        }
+        [] => Image::blank(rt.alloc(), Format::Ibm3740).ok(),
+        [image] => drive_of(rt, image),
         _ => None,
     }
 }
 
 /// Runs a program by one grant of a machine, where the words ask for it.
 fn measure_machine(rt: &HostRuntime, words: &[&str]) -> Option<u64> {
-    match words {
-        [cpu, file, steps] => {
-            let program = fs::read(rt, file).ok()?;
-            run_machine(rt.alloc(), cpu_of(cpu)?, program, steps.parse().ok()?)
-        }
-        [cpu, file, steps, image] => {
-            let program = fs::read(rt, file).ok()?;
-            let drive = drive_of(rt, image)?;
-            run_machine_with(
-                rt.alloc(),
-                cpu_of(cpu)?,
-                program,
-                steps.parse().ok()?,
-                drive,
-            )
-        }
-        _ => None,
-    }
+    let [cpu, file, steps, image @ ..] = words else {
+        return None;
+    };
+    let (cpu, steps) = (cpu_of(cpu)?, steps.parse().ok()?);
+    let drive = drive_or_blank(rt, image)?;
+    run_machine(rt.alloc(), cpu, fs::read(rt, file).ok()?, steps, drive)
 }
 
 /// How many sessions of a host run by grants in turn, where four words say it.
@@ -179,8 +188,8 @@ fn measure_host(rt: &HostRuntime, words: &[&str]) -> Option<u64> {
     let [cpu, file, rest @ ..] = words else {
         return None;
     };
-    let turns = turns_of(rest)?;
-    run_host(rt.alloc(), cpu_of(cpu)?, drive_of(rt, file)?, &turns)
+    let (cpu, turns) = (cpu_of(cpu)?, turns_of(rest)?);
+    run_host(rt.alloc(), cpu, drive_of(rt, file)?, &turns)
 }
 
 /// Runs one session in turn with sessions that wait, where the words ask for it.
@@ -204,14 +213,14 @@ fn measure_forks(rt: &HostRuntime, words: &[&str]) -> Option<u64> {
 }
 
 /// Makes one of what it names so many times.
-fn make(rt: &HostRuntime, what: &str, times: &str) -> Option<u64> {
+fn make(rt: &HostRuntime, what: &str, times: u64) -> Option<u64> {
     match what {
-        "sessions" => share(rt, times.parse().ok()?),
-        "flats" => own(rt, times.parse().ok()?),
-        "looks" => look_often(rt.alloc(), times.parse().ok()?),
-        "slots" => open_and_close(rt.alloc(), times.parse().ok()?),
-        "openings" => make_openings(rt.alloc(), times.parse().ok()?),
-        _ => hold(rt, &[what, times]),
+        "sessions" => share(rt, u16::try_from(times).ok()?),
+        "flats" => own(rt, u16::try_from(times).ok()?),
+        "looks" => look_often(rt.alloc(), times),
+        "slots" => open_and_close(rt.alloc(), times),
+        "openings" => make_openings(rt.alloc(), times),
+        _ => None,
     }
 }
 
@@ -222,7 +231,7 @@ fn measure(rt: &HostRuntime, words: &[&str]) -> Option<u64> {
         ["host", rest @ ..] => measure_host(rt, rest),
         ["waiting", rest @ ..] => measure_waiting(rt, rest),
         ["forks", rest @ ..] => measure_forks(rt, rest),
-        [what, times] => make(rt, what, times),
+        [what, times] => make(rt, what, times.parse().ok()?),
         words => hold(rt, words),
     }
 }
@@ -244,11 +253,16 @@ fn do_words(rt: &HostRuntime, words: &[&str]) -> Option<()> {
 /// Does what the command line asks for.
 fn do_line(rt: &HostRuntime) -> Option<()> {
     let words: Vec<String> = env::args(rt).ok()?.skip(1).collect(rt.alloc()).ok()?;
-    let mut texts = Vec::new(rt.alloc());
-    for word in &words {
+    do_words(rt, texts_of(rt.alloc(), words.as_slice())?.as_slice())
+}
+
+/// The texts of words.
+fn texts_of(alloc: Global, words: &[String]) -> Option<Vec<&str>> {
+    let mut texts = Vec::with_capacity(alloc, words.len()).ok()?;
+    for word in words {
         texts.push(word.as_str()).ok()?;
     }
-    do_words(rt, texts.as_slice())
+    Some(texts)
 }
 
 fn main(rt: HostRuntime) -> ExitCode {

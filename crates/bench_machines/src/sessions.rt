@@ -18,14 +18,14 @@ pub struct HostTurns {
     pub rounds: u64,
 }
 
+/// A blank drive.
+fn blank(alloc: Global) -> Option<Image> {
+    Image::blank(alloc, Format::Ibm3740).ok()
+}
+
 /// An opening with one blank drive.
 fn opening_of(alloc: Global, cpu: Cpu, quota: u16) -> Option<Opening> {
-    opening_with(
-        alloc,
-        cpu,
-        quota,
-        Image::blank(alloc, Format::Ibm3740).ok()?,
-    )
+    opening_with(alloc, cpu, quota, blank(alloc)?)
 }
 
 /// An opening with this drive.
@@ -35,21 +35,15 @@ fn opening_with(alloc: Global, cpu: Cpu, quota: u16, drive: Image) -> Option<Ope
     Some(Opening { cpu, quota, drives })
 }
 
-/// Runs a program by one grant, with a blank drive, and says how many steps were executed.
-pub fn run_machine(alloc: Global, cpu: Cpu, program: Vec<u8>, steps: u64) -> Option<u64> {
-    let drive = Image::blank(alloc, Format::Ibm3740).ok()?;
-    run_machine_with(alloc, cpu, program, steps, drive)
-}
-
-/// The same with this drive.
-pub fn run_machine_with(
+/// Runs a program by one grant, with this drive, and says how many steps were executed.
+pub fn run_machine(
     alloc: Global,
     cpu: Cpu,
     program: Vec<u8>,
     steps: u64,
     drive: Image,
 ) -> Option<u64> {
-    let system = Image::blank(alloc, Format::Ibm3740).ok()?;
+    let system = blank(alloc)?;
     let opening = opening_with(alloc, cpu, 256, drive)?;
     let mut machine = Machine::with_program(alloc, opening, program).ok()?;
     Some(machine.grant(&system, steps).executed)
@@ -66,16 +60,22 @@ fn four_drives(alloc: Global, format: Format) -> Option<Vec<Image>> {
 
 /// A host with so many sessions, each with four blank drives of this format and a quota of 16 pages.
 pub fn host_of_drives(alloc: Global, format: Format, sessions: u16) -> Option<Host> {
-    let mut host = host_of(alloc, Image::blank(alloc, Format::Ibm3740).ok()?, 4)?;
+    let mut host = host_of(alloc, blank(alloc)?, 4)?;
     for _ in 0..sessions {
-        let opening = Opening {
-            cpu: Cpu::I8080,
-            quota: 16,
-            drives: four_drives(alloc, format)?,
-        };
-        host.open(alloc, opening).ok()?;
+        open_with_four(alloc, &mut host, format)?;
     }
     Some(host)
+}
+
+/// Opens a session with four blank drives.
+fn open_with_four(alloc: Global, host: &mut Host, format: Format) -> Option<SlotId> {
+    let drives = four_drives(alloc, format)?;
+    let opening = Opening {
+        cpu: Cpu::I8080,
+        quota: 16,
+        drives,
+    };
+    host.open(alloc, opening).ok()
 }
 
 /// A host with this system drive, whose frames are enough for all pages of so many sessions.
@@ -84,6 +84,12 @@ pub(crate) fn host_of(alloc: Global, system: Image, sessions: u16) -> Option<Hos
         return None;
     }
     Host::new(alloc, system, 256 * sessions).ok()
+}
+
+/// Opens a session with a blank drive and all its pages.
+fn open_one(alloc: Global, host: &mut Host) -> Option<SlotId> {
+    let opening = opening_of(alloc, Cpu::I8080, 256)?;
+    host.open(alloc, opening).ok()
 }
 
 /// Opens a session that starts the program RUN.COM of the system drive.
@@ -121,8 +127,7 @@ pub fn run_host(alloc: Global, cpu: Cpu, system: Image, turns: &HostTurns) -> Op
 fn prompts(alloc: Global, host: &mut Host, count: u16) -> Option<Vec<SlotId>> {
     let mut slots = Vec::new(alloc);
     for _ in 0..count {
-        let opening = opening_of(alloc, Cpu::I8080, 256)?;
-        slots.push(host.open(alloc, opening).ok()?).ok()?;
+        slots.push(open_one(alloc, host)?).ok()?;
     }
     Some(slots)
 }
@@ -163,9 +168,8 @@ pub fn run_beside(
 
 /// Looks at a session so many times.
 pub fn look_often(alloc: Global, times: u64) -> Option<u64> {
-    let mut host = host_of(alloc, Image::blank(alloc, Format::Ibm3740).ok()?, 1)?;
-    let opening = opening_of(alloc, Cpu::I8080, 256)?;
-    let id = host.open(alloc, opening).ok()?;
+    let mut host = host_of(alloc, blank(alloc)?, 1)?;
+    let id = open_one(alloc, &mut host)?;
     for _ in 0..times {
         host.look(id).ok()?;
     }
@@ -174,10 +178,9 @@ pub fn look_often(alloc: Global, times: u64) -> Option<u64> {
 
 /// Opens and closes a slot so many times, each time with a new blank drive.
 pub fn open_and_close(alloc: Global, times: u64) -> Option<u64> {
-    let mut host = host_of(alloc, Image::blank(alloc, Format::Ibm3740).ok()?, 1)?;
+    let mut host = host_of(alloc, blank(alloc)?, 1)?;
     for _ in 0..times {
-        let opening = opening_of(alloc, Cpu::I8080, 256)?;
-        let id = host.open(alloc, opening).ok()?;
+        let id = open_one(alloc, &mut host)?;
         host.close(id).ok()?;
     }
     Some(times)

@@ -24,7 +24,8 @@ pub struct SoakTurns {
 
 /// A session that runs: a machine, or a slot of a host.
 trait Grantee {
-    fn press(&mut self, key: u8) -> Option<()>;
+    /// Types a key; one too many is dropped.
+    fn press(&mut self, key: u8);
 
     fn grant(&mut self, steps: u64) -> Option<Granted>;
 
@@ -43,10 +44,8 @@ struct MachineGrantee<'a> {
 }
 
 impl Grantee for MachineGrantee<'_> {
-    fn press(&mut self, key: u8) -> Option<()> {
-        // (a key too many is dropped)
+    fn press(&mut self, key: u8) {
         let _ = self.machine.key(key);
-        Some(())
     }
 
     fn grant(&mut self, steps: u64) -> Option<Granted> {
@@ -74,9 +73,8 @@ struct SlotGrantee<'a> {
 }
 
 impl Grantee for SlotGrantee<'_> {
-    fn press(&mut self, key: u8) -> Option<()> {
+    fn press(&mut self, key: u8) {
         let _ = self.host.key(self.id, key);
-        Some(())
     }
 
     fn grant(&mut self, steps: u64) -> Option<Granted> {
@@ -129,14 +127,13 @@ impl SoakProgress {
     }
 
     /// Presses the keys that are due.
-    fn press_due<S: Grantee>(&mut self, session: &mut S) -> Option<()> {
+    fn press_due<S: Grantee>(&mut self, session: &mut S) {
         for place in 0..self.keys.len() {
             if self.pressed == place as u64 && self.next_count() <= self.executed {
-                session.press(self.keys[place])?;
+                session.press(self.keys[place]);
                 self.pressed += 1;
             }
         }
-        Some(())
     }
 
     /// Takes all output.
@@ -151,7 +148,7 @@ impl SoakProgress {
 
     /// A turn of the session.
     fn turn<S: Grantee>(&mut self, session: &mut S, turns: &SoakTurns) -> Option<()> {
-        self.press_due(session)?;
+        self.press_due(session);
         let left = turns.steps.saturating_sub(self.executed);
         let before_key = self.next_count().saturating_sub(self.executed);
         let granted = session.grant(left.min(turns.quantum).min(before_key))?;
@@ -243,6 +240,14 @@ struct OpenSlot {
     progress: SoakProgress,
 }
 
+impl OpenSlot {
+    /// A turn of the session.
+    fn turn(&mut self, host: &mut Host, turns: &SoakTurns) -> Option<()> {
+        let id = self.id;
+        self.progress.turn(&mut SlotGrantee { host, id }, turns)
+    }
+}
+
 /// Opens a session on a host.
 fn open(rt: &HostRuntime, folder: &str, number: u16, host: &mut Host) -> Option<OpenSlot> {
     let id = host.open(rt.alloc(), opening_of(rt, folder, number)?).ok()?;
@@ -274,11 +279,7 @@ fn round(host: &mut Host, sessions: &mut [OpenSlot], turns: &SoakTurns) -> Optio
     for session in sessions.iter_mut() {
         if !session.progress.is_over {
             has_run = true;
-            let mut slot = SlotGrantee {
-                host,
-                id: session.id,
-            };
-            session.progress.turn(&mut slot, turns)?;
+            session.turn(host, turns)?;
         }
     }
     Some(has_run)

@@ -1,5 +1,7 @@
 //! The commands, over bytes, writers and a store in memory.
 
+ghost use Rattle.cpm_host.specs.Program.{IsFitSource};
+
 use crate::CallOutcome;
 use crate::machines::letter;
 use crate::stores::{are_in_order, holds, put};
@@ -7,8 +9,9 @@ use crate::texts::{CONFIG, KEYS, SOURCE};
 use cpm_flags::Cpu;
 use cpm_geom::{Format, Image};
 use cpm_host::{
-    Config, DebugError, HostError, KeyReader, MemoryStore, NoWatcher, ProgramStart, RunError,
-    RunOptions, Source, Tail, run_asm, run_debug, run_host, run_list, run_program, tail_of,
+    Config, DebugError, HostError, KeyReader, MemoryStore, NoWatcher, ProgramPlay, ProgramStart,
+    RunError, RunOptions, Source, Tail, run_asm, run_debug, run_host, run_list, run_program,
+    tail_of,
 };
 use std::alloc::{AllocError, Global};
 use std::io;
@@ -34,17 +37,65 @@ impl Write for Counter {
     }
 }
 
-/// A program that prints a letter, with a tail.
-pub fn start(alloc: Global) -> Result<ProgramStart, AllocError> {
+/// A blank drive A.
+fn one_drive(alloc: Global) -> Result<Vec<Image>, AllocError> {
     let mut drives = Vec::new(alloc);
     drives.push(Image::blank(alloc, Format::Ibm3740)?)?;
+    Ok(drives)
+}
+
+/// A program with a tail, or the prompt.
+pub fn start(
+    alloc: Global,
+    program: Option<Vec<u8>>,
+    system: Option<Image>,
+) -> Result<ProgramStart, AllocError> {
+    let drives = one_drive(alloc)?;
     Ok(ProgramStart {
         cpu: Cpu::I8080,
-        program: Some(letter(alloc)?),
+        program,
         tail: Tail::new(b" A.TXT"),
         drives,
-        system: None,
+        system,
     })
+}
+
+/// What came of a program that was run, and how many bytes were shown and recorded.
+#[derive(Drop)]
+pub struct PlayedCounts {
+    pub answer: Result<ProgramPlay, HostError>,
+    pub shown: usize,
+    pub recorded: usize,
+}
+
+/// Runs a program at which these keys are typed.
+pub fn play(
+    alloc: Global,
+    start: ProgramStart,
+    steps: u64,
+    source: Source<'_>,
+    keys: &[u8],
+) -> PlayedCounts
+    requires fit { IsFitSource source }
+{
+    let mut out = Counter { count: 0 };
+    let mut record = Counter { count: 0 };
+    let answer = run_program(
+        alloc,
+        start,
+        steps,
+        source,
+        &mut KeyReader::new(keys),
+        &mut out,
+        &mut io::sink(),
+        &mut record,
+        &mut NoWatcher,
+    );
+    PlayedCounts {
+        answer,
+        shown: out.count,
+        recorded: record.count,
+    }
 }
 
 pub fn tail(alloc: Global) -> CallOutcome {
@@ -56,24 +107,11 @@ pub fn tail(alloc: Global) -> CallOutcome {
 }
 
 pub fn typed(alloc: Global) -> Result<CallOutcome, AllocError> {
-    let start = start(alloc)?;
+    let start = start(alloc, Some(letter(alloc)?), None)?;
     let source = Source::Typed { cues: &[] };
-    let keys: &[u8] = b"a";
-    let mut out = Counter { count: 0 };
-    let mut record = Counter { count: 0 };
-    let played = run_program(
-        alloc,
-        start,
-        100,
-        source,
-        &mut KeyReader::new(keys),
-        &mut out,
-        &mut io::sink(),
-        &mut record,
-        &mut NoWatcher,
-    );
-    Ok(match played {
-        Ok(typed) if typed.ending.count == 7 && out.count == 1 => CallOutcome::Made,
+    let typed = play(alloc, start, 100, source, b"a");
+    Ok(match &typed.answer {
+        Ok(play) if play.ending.count == 7 && typed.shown == 1 => CallOutcome::Made,
         Err(HostError::OutOfMemory) => CallOutcome::Refused,
         _ => CallOutcome::Wrong,
     })

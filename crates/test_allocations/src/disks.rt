@@ -68,25 +68,24 @@ fn told<T: Drop>(answer: Result<T, DiskCommandError>) -> CallOutcome {
 
 /// Makes the call of cpm_image_files of this name.
 pub fn of_image_files(alloc: Global, name: &str) -> Result<CallOutcome, AllocError> {
+    let (file, other) = (file()?, other()?);
     let disk = disk(alloc)?;
     Ok(match name {
-        "put" => came(put(alloc, &disk, &other()?, TEXT)),
-        "get" => came(get(alloc, &disk, &file()?)),
-        "remove" => came(remove(alloc, &disk, &file()?)),
-        "rename" => came(rename(alloc, &disk, &file()?, &other()?)),
+        "put" => came(put(alloc, &disk, &other, TEXT)),
+        "get" => came(get(alloc, &disk, &file)),
+        "remove" => came(remove(alloc, &disk, &file)),
+        "rename" => came(rename(alloc, &disk, &file, &other)),
         "list" => came(list(alloc, &disk)),
-        "to_text" => came(to_text(alloc, TEXT).map_err(|_| ImageFilesError::OutOfMemory)),
-        "from_text" => came(from_text(alloc, b"a\r\n\x1A").map_err(
-            |_| ImageFilesError::OutOfMemory,
-        )),
+        "to_text" => CallOutcome::of(to_text(alloc, TEXT)),
+        "from_text" => CallOutcome::of(from_text(alloc, b"a\r\n\x1A")),
         _ => CallOutcome::Wrong,
     })
 }
 
 /// Makes the call of cpm_disk_commands of this name.
 pub fn of_disk_commands(alloc: Global, name: &str) -> Result<CallOutcome, AllocError> {
-    let disk = disk(alloc)?;
     let (file, other) = (file()?, other()?);
+    let disk = disk(alloc)?;
     Ok(match name {
         "new_image" => told(new_image(alloc, true)),
         "put_file" => told(put_file(alloc, &disk, IMAGE, &other, true, TEXT)),

@@ -23,15 +23,18 @@ struct WholeSlot {
     memory: Vec<u8>,
 }
 
-fn look_at(alloc: Global, host: &mut Host, id: SlotId) -> Result<WholeSlot, AllocError> {
+fn memory_of(alloc: Global, host: &Host, id: SlotId) -> Result<Vec<u8>, AllocError> {
     let mut memory = Vec::with_capacity(alloc, 65_536)?;
     for address in 0..=u16::MAX {
         memory.push(host.peek(id, address).unwrap_or(0))?;
     }
-    Ok(WholeSlot {
-        look: host.look(id).ok(),
-        memory,
-    })
+    Ok(memory)
+}
+
+fn look_at(alloc: Global, host: &mut Host, id: SlotId) -> Result<WholeSlot, AllocError> {
+    let memory = memory_of(alloc, host, id)?;
+    let look = host.look(id).ok();
+    Ok(WholeSlot { look, memory })
 }
 
 /// Opens a slot, types a command at it, and makes so many steps of it.
@@ -73,23 +76,49 @@ fn is_as_before(
 fn are_as_before(
     alloc: Global,
     host: &mut Host,
-    ids: [SlotId; 2],
     before: &[WholeSlot; 2],
 ) -> Result<bool, AllocError> {
+    let [first, second] = before;
     Ok(
-        is_as_before(alloc, host, ids[0], &before[0])?
-            && is_as_before(alloc, host, ids[1], &before[1])?,
+        is_as_before(alloc, host, SlotId(0), first)?
+            && is_as_before(alloc, host, SlotId(1), second)?,
     )
+}
+
+/// A host with two slots, and what can be seen of them.
+#[derive(Drop)]
+struct HostOfTwo {
+    host: Host,
+    before: [WholeSlot; 2],
+}
+
+/// Starts two slots, and looks at them.
+fn start_both(alloc: Global, host: &mut Host) -> Result<[WholeSlot; 2], AllocError> {
+    let first = start(alloc, host, Cpu::I8080, 17)?;
+    let second = start(alloc, host, Cpu::Z80, 3)?;
+    let first = look_at(alloc, host, first)?;
+    let second = look_at(alloc, host, second)?;
+    Ok([first, second])
+}
+
+/// A new host with two slots.
+fn host_of_two(alloc: Global) -> Result<HostOfTwo, AllocError> {
+    let Ok(mut host) = Host::new(alloc, marked(alloc)?, 48) else {
+        return Err(AllocError);
+    };
+    let before = start_both(alloc, &mut host)?;
+    Ok(HostOfTwo { host, before })
 }
 
 /// Opens a slot in a host that has two, whose looks and memories are compared before and after. After a refusal the third opens with the
 /// number that it would have had.
-fn open_beside(alloc: Global, host: &mut Host) -> Result<CallOutcome, AllocError> {
-    let first = start(alloc, host, Cpu::I8080, 17)?;
-    let second = start(alloc, host, Cpu::Z80, 3)?;
-    let before = [look_at(alloc, host, first)?, look_at(alloc, host, second)?];
+fn open_beside(
+    alloc: Global,
+    host: &mut Host,
+    before: &[WholeSlot; 2],
+) -> Result<CallOutcome, AllocError> {
     let outcome = open_third(alloc, host)?;
-    if !are_as_before(alloc, host, [first, second], &before)? {
+    if !are_as_before(alloc, host, before)? {
         return Ok(CallOutcome::Wrong);
     }
     if outcome == CallOutcome::Refused && open_third(alloc, host)? != CallOutcome::Made {
@@ -109,15 +138,16 @@ fn fork_first(alloc: Global, host: &mut Host) -> CallOutcome {
 
 /// Forks a slot in a host that has two, whose looks and memories are compared before and after. What is seen of the fork is what is seen of
 /// the slot that was forked.
-fn fork_beside(alloc: Global, host: &mut Host) -> Result<CallOutcome, AllocError> {
-    let first = start(alloc, host, Cpu::I8080, 17)?;
-    let second = start(alloc, host, Cpu::Z80, 3)?;
-    let before = [look_at(alloc, host, first)?, look_at(alloc, host, second)?];
+fn fork_beside(
+    alloc: Global,
+    host: &mut Host,
+    before: &[WholeSlot; 2],
+) -> Result<CallOutcome, AllocError> {
     let outcome = fork_first(alloc, host);
     if outcome == CallOutcome::Refused && fork_first(alloc, host) != CallOutcome::Made {
         return Ok(CallOutcome::Wrong);
     }
-    let is_right = are_as_before(alloc, host, [first, second], &before)?
+    let is_right = are_as_before(alloc, host, before)?
         && is_as_before(alloc, host, SlotId(2), &before[0])?;
     Ok(if is_right {
         outcome
@@ -128,16 +158,12 @@ fn fork_beside(alloc: Global, host: &mut Host) -> Result<CallOutcome, AllocError
 
 /// The same in a new host.
 pub fn fork(alloc: Global) -> Result<CallOutcome, AllocError> {
-    match Host::new(alloc, marked(alloc)?, 48) {
-        Ok(mut host) => fork_beside(alloc, &mut host),
-        Err(_) => Err(AllocError),
-    }
+    let mut two = host_of_two(alloc)?;
+    fork_beside(alloc, &mut two.host, &two.before)
 }
 
 /// A third slot beside two in a new host.
 pub fn open(alloc: Global) -> Result<CallOutcome, AllocError> {
-    match Host::new(alloc, marked(alloc)?, 48) {
-        Ok(mut host) => open_beside(alloc, &mut host),
-        Err(_) => Err(AllocError),
-    }
+    let mut two = host_of_two(alloc)?;
+    open_beside(alloc, &mut two.host, &two.before)
 }

@@ -1,11 +1,9 @@
-//! Memories, consoles, and machines with what is passed to them.
+//! Machines with what is passed to them.
 
 use crate::CallOutcome;
-use cpm_console::Console;
 use cpm_flags::Cpu;
 use cpm_geom::{Format, Image};
 use cpm_machine::{Machine, OpenError, Opening, Tail};
-use cpm_memory::{FlatMemory, FrameStore};
 use std::alloc::{AllocError, Global};
 
 /// The byte of the mark in the directory of a drive.
@@ -13,27 +11,6 @@ const MARK: u8 = 0x5A;
 
 /// Prints `A` and returns.
 const LETTER: &[u8] = &[0x0E, 0x02, 0x1E, 0x41, 0xCD, 0x05, 0x00, 0xC9];
-
-pub fn flat_memory(alloc: Global) -> CallOutcome {
-    match FlatMemory::new(alloc) {
-        Ok(_) => CallOutcome::Made,
-        Err(AllocError) => CallOutcome::Refused,
-    }
-}
-
-pub fn frame_store(alloc: Global) -> CallOutcome {
-    match FrameStore::new(alloc, 64) {
-        Ok(_) => CallOutcome::Made,
-        Err(AllocError) => CallOutcome::Refused,
-    }
-}
-
-pub fn console(alloc: Global) -> CallOutcome {
-    match Console::new(alloc) {
-        Ok(_) => CallOutcome::Made,
-        Err(AllocError) => CallOutcome::Refused,
-    }
-}
 
 /// A drive with a mark in its last record.
 pub fn marked(alloc: Global) -> Result<Image, AllocError> {
@@ -89,30 +66,27 @@ pub fn machine(alloc: Global) -> Result<CallOutcome, AllocError> {
 }
 
 pub fn machine_with_program(alloc: Global) -> Result<CallOutcome, AllocError> {
-    let opening = opening(alloc, Cpu::I8080, 256)?;
     let program = letter(alloc)?;
-    Ok(match Machine::with_program(alloc, opening, program) {
+    let opening = opening(alloc, Cpu::I8080, 256)?;
+    Ok(of_program(Machine::with_program(alloc, opening, program)))
+}
+
+/// The outcome of a call that makes a machine with that program.
+fn of_program(made: Result<Machine, (Opening, Vec<u8>, OpenError)>) -> CallOutcome {
+    match made {
         Ok(_) => CallOutcome::Made,
         Err((back, program, OpenError::OutOfMemory)) => CallOutcome::refused_if(
             program.as_slice() == LETTER && is_handed_back(&back, Cpu::I8080, 256),
         ),
         Err(_) => CallOutcome::Wrong,
-    })
+    }
 }
 
 pub fn machine_with_command(alloc: Global) -> Result<CallOutcome, AllocError> {
-    let opening = opening(alloc, Cpu::I8080, 256)?;
-    let program = letter(alloc)?;
     let tail = Tail::new(b" A.TXT").ok_or(AllocError)?;
-    Ok(
-        match Machine::with_command(alloc, opening, program, &tail) {
-            Ok(_) => CallOutcome::Made,
-            Err((back, program, OpenError::OutOfMemory)) => CallOutcome::refused_if(
-                program.as_slice() == LETTER && is_handed_back(&back, Cpu::I8080, 256),
-            ),
-            Err(_) => CallOutcome::Wrong,
-        },
-    )
+    let program = letter(alloc)?;
+    let opening = opening(alloc, Cpu::I8080, 256)?;
+    Ok(of_program(Machine::with_command(alloc, opening, program, &tail)))
 }
 
 /// A program that prints a letter and returns.

@@ -13,12 +13,14 @@ mod stores;
 mod texts;
 mod waiting;
 
+use cpm_console::Console;
+use cpm_memory::{FlatMemory, FrameStore};
 use std::alloc::{AllocError, Global};
 use std::env;
 use std::process::ExitCode;
 
 /// The outcome of a call.
-#[derive(Clone, Copy, Debug, PartialEq, Eq)]
+#[derive(Clone, Copy, PartialEq)]
 pub enum CallOutcome {
     /// It did what it should.
     Made,
@@ -46,6 +48,14 @@ impl CallOutcome {
             CallOutcome::Refused
         } else {
             CallOutcome::Wrong
+        }
+    }
+
+    /// That of a call that takes nothing by value, and changes nothing.
+    pub fn of<T: Drop>(answer: Result<T, AllocError>) -> CallOutcome {
+        match answer {
+            Ok(_) => CallOutcome::Made,
+            Err(AllocError) => CallOutcome::Refused,
         }
     }
 
@@ -113,9 +123,9 @@ const NAMES: [&str; 45] = [
 fn make(alloc: Global, name: &str) -> Result<CallOutcome, AllocError> {
     match name {
         "command" => Ok(texts::command_line(alloc)),
-        "FlatMemory::new" => Ok(machines::flat_memory(alloc)),
-        "FrameStore::new" => Ok(machines::frame_store(alloc)),
-        "Console::new" => Ok(machines::console(alloc)),
+        "FlatMemory::new" => Ok(CallOutcome::of(FlatMemory::new(alloc))),
+        "FrameStore::new" => Ok(CallOutcome::of(FrameStore::new(alloc, 64))),
+        "Console::new" => Ok(CallOutcome::of(Console::new(alloc))),
         "Image::copy" => copies::image(alloc),
         "Console::copy" => copies::console(alloc),
         "Session::copy" => copies::session(alloc),

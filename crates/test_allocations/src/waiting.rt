@@ -1,15 +1,15 @@
 //! Scripts that wait, a program that is played by one, and a source with its listing.
 
+ghost use Rattle.std.specs.Prelude.{IfOk};
+ghost use Rattle.cpm_host.specs.Program.{AreFit};
+
 use crate::CallOutcome;
-use crate::commands::{Counter, start};
+use crate::commands::{PlayedCounts, play, start};
+use crate::machines::letter;
 use crate::texts::SOURCE;
 use cpm_geom::{Format, Image};
-use cpm_host::{
-    CuedKeys, HostError, KeyReader, NoWatcher, PlayEnd, ProgramStart, Source, cues_of,
-    run_asm_listed, run_program,
-};
+use cpm_host::{Cue, CuedKeys, HostError, PlayEnd, Source, cues_of, run_asm_listed};
 use std::alloc::{AllocError, Global};
-use std::io;
 
 /// A line of the command processor, and a key once its prompt is shown again.
 const WAITS: &[u8] = b"wait DIR^M\nexpect \"A>\" B\n";
@@ -40,37 +40,32 @@ pub fn cues(alloc: Global) -> CallOutcome {
     }
 }
 
+/// The cues of a script.
+fn cues_in(alloc: Global, script: &[u8]) -> Result<Vec<Cue>, AllocError>
+    ensures fit { IfOk result (λ v. AreFit v.items) }
+{
+    match cues_of(alloc, "waits.keys", script) {
+        Ok(cues) => Ok(cues),
+        Err(_) => Err(AllocError),
+    }
+}
+
 pub fn program(alloc: Global) -> Result<CallOutcome, AllocError> {
-    let start = start(alloc)?;
-    let Ok(cues) = cues_of(alloc, "expects.keys", EXPECTS) else {
-        return Err(AllocError);
-    };
+    let cues = cues_in(alloc, EXPECTS)?;
+    let start = start(alloc, Some(letter(alloc)?), None)?;
     let source = Source::Cues(CuedKeys {
         cues: cues.as_slice(),
         waits_from: 0,
         stops_idle: true,
     });
-    let nothing: &[u8] = &[];
-    let mut out = Counter { count: 0 };
-    let mut record = Counter { count: 0 };
-    let played = run_program(
-        alloc,
-        start,
-        100,
-        source,
-        &mut KeyReader::new(nothing),
-        &mut out,
-        &mut io::sink(),
-        &mut record,
-        &mut NoWatcher,
-    );
-    Ok(match played {
-        Ok(played) if played.ending.count == 7 && out.count == 1 && record.count > 0 => {
+    let played = play(alloc, start, 100, source, &[]);
+    Ok(match &played.answer {
+        Ok(play) if play.ending.count == 7 && played.shown == 1 && played.recorded > 0 => {
             CallOutcome::Made
         }
         // (what was shown is kept behind the key, and that takes memory too)
         Err(HostError::OutOfMemory) => {
-            CallOutcome::refused_if((record.count > 0) == (out.count > 0))
+            CallOutcome::refused_if((played.recorded > 0) == (played.shown > 0))
         }
         _ => CallOutcome::Wrong,
     })
@@ -78,71 +73,39 @@ pub fn program(alloc: Global) -> Result<CallOutcome, AllocError> {
 
 /// A program that is typed at behind its script. It echoes each key before the next one is read.
 pub fn program_typed_at(alloc: Global) -> Result<CallOutcome, AllocError> {
-    let start = ProgramStart {
-        program: Some(Vec::from_slice(alloc, READS)?),
-        ..start(alloc)?
-    };
-    let Ok(cues) = cues_of(alloc, "first.keys", FIRST) else {
-        return Err(AllocError);
-    };
+    let cues = cues_in(alloc, FIRST)?;
+    let start = start(alloc, Some(Vec::from_slice(alloc, READS)?), None)?;
     let source = Source::Typed {
         cues: cues.as_slice(),
     };
-    let mut out = Counter { count: 0 };
-    let mut record = Counter { count: 0 };
-    let played = run_program(
-        alloc,
-        start,
-        100,
-        source,
-        &mut KeyReader::new(OTHERS),
-        &mut out,
-        &mut io::sink(),
-        &mut record,
-        &mut NoWatcher,
-    );
-    let is_right = RECORDED.get(out.count) == Some(&record.count);
-    Ok(match played {
-        Ok(played) if played.ending.count == 44 && out.count == 7 => {
-            CallOutcome::made_if(is_right && played.end == Some(PlayEnd::Ended))
+    Ok(of_echoes(&play(alloc, start, 100, source, OTHERS)))
+}
+
+/// The outcome of that program.
+fn of_echoes(played: &PlayedCounts) -> CallOutcome {
+    let is_right = RECORDED.get(played.shown) == Some(&played.recorded);
+    match &played.answer {
+        Ok(play) if play.ending.count == 44 && played.shown == 7 => {
+            CallOutcome::made_if(is_right && play.end == Some(PlayEnd::Ended))
         }
-        Err(HostError::OutOfMemory) => CallOutcome::refused_if(is_right && out.count < 7),
+        Err(HostError::OutOfMemory) => CallOutcome::refused_if(is_right && played.shown < 7),
         _ => CallOutcome::Wrong,
-    })
+    }
 }
 
 /// A machine at the prompt, with a system drive. A line of its script is its command, and it waits within the next one.
 pub fn prompt(alloc: Global) -> Result<CallOutcome, AllocError> {
-    let start = ProgramStart {
-        program: None,
-        system: Some(Image::blank(alloc, Format::Ibm3740)?),
-        ..start(alloc)?
-    };
-    let Ok(cues) = cues_of(alloc, "waits.keys", WAITS) else {
-        return Err(AllocError);
-    };
+    let cues = cues_in(alloc, WAITS)?;
+    let start = start(alloc, None, Some(Image::blank(alloc, Format::Ibm3740)?))?;
     let source = Source::Cues(CuedKeys {
         cues: cues.as_slice(),
         waits_from: 0,
         stops_idle: true,
     });
-    let nothing: &[u8] = &[];
-    let mut out = Counter { count: 0 };
-    let mut record = Counter { count: 0 };
-    let played = run_program(
-        alloc,
-        start,
-        1000,
-        source,
-        &mut KeyReader::new(nothing),
-        &mut out,
-        &mut io::sink(),
-        &mut record,
-        &mut NoWatcher,
-    );
-    Ok(match played {
-        Ok(played) if played.waits && out.count == PROMPT.len() => CallOutcome::Made,
-        Err(HostError::OutOfMemory) => CallOutcome::refused_if(out.count < PROMPT.len()),
+    let played = play(alloc, start, 1000, source, &[]);
+    Ok(match &played.answer {
+        Ok(play) if play.waits && played.shown == PROMPT.len() => CallOutcome::Made,
+        Err(HostError::OutOfMemory) => CallOutcome::refused_if(played.shown < PROMPT.len()),
         _ => CallOutcome::Wrong,
     })
 }

@@ -86,10 +86,10 @@ impl Directories {
         let [image, user, word, from, group @ ..] = arguments else {
             return Err(RowFault::Words);
         };
+        let from = number(*from)?;
         let pattern = pattern_in(alloc, small(*user)?, *word, group)?;
         let image = self.images.copy(alloc, image.text)?;
-        let found = find(&LentImage::new(&image), &pattern, number(*from)?);
-        place(alloc, found)
+        place(alloc, find(&LentImage::new(&image), &pattern, from))
     }
 
     /// Does a line of one word after its first.
@@ -100,20 +100,46 @@ impl Directories {
         word: Word<'_>,
     ) -> Result<RowAnswer, RowFault> {
         match verb {
-            "is-reserved" => RowAnswer::truth(alloc, self.reserved.contains(number(word)?)),
-            "reserved-to" => self.reserved_to(alloc, number(word)?),
-            "take" => place(alloc, self.reserved.take_lowest(number(word)?)),
-            "give-back" => {
-                self.reserved.free(number(word)?);
+            "is-reserved" | "reserved-to" | "take" | "give-back" => {
+                self.act_block(alloc, verb, number(word)?)
+            }
+            "reserve-none" | "block" | "fcb-again" => {
+                self.act_format(alloc, verb, format_of(word)?)
+            }
+            _ => {
+                let image = self.images.copy(alloc, word.text)?;
+                self.act_image(alloc, verb, &image)
+            }
+        }
+    }
+
+    /// Does a line about the reserved blocks: `is-reserved N`, `reserved-to N`, `take LAST` or `give-back N`.
+    fn act_block(&mut self, alloc: Global, verb: &str, block: u16) -> Result<RowAnswer, RowFault> {
+        match verb {
+            "is-reserved" => RowAnswer::truth(alloc, self.reserved.contains(block)),
+            "reserved-to" => self.reserved_to(alloc, block),
+            "take" => place(alloc, self.reserved.take_lowest(block)),
+            _ => {
+                self.reserved.free(block);
                 Ok(RowAnswer::Done)
             }
-            "reserve-none" => {
-                self.reserved = Reserved::none(format_of(word)?);
+        }
+    }
+
+    /// Does a line about a format: `reserve-none FORMAT`, `block FORMAT` or `fcb-again FORMAT`.
+    fn act_format(
+        &mut self,
+        alloc: Global,
+        verb: &str,
+        format: Format,
+    ) -> Result<RowAnswer, RowFault> {
+        match verb {
+            "block" => self.block(alloc, &format.dpb()),
+            "fcb-again" => self.fcb_again(alloc, &format.dpb()),
+            _ => {
+                self.reserved = Reserved::none(format);
                 Ok(RowAnswer::Done)
             }
-            "block" => self.block(alloc, &format_of(word)?.dpb()),
-            "fcb-again" => self.fcb_again(alloc, &format_of(word)?.dpb()),
-            _ => self.act_image(alloc, verb, word),
         }
     }
 
@@ -122,13 +148,8 @@ impl Directories {
         &mut self,
         alloc: Global,
         verb: &str,
-        word: Word<'_>,
+        image: &Image,
     ) -> Result<RowAnswer, RowFault> {
-        let image = self.images.copy(alloc, word.text)?;
-        self.act_on(alloc, verb, &image)
-    }
-
-    fn act_on(&mut self, alloc: Global, verb: &str, image: &Image) -> Result<RowAnswer, RowFault> {
         match verb {
             "check" => checked(alloc, image),
             "free-entry" => place(alloc, first_free(&LentImage::new(image))),
