@@ -1,4 +1,6 @@
 //! Runs files of rows: `test_rows FILE..`. `docs/ROWS.md` says how a row is written. What it prints last is how many rows of how many files there were.
+//!
+//! Or it makes the calls that take memory, `test_rows --allocations` all of them and `test_rows --allocations NAME..` some, for `tests/allocations`.
 #![tactic(auto)]
 
 mod header;
@@ -6,9 +8,11 @@ mod header;
 use header::Header;
 use std::alloc::{AllocError, Global};
 use std::env::Env;
+use std::io::ErrorKind;
 use std::process::ExitCode;
 use std::rt::Files;
 use std::{env, fs};
+use test_allocations::make_calls;
 use test_bdos_rows::{Calls, Commands, Consoles, EditedLines};
 use test_disk_command_rows::{Batches, DiskCommands, Stores};
 use test_disk_rows::{Directories, Drives, ImageFiles, ImageLines, OneDrive};
@@ -184,14 +188,18 @@ fn say(rt: &impl Print, count: usize, all: Tally) -> bool {
 fn words(rt: &(impl Env + AllocGlobal)) -> Result<Vec<String>, AllocError> {
     match env::args(rt) {
         Ok(words) => words.skip(1).collect(rt.alloc()),
+        Err(error) if error.kind() == ErrorKind::OutOfMemory => Err(AllocError),
         Err(_) => Ok(Vec::new(rt.alloc())),
     }
 }
 
-/// Runs the files that the command line names.
+/// Runs the files that the command line names, or makes the calls.
 fn run(rt: &(impl Env + Files + Print + AllocGlobal)) -> Result<bool, AllocError> {
-    let files = words(rt)?;
-    run_all(rt, files.as_slice())
+    let words = words(rt)?;
+    match words.as_slice().split_first() {
+        Some((first, names)) if first.as_str() == "--allocations" => Ok(make_calls(rt, names)),
+        _ => run_all(rt, words.as_slice()),
+    }
 }
 
 fn main(rt: HostRuntime) -> ExitCode {

@@ -1,6 +1,5 @@
-//! Makes the calls that take memory, `test_allocations` all of them and `test_allocations NAME` one, and prints the outcome of each: `made`; `refused`, where
-//! memory was refused, what was passed by value came back and all else was as before; or `wrong`. For `tests/allocations`, which refuses
-//! each of their allocations in turn.
+//! Makes the calls that take memory, and prints the outcome of each: `made`; `refused`, where memory was refused, what was passed by value came back
+//! and all else was as before; or `wrong`. For `tests/allocations`, which refuses each of their allocations in turn.
 #![tactic(auto)]
 
 mod commands;
@@ -16,8 +15,6 @@ mod waiting;
 use cpm_console::Console;
 use cpm_memory::{FlatMemory, FrameStore};
 use std::alloc::{AllocError, Global};
-use std::env;
-use std::process::ExitCode;
 
 /// The outcome of a call.
 #[derive(Clone, Copy, PartialEq)]
@@ -181,26 +178,16 @@ fn tell(rt: &(impl Print + AllocGlobal), name: &str) -> bool {
     println!(rt; "{name}: {word}").is_ok() && outcome != CallOutcome::Wrong
 }
 
-/// Makes the call that the command line names, or all.
-fn tell_named(rt: &HostRuntime) -> Option<bool> {
-    let words: Vec<String> = env::args(rt).ok()?.collect(rt.alloc()).ok()?;
-    if let Some(name) = words.get(1) {
-        return Some(tell(rt, name.as_str()));
+/// Makes the calls of these names, or all where none is given, and prints the outcome of each. Whether none is wrong, and all of that was printed.
+pub fn make_calls(rt: &(impl Print + AllocGlobal), names: &[String]) -> bool {
+    let mut are_right = true;
+    for name in names {
+        are_right &= tell(rt, name.as_str());
     }
-    let mut is_right = true;
-    for name in NAMES {
-        is_right &= tell(rt, name);
-    }
-    Some(is_right)
-}
-
-fn main(rt: HostRuntime) -> ExitCode {
-    match tell_named(&rt) {
-        Some(true) => ExitCode::SUCCESS,
-        Some(false) => ExitCode::from(1),
-        None => {
-            let _ = println!(rt; "words: unprepared");
-            ExitCode::SUCCESS
+    if names.is_empty() {
+        for name in NAMES {
+            are_right &= tell(rt, name);
         }
     }
+    are_right
 }
