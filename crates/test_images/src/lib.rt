@@ -136,7 +136,10 @@ impl Images {
         if bytes.is_empty() {
             return shown(alloc, image.sector(track, sector));
         }
-        done(alloc, image.put_sector(track, sector, &given(alloc, bytes)?))
+        done(
+            alloc,
+            image.put_sector(track, sector, &given(alloc, bytes)?),
+        )
     }
 }
 

@@ -76,7 +76,8 @@ impl<'a> RowReport<'a> {
     /// Begins to tell of a line of the file.
     fn begin(&mut self, number: usize) -> Result<(), AllocError> {
         self.told.push_str(self.file)?;
-        self.told.push_str(format!(in self.alloc; ":{number}: ")?.as_str())
+        self.told
+            .push_str(format!(in self.alloc; ":{number}: ")?.as_str())
     }
 
     /// Adds the two parts of a line, and its end.

@@ -108,7 +108,9 @@ impl<'a, S: Scene> RowRunner<'a, S> {
         match &mut self.row {
             Some(row) if self.are_wrong => row.act_wrong(self.alloc, line),
             Some(row) => row.act_right(self.alloc, line, &mut self.report),
-            None => self.report.fail(line.number, "", "this line stands before the first row"),
+            None => self
+                .report
+                .fail(line.number, "", "this line stands before the first row"),
         }
     }
 
@@ -129,7 +131,9 @@ impl<'a, S: Scene> RowRunner<'a, S> {
     fn end_right(&mut self, row: &Row<'a, S>) -> Result<(), AllocError> {
         match row.course {
             Course::Right if row.expectations > 0 => Ok(()),
-            Course::Right => self.report.fail(row.number, row.name, ": the row expects nothing"),
+            Course::Right => self
+                .report
+                .fail(row.number, row.name, ": the row expects nothing"),
             // (its line was told of)
             _ => {
                 self.report.count_failed();
@@ -153,7 +157,8 @@ impl<'a, S: Scene> RowRunner<'a, S> {
     /// Ends the file.
     fn end(&mut self) -> Result<(), AllocError> {
         if let Some(line) = &self.line {
-            self.report.fail(line.number, "", "the text behind this line has no end")?;
+            self.report
+                .fail(line.number, "", "the text behind this line has no end")?;
         }
         self.end_row()
     }

@@ -88,7 +88,10 @@ impl RowFile<'_> {
 /// Runs the rows of a file, of which there must be as many as its first line says.
 fn run_text(alloc: Global, name: &str, text: &str, told: &mut String) -> Result<Tally, AllocError> {
     let Some(header) = Header::of(text) else {
-        return not_run(told, &[name, ":1: the first line is no 'N rows of SUBJECT'\n"]);
+        return not_run(
+            told,
+            &[name, ":1: the first line is no 'N rows of SUBJECT'\n"],
+        );
     };
     let file = RowFile {
         alloc,
@@ -142,10 +145,7 @@ fn run_file(
 }
 
 /// Runs the rows of a file, and shows what is told of them.
-fn show_file(
-    rt: &(impl Files + Print + AllocGlobal),
-    name: &str,
-) -> Result<Tally, AllocError> {
+fn show_file(rt: &(impl Files + Print + AllocGlobal), name: &str) -> Result<Tally, AllocError> {
     let mut told = String::new(rt.alloc());
     let tally = run_file(rt, name, &mut told)?;
     let _ = print!(rt; "{told}");

@@ -9,8 +9,8 @@ mod tasks;
 
 pub use command_lines::CommandLines;
 pub use configurations::Configurations;
-pub use scripts::Scripts;
 use cpm_flags::Cpu;
+pub use scripts::Scripts;
 use std::alloc::{AllocError, Global};
 use test_language::RowFault;
 
