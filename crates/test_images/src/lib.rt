@@ -71,9 +71,15 @@ impl Images {
     pub fn copies(&self, alloc: Global, names: &[Word<'_>]) -> Result<Vec<Image>, RowFault> {
         let mut images = Vec::new(alloc);
         for name in names {
-            images.push(self.copy(alloc, name.text)?)?;
+            self.add_copy(alloc, &mut images, name.text)?;
         }
         Ok(images)
+    }
+
+    /// Adds a copy of the image of a name.
+    fn add_copy(&self, alloc: Global, images: &mut Vec<Image>, name: &str) -> Result<(), RowFault> {
+        images.push(self.copy(alloc, name)?)?;
+        Ok(())
     }
 
     /// Does a line about images: `image`, `entry`, `record` or `sector`; any other is `Unknown`.
@@ -104,13 +110,11 @@ impl Images {
         };
         let number = number_of(*number)?;
         let image = self.get_mut(name.text)?;
-        let mut record = record_of(image, number / 4)?;
-        let place = ENTRY * usize::from(number % 4);
         if bytes.is_empty() {
-            return RowAnswer::bytes(alloc, &record[place..place + ENTRY]);
+            shown_entry(alloc, image, number)
+        } else {
+            put_entry(alloc, image, number, bytes)
         }
-        record[place..place + ENTRY].copy_from_slice(&given::<ENTRY>(alloc, bytes)?);
-        put_record(alloc, image, number / 4, &record)
     }
 
     /// `record NAME NUMBER BYTES`: the record begins so, and else has zeros. Without bytes: what it is.
@@ -121,9 +125,10 @@ impl Images {
         let number = number_of(*number)?;
         let image = self.get_mut(name.text)?;
         if bytes.is_empty() {
-            return shown(alloc, image.record(number));
+            shown(alloc, image.record(number))
+        } else {
+            put_record(alloc, image, number, &given(alloc, bytes)?)
         }
-        put_record(alloc, image, number, &given(alloc, bytes)?)
     }
 
     /// `sector NAME TRACK SECTOR BYTES`: the sector begins so, and else has zeros. Without bytes: what it is.
@@ -134,12 +139,10 @@ impl Images {
         let (track, sector) = (number_of(*track)?, number_of(*sector)?);
         let image = self.get_mut(name.text)?;
         if bytes.is_empty() {
-            return shown(alloc, image.sector(track, sector));
+            shown(alloc, image.sector(track, sector))
+        } else {
+            put_sector(alloc, image, track, sector, bytes)
         }
-        done(
-            alloc,
-            image.put_sector(track, sector, &given(alloc, bytes)?),
-        )
     }
 }
 
@@ -188,6 +191,38 @@ fn record_of(image: &Image, number: u16) -> Result<[u8; RECORD], RowFault> {
         Ok(record) => filled(record),
         Err(_) => Err(RowFault::Absent),
     }
+}
+
+/// The bytes of a directory entry.
+fn shown_entry(alloc: Global, image: &Image, number: u16) -> Result<RowAnswer, RowFault> {
+    let record = record_of(image, number / 4)?;
+    let place = ENTRY * usize::from(number % 4);
+    RowAnswer::bytes(alloc, &record[place..place + ENTRY])
+}
+
+/// Puts a directory entry.
+fn put_entry(
+    alloc: Global,
+    image: &mut Image,
+    number: u16,
+    words: &[Word<'_>],
+) -> Result<RowAnswer, RowFault> {
+    let mut record = record_of(image, number / 4)?;
+    let place = ENTRY * usize::from(number % 4);
+    record[place..place + ENTRY].copy_from_slice(&given::<ENTRY>(alloc, words)?);
+    put_record(alloc, image, number / 4, &record)
+}
+
+/// Puts a sector.
+fn put_sector(
+    alloc: Global,
+    image: &mut Image,
+    track: u16,
+    sector: u16,
+    words: &[Word<'_>],
+) -> Result<RowAnswer, RowFault> {
+    let bytes = given(alloc, words)?;
+    done(alloc, image.put_sector(track, sector, &bytes))
 }
 
 /// Puts a record.
