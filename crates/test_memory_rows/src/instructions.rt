@@ -1,6 +1,6 @@
 //! Rows of single instructions, over a memory by itself.
 
-use crate::memories::run_of;
+use crate::memory_lines::bytes_at;
 use crate::registers::{pair, register};
 use cpm_decode::Ran;
 use cpm_execz80::stepz80;
@@ -94,13 +94,7 @@ impl Scene for Instructions {
             "store" => trial.store(alloc, arguments),
             "set" => trial.set(arguments),
             "run" => trial.run(alloc, arguments),
-            "register" => trial.register(alloc, arguments),
-            "unchanged" => RowAnswer::truth(alloc, trial.regs == START),
-            "pairs" => trial.pairs(alloc),
-            "peek" => trial.peek(alloc, arguments),
-            "changed" => trial.changed(alloc),
-            "pages" => RowAnswer::words(alloc, trial.memory.touched()),
-            _ => Err(RowFault::Unknown),
+            verb => trial.look(alloc, verb, arguments),
         }
     }
 }
@@ -109,20 +103,55 @@ impl Instructions {
     /// `z80 BYTES`.
     fn begin(&mut self, alloc: Global, arguments: &[Word<'_>]) -> Result<RowAnswer, RowFault> {
         let program = bytes_of(alloc, arguments)?;
-        let mut trial = Trial {
-            memory: FlatMemory::new(alloc)?,
-            before: FlatMemory::new(alloc)?,
-            regs: START,
-            ran: Ran::Done,
-            steps: 0,
-        };
-        trial.put(0x0100, program.as_slice());
-        self.trial = Some(trial);
+        self.trial = Some(Trial::of(alloc, program.as_slice())?);
         Ok(RowAnswer::Done)
     }
 }
 
 impl Trial {
+    /// A program before its first step.
+    fn of(alloc: Global, program: &[u8]) -> Result<Trial, AllocError> {
+        let mut trial = Trial::new(FlatMemory::new(alloc)?, FlatMemory::new(alloc)?);
+        trial.put(0x0100, program);
+        Ok(trial)
+    }
+
+    /// Two empty memories, before the first step.
+    fn new(memory: FlatMemory, before: FlatMemory) -> Trial {
+        Trial {
+            memory,
+            before,
+            regs: START,
+            ran: Ran::Done,
+            steps: 0,
+        }
+    }
+
+    /// Does a line that leaves the trial as it is.
+    fn look(
+        &self,
+        alloc: Global,
+        verb: &str,
+        arguments: &[Word<'_>],
+    ) -> Result<RowAnswer, RowFault> {
+        match verb {
+            "register" => self.register(alloc, arguments),
+            "unchanged" => RowAnswer::truth(alloc, self.regs == START),
+            "peek" => self.peek(alloc, arguments),
+            _ => self.look_at_all(alloc, verb),
+        }
+    }
+
+    /// Does such a line that is a word by itself.
+    fn look_at_all(&self, alloc: Global, verb: &str) -> Result<RowAnswer, RowFault> {
+        match verb {
+            "pairs" => self.pairs(alloc),
+            "changed" => self.changed(alloc),
+            "pages" => RowAnswer::words(alloc, self.memory.touched()),
+            _ => Err(RowFault::Unknown),
+        }
+    }
+
     /// Puts bytes from an address on, before the first step.
     fn put(&mut self, at: u16, bytes: &[u8]) {
         let mut at = at;
@@ -135,14 +164,19 @@ impl Trial {
         }
     }
 
+    /// The same from the address on that a word names.
+    fn put_at(&mut self, at: Word<'_>, bytes: &[u8]) -> Result<RowAnswer, RowFault> {
+        self.put(address(at)?, bytes);
+        Ok(RowAnswer::Done)
+    }
+
     /// `store ADDRESS BYTES`.
     fn store(&mut self, alloc: Global, arguments: &[Word<'_>]) -> Result<RowAnswer, RowFault> {
         let [at, bytes @ ..] = arguments else {
             return Err(RowFault::Words);
         };
         let bytes = bytes_of(alloc, bytes)?;
-        self.put(address(*at)?, bytes.as_slice());
-        Ok(RowAnswer::Done)
+        self.put_at(*at, bytes.as_slice())
     }
 
     /// `set F BYTE`, or `set IFF2 yes`.
@@ -151,11 +185,16 @@ impl Trial {
             return Err(RowFault::Words);
         };
         match name.text {
-            "F" => self.regs.flags = unpack(Cpu::Z80, self.regs.flags, byte(*value)?),
+            "F" => self.set_flags(byte(*value)?),
             "IFF2" => self.regs.iff2 = value.text == "yes",
             _ => return Err(RowFault::Words),
         }
         Ok(RowAnswer::Done)
+    }
+
+    /// Sets the flags as F has them.
+    fn set_flags(&mut self, byte: u8) {
+        self.regs.flags = unpack(Cpu::Z80, self.regs.flags, byte);
     }
 
     /// `run STEPS`.
@@ -163,14 +202,24 @@ impl Trial {
         let [limit] = arguments else {
             return Err(RowFault::Words);
         };
-        for _ in 0..number(*limit)? {
+        self.make_steps(number(*limit)?);
+        Ok(RowAnswer::Words(self.course(alloc)?))
+    }
+
+    /// Makes so many steps, or as many as the program has.
+    fn make_steps(&mut self, limit: u64) {
+        for _ in 0..limit {
             if self.ran == Ran::Done && has_room(&self.memory) {
                 self.ran = stepz80(&mut self.regs, &mut self.memory);
                 self.steps = self.steps.wrapping_add(1);
             }
         }
+    }
+
+    /// How many steps were made, and what the last one came to.
+    fn course(&self, alloc: Global) -> Result<String, AllocError> {
         let (steps, ran) = (self.steps, self.ran);
-        RowAnswer::words(alloc, format!(in alloc; "{steps} {ran:?}")?)
+        format!(in alloc; "{steps} {ran:?}")
     }
 
     /// `register NAME`.
@@ -183,26 +232,23 @@ impl Trial {
 
     /// AF, BC, DE and HL.
     fn pairs(&self, alloc: Global) -> Result<RowAnswer, RowFault> {
-        let regs = self.regs;
-        let af = pair(regs.a, pack(Cpu::Z80, regs.flags));
-        let bc = pair(regs.b, regs.c);
-        let de = pair(regs.d, regs.e);
-        let hl = pair(regs.h, regs.l);
-        RowAnswer::words(
-            alloc,
-            format!(in alloc; "{af:04X} {bc:04X} {de:04X} {hl:04X}")?,
-        )
+        let regs = &self.regs;
+        let pairs = [
+            pair(regs.a, pack(Cpu::Z80, regs.flags)),
+            pair(regs.b, regs.c),
+            pair(regs.d, regs.e),
+            pair(regs.h, regs.l),
+        ];
+        Ok(RowAnswer::Words(addresses(alloc, pairs.as_slice())?))
     }
 
     /// `peek ADDRESS`, or `peek ADDRESS N`.
     fn peek(&self, alloc: Global, arguments: &[Word<'_>]) -> Result<RowAnswer, RowFault> {
-        let (at, length) = match arguments {
-            [at] => (address(*at)?, 1),
-            [at, length] => (address(*at)?, count(*length)?),
-            _ => return Err(RowFault::Words),
-        };
-        let bytes = run_of(alloc, &self.memory, at, length)?;
-        RowAnswer::bytes(alloc, bytes.as_slice())
+        match arguments {
+            [at] => bytes_at(alloc, &self.memory, address(*at)?, 1),
+            [at, length] => bytes_at(alloc, &self.memory, address(*at)?, count(*length)?),
+            _ => Err(RowFault::Words),
+        }
     }
 
     /// The addresses whose bytes are others than before the first step.
@@ -210,10 +256,7 @@ impl Trial {
         let mut changed = String::new(alloc);
         for at in 0..=0xFFFFu16 {
             if self.memory.get(at) != self.before.get(at) {
-                if !changed.is_empty() {
-                    changed.push(' ')?;
-                }
-                changed.push_str(format!(in alloc; "{at:04X}")?.as_str())?;
+                add_address(alloc, &mut changed, at)?;
             }
         }
         if changed.is_empty() {
@@ -221,4 +264,21 @@ impl Trial {
         }
         Ok(RowAnswer::Words(changed))
     }
+}
+
+/// Addresses, or other numbers of 16 bits, in words.
+fn addresses(alloc: Global, values: &[u16]) -> Result<String, AllocError> {
+    let mut words = String::new(alloc);
+    for value in values {
+        add_address(alloc, &mut words, *value)?;
+    }
+    Ok(words)
+}
+
+/// Adds an address to a text, apart from one that stands before it.
+fn add_address(alloc: Global, out: &mut String, at: u16) -> Result<(), AllocError> {
+    if !out.is_empty() {
+        out.push(' ')?;
+    }
+    out.push_str(format!(in alloc; "{at:04X}")?.as_str())
 }

@@ -3,6 +3,7 @@
 
 mod instructions;
 mod memories;
+mod memory_lines;
 mod registers;
 
 pub use instructions::Instructions;

@@ -1,7 +1,6 @@
 //! Rows of memories: a flat one, and tables over a store of shared frames.
 
-ghost use Rattle.std.specs.Prelude.{IfOk, ◌≤◌};
-
+use crate::memory_lines::{page_count, use_memory};
 use cpm_memory::{FlatMemory, FrameStore, MOST_FRAMES, MemError, Memory, TableId};
 use std::alloc::{AllocError, Global};
 use test_language::{RowAnswer, RowFault, RowLine, Scene, Word, address, byte, count, number};
@@ -39,23 +38,31 @@ impl Scene for Memories {
             "reserve" => self.reserve(alloc, arguments),
             "share" => self.share(alloc, arguments),
             "release" => self.release(arguments),
-            "set" | "get" | "pages" | "stamp" => self.memory(alloc, line.verb(), arguments),
-            "place" | "frame" => self.place(alloc, line.verb(), arguments),
-            "reflect" => self.reflect(arguments),
-            "put-back" => self.put_back(arguments),
-            _ => self.ask(alloc, line.verb(), arguments),
+            verb => self.act_on_bytes(alloc, verb, arguments),
         }
     }
 }
 
 impl Memories {
+    /// Does a line about the bytes of the flat memory or of a table, or one that asks the store.
+    fn act_on_bytes(
+        &mut self,
+        alloc: Global,
+        verb: &str,
+        arguments: &[Word<'_>],
+    ) -> Result<RowAnswer, RowFault> {
+        match verb {
+            "set" | "get" | "pages" | "stamp" => self.memory(alloc, verb, arguments),
+            "place" | "frame" => self.place(alloc, verb, arguments),
+            "reflect" => self.reflect(arguments),
+            "put-back" => self.put_back(arguments),
+            _ => self.ask(alloc, verb, arguments),
+        }
+    }
+
     /// `flat`, or `flat PAGES`.
     fn flat(&mut self, alloc: Global, arguments: &[Word<'_>]) -> Result<RowAnswer, RowFault> {
-        self.flat = Some(match arguments {
-            [] => FlatMemory::new(alloc)?,
-            [pages] => FlatMemory::with_limit(alloc, page_count(*pages)?)?,
-            _ => return Err(RowFault::Words),
-        });
+        self.flat = Some(new_flat(alloc, arguments)?);
         Ok(RowAnswer::Done)
     }
 
@@ -64,11 +71,7 @@ impl Memories {
         let [frames] = arguments else {
             return Err(RowFault::Words);
         };
-        let frames = number(*frames)?;
-        if frames > u64::from(MOST_FRAMES) {
-            return Err(RowFault::Unready);
-        }
-        self.store = Some(FrameStore::new(alloc, frames as u16)?);
+        self.store = Some(new_store(alloc, *frames)?);
         Ok(RowAnswer::Done)
     }
 
@@ -154,16 +157,27 @@ impl Memories {
         let [name, rest @ ..] = arguments else {
             return Err(RowFault::Words);
         };
-        if name.text == "flat" {
-            return match &mut self.flat {
-                Some(flat) => use_memory(alloc, flat, verb, rest),
-                None => Err(RowFault::Absent),
-            };
+        if name.text != "flat" {
+            return self.table_memory(alloc, verb, *name, rest);
         }
-        let table = self.table(*name)?;
+        match &mut self.flat {
+            Some(flat) => use_memory(alloc, flat, verb, rest),
+            None => Err(RowFault::Absent),
+        }
+    }
+
+    /// A line about the memory of a table.
+    fn table_memory(
+        &mut self,
+        alloc: Global,
+        verb: &str,
+        name: Word<'_>,
+        arguments: &[Word<'_>],
+    ) -> Result<RowAnswer, RowFault> {
+        let table = self.table(name)?;
         match &mut self.store {
             Some(store) if store.is_taken(table) => {
-                use_memory(alloc, &mut store.view(table), verb, rest)
+                use_memory(alloc, &mut store.view(table), verb, arguments)
             }
             _ => Err(RowFault::Absent),
         }
@@ -180,22 +194,10 @@ impl Memories {
             return Err(RowFault::Words);
         };
         let table = self.table(*table)?;
-        let Some(store) = &self.store else {
-            return Err(RowFault::Absent);
-        };
-        if !store.is_taken(table) {
-            return Err(RowFault::Absent);
-        }
-        let place = store.place(table, byte(*page)?);
-        match offset {
-            [] if verb == "place" => RowAnswer::words(alloc, place),
-            [offset] if verb == "frame" => {
-                match store.frame(place).get(usize::from(byte(*offset)?)) {
-                    Some(byte) => RowAnswer::byte(alloc, *byte),
-                    None => Err(RowFault::Unready),
-                }
-            }
-            _ => Err(RowFault::Words),
+        match &self.store {
+            Some(store) if verb == "place" => place_of(alloc, store, table, *page, offset),
+            Some(store) => frame_byte(alloc, store, table, *page, offset),
+            None => Err(RowFault::Absent),
         }
     }
 
@@ -222,19 +224,10 @@ impl Memories {
         };
         let (at, value) = (address(*at)?, byte(*value)?);
         let table = self.table(*table)?;
-        let (Some(flat), Some(store)) = (&mut self.flat, &mut self.store) else {
-            return Err(RowFault::Absent);
-        };
-        if !store.is_taken(table) {
-            return Err(RowFault::Absent);
+        match (&mut self.flat, &mut self.store) {
+            (Some(flat), Some(store)) => set_by_flat(flat, store, table, at, value),
+            _ => Err(RowFault::Absent),
         }
-        flat.reflect(store, table);
-        if flat.room() == 0 {
-            return Err(RowFault::Unready);
-        }
-        flat.set(at, value);
-        store.put_back(table, flat);
-        Ok(RowAnswer::Done)
     }
 
     /// A line that asks the store.
@@ -247,86 +240,108 @@ impl Memories {
         let Some(store) = &self.store else {
             return Err(RowFault::Unknown);
         };
-        match (verb, arguments) {
-            ("used", []) => RowAnswer::words(alloc, store.used()),
-            ("taken", []) => RowAnswer::words(alloc, store.taken()),
-            ("pages-written", [table]) => {
-                RowAnswer::words(alloc, store.pages_written(self.table(*table)?))
-            }
-            ("pages-reserved", [table]) => {
-                RowAnswer::words(alloc, store.pages_reserved(self.table(*table)?))
-            }
-            ("page-stamp", [table, page]) => {
+        match arguments {
+            [] if verb == "used" => RowAnswer::words(alloc, store.used()),
+            [] if verb == "taken" => RowAnswer::words(alloc, store.taken()),
+            [table] => self.ask_table(alloc, store, verb, *table),
+            [table, page] if verb == "page-stamp" => {
                 let table = self.table(*table)?;
                 RowAnswer::words(alloc, store.page_stamp(table, byte(*page)?))
             }
             _ => Err(RowFault::Unknown),
         }
     }
-}
 
-/// A number of pages, up to 256.
-fn page_count(word: Word<'_>) -> Result<u16, RowFault>
-    ensures { IfOk result (λ pages. pages ≤ 256) }
-{
-    let pages = number(word)?;
-    if pages > 256 {
-        return Err(RowFault::Unready);
+    /// A line that asks the store about a table.
+    fn ask_table(
+        &self,
+        alloc: Global,
+        store: &FrameStore,
+        verb: &str,
+        table: Word<'_>,
+    ) -> Result<RowAnswer, RowFault> {
+        let pages = match verb {
+            "pages-written" => store.pages_written(self.table(table)?),
+            "pages-reserved" => store.pages_reserved(self.table(table)?),
+            _ => return Err(RowFault::Unknown),
+        };
+        RowAnswer::words(alloc, pages)
     }
-    Ok(pages as u16)
 }
 
-/// A line about a memory.
-fn use_memory<M: Memory>(
-    alloc: Global,
-    memory: &mut M,
-    verb: &str,
-    arguments: &[Word<'_>],
-) -> Result<RowAnswer, RowFault> {
-    match (verb, arguments) {
-        ("set", [at, value]) => set(memory, address(*at)?, byte(*value)?, 1),
-        ("set", [at, value, pages]) => {
-            set(memory, address(*at)?, byte(*value)?, page_count(*pages)?)
-        }
-        ("get", [at]) => RowAnswer::byte(alloc, memory.get(address(*at)?)),
-        ("get", [at, length]) => {
-            let bytes = run_of(alloc, memory, address(*at)?, count(*length)?)?;
-            RowAnswer::bytes(alloc, bytes.as_slice())
-        }
-        ("pages", []) => {
-            let (written, room) = (memory.touched(), memory.room());
-            RowAnswer::words(alloc, format!(in alloc; "{written} {room}")?)
-        }
-        ("stamp", [page]) => RowAnswer::words(alloc, memory.stamp(byte(*page)?)),
+/// A flat memory, of which all pages may be written, or so many.
+fn new_flat(alloc: Global, arguments: &[Word<'_>]) -> Result<FlatMemory, RowFault> {
+    match arguments {
+        [] => Ok(FlatMemory::new(alloc)?),
+        [pages] => Ok(FlatMemory::with_limit(alloc, page_count(*pages)?)?),
         _ => Err(RowFault::Words),
     }
 }
 
-/// Stores a byte at an address, and at the same place of the pages after it, so many in all.
-fn set<M: Memory>(memory: &mut M, at: u16, value: u8, pages: u16) -> Result<RowAnswer, RowFault> {
-    let mut at = at;
-    for _ in 0..pages {
-        if memory.room() == 0 {
-            return Err(RowFault::Unready);
-        }
-        memory.set(at, value);
-        at = at.wrapping_add(256);
+/// A store of so many frames.
+fn new_store(alloc: Global, frames: Word<'_>) -> Result<FrameStore, RowFault> {
+    let frames = number(frames)?;
+    if frames > u64::from(MOST_FRAMES) {
+        return Err(RowFault::Unready);
     }
-    Ok(RowAnswer::Done)
+    Ok(FrameStore::new(alloc, frames as u16)?)
 }
 
-/// So many bytes of a memory from an address on.
-pub fn run_of<M: Memory>(
+/// The frame of a page of a table, where no word stands behind.
+fn place_of(
     alloc: Global,
-    memory: &M,
-    at: u16,
-    length: usize,
-) -> Result<Vec<u8>, AllocError> {
-    let mut bytes = Vec::new(alloc);
-    let mut at = at;
-    for _ in 0..length {
-        bytes.push(memory.get(at))?;
-        at = at.wrapping_add(1);
+    store: &FrameStore,
+    table: TableId,
+    page: Word<'_>,
+    rest: &[Word<'_>],
+) -> Result<RowAnswer, RowFault> {
+    if !store.is_taken(table) {
+        return Err(RowFault::Absent);
     }
-    Ok(bytes)
+    let place = store.place(table, byte(page)?);
+    if !rest.is_empty() {
+        return Err(RowFault::Words);
+    }
+    RowAnswer::words(alloc, place)
+}
+
+/// A byte of the frame of a page of a table.
+fn frame_byte(
+    alloc: Global,
+    store: &FrameStore,
+    table: TableId,
+    page: Word<'_>,
+    offset: &[Word<'_>],
+) -> Result<RowAnswer, RowFault> {
+    if !store.is_taken(table) {
+        return Err(RowFault::Absent);
+    }
+    let place = store.place(table, byte(page)?);
+    let [offset] = offset else {
+        return Err(RowFault::Words);
+    };
+    match store.frame(place).get(usize::from(byte(*offset)?)) {
+        Some(byte) => RowAnswer::byte(alloc, *byte),
+        None => Err(RowFault::Unready),
+    }
+}
+
+/// Stores a byte in the memory of a table by way of the flat one.
+fn set_by_flat(
+    flat: &mut FlatMemory,
+    store: &mut FrameStore,
+    table: TableId,
+    at: u16,
+    value: u8,
+) -> Result<RowAnswer, RowFault> {
+    if !store.is_taken(table) {
+        return Err(RowFault::Absent);
+    }
+    flat.reflect(store, table);
+    if flat.room() == 0 {
+        return Err(RowFault::Unready);
+    }
+    flat.set(at, value);
+    store.put_back(table, flat);
+    Ok(RowAnswer::Done)
 }
