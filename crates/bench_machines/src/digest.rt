@@ -29,6 +29,12 @@ impl Digest {
         disks
     }
 
+    /// Adds so many bytes, where there are as many.
+    pub fn add_first(&mut self, bytes: &[u8], count: usize) -> Option<()> {
+        self.add(bytes.get(..count)?);
+        Some(())
+    }
+
     pub fn add(&mut self, bytes: &[u8]) {
         for byte in bytes {
             self.count = self.count.saturating_add(1);

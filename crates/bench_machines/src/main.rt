@@ -45,7 +45,8 @@ fn most_resident(status: &str) -> Option<u64> {
 }
 
 /// Makes so many memories in one store, each with a quota of 16 pages and one page written, and keeps them to the end.
-fn share(rt: &HostRuntime, number: u16) -> Option<u64> {
+fn share(rt: &HostRuntime, number: u64) -> Option<u64> {
+    let number = u16::try_from(number).ok()?;
     if number > 64 {
         return None;
     }
@@ -74,7 +75,7 @@ fn share_one(store: &mut FrameStore) -> Option<()> {
 }
 
 /// Makes so many memories of their own, each with one page written, and keeps them to the end.
-fn own(rt: &HostRuntime, number: u16) -> Option<u64> {
+fn own(rt: &HostRuntime, number: u64) -> Option<u64> {
     let mut memories = Vec::new(rt.alloc());
     for _ in 0..number {
         memories.push(own_one(rt.alloc())?).ok()?;
@@ -110,12 +111,9 @@ fn host_by(rt: &HostRuntime, kind: &str, of: &str, sessions: u16) -> Option<Host
     }
 }
 
-/// Makes a host, where the words ask for it, and keeps it to the end.
-fn hold(rt: &HostRuntime, words: &[&str]) -> Option<u64> {
-    let [kind, of, sessions] = words else {
-        return None;
-    };
-    let _host = host_by(rt, kind, of, sessions.parse().ok()?)?;
+/// Makes such a host, and keeps it to the end.
+fn hold(rt: &HostRuntime, kind: &str, of: &str, sessions: u16) -> Option<u64> {
+    let _host = host_by(rt, kind, of, sessions)?;
     resident(rt)
 }
 
@@ -215,8 +213,8 @@ fn measure_forks(rt: &HostRuntime, words: &[&str]) -> Option<u64> {
 /// Makes one of what it names so many times.
 fn make(rt: &HostRuntime, what: &str, times: u64) -> Option<u64> {
     match what {
-        "sessions" => share(rt, u16::try_from(times).ok()?),
-        "flats" => own(rt, u16::try_from(times).ok()?),
+        "sessions" => share(rt, times),
+        "flats" => own(rt, times),
         "looks" => look_often(rt.alloc(), times),
         "slots" => open_and_close(rt.alloc(), times),
         "openings" => make_openings(rt.alloc(), times),
@@ -226,13 +224,24 @@ fn make(rt: &HostRuntime, what: &str, times: u64) -> Option<u64> {
 
 /// Does what the words ask for, and gives the number to print.
 fn measure(rt: &HostRuntime, words: &[&str]) -> Option<u64> {
-    match words {
-        ["machine", rest @ ..] => measure_machine(rt, rest),
-        ["host", rest @ ..] => measure_host(rt, rest),
-        ["waiting", rest @ ..] => measure_waiting(rt, rest),
-        ["forks", rest @ ..] => measure_forks(rt, rest),
-        [what, times] => make(rt, what, times.parse().ok()?),
-        words => hold(rt, words),
+    let [what, rest @ ..] = words else {
+        return None;
+    };
+    match *what {
+        "machine" => measure_machine(rt, rest),
+        "host" => measure_host(rt, rest),
+        "waiting" => measure_waiting(rt, rest),
+        "forks" => measure_forks(rt, rest),
+        what => make_or_hold(rt, what, rest),
+    }
+}
+
+/// Makes what the words ask for.
+fn make_or_hold(rt: &HostRuntime, what: &str, rest: &[&str]) -> Option<u64> {
+    match rest {
+        [times] => make(rt, what, times.parse().ok()?),
+        [of, sessions] => hold(rt, what, of, sessions.parse().ok()?),
+        _ => None,
     }
 }
 

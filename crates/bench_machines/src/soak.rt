@@ -140,10 +140,9 @@ impl SoakProgress {
     fn take_all<S: Grantee>(&mut self, session: &mut S) -> Option<()> {
         let mut out = [0; RING];
         let count = session.take(&mut out)?;
-        self.console.add(out.get(..count)?);
+        self.console.add_first(&out, count)?;
         let count = session.take_list(&mut out)?;
-        self.list.add(out.get(..count)?);
-        Some(())
+        self.list.add_first(&out, count)
     }
 
     /// A turn of the session.
@@ -216,6 +215,11 @@ fn play<S: Grantee>(
     memory_of(session)
 }
 
+/// The machine of a session.
+fn machine_of(rt: &HostRuntime, folder: &str, number: u16) -> Option<Machine> {
+    Machine::new(rt.alloc(), opening_of(rt, folder, number)?).ok()
+}
+
 /// Runs a session by itself.
 fn run_alone(
     rt: &HostRuntime,
@@ -225,8 +229,10 @@ fn run_alone(
     turns: &SoakTurns,
 ) -> Option<()> {
     let mut progress = SoakProgress::new(file_of(rt, folder, number, "keys")?);
-    let machine = Machine::new(rt.alloc(), opening_of(rt, folder, number)?).ok()?;
-    let mut session = MachineGrantee { machine, system };
+    let mut session = MachineGrantee {
+        machine: machine_of(rt, folder, number)?,
+        system,
+    };
     let memory = play(&mut session, &mut progress, turns)?;
     tell(rt, number, &progress, memory, session.machine.finish());
     Some(())

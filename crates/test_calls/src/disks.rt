@@ -23,18 +23,25 @@ fn numbered(alloc: Global, length: usize) -> Result<Vec<u8>, AllocError> {
 #[test]
 fn other_lengths_come_back(rt: HostRuntime) -> Result<(), Fail> {
     for length in [0, 1, 256_255, 256_257, 2_105_343, 2_105_345] {
-        match Image::from_bytes(numbered(rt.alloc(), length)?) {
-            Ok(_) => panic!(&rt; "{length} bytes are accepted"),
-            Err((bytes, error)) => {
-                same(&rt, bytes.len(), length);
-                same(&rt, error, GeomError::WrongLength);
-                for (place, byte) in bytes.iter().enumerate() {
-                    same(&rt, *byte, byte_at(place));
-                }
-            }
-        }
+        comes_back(&rt, length, numbered(rt.alloc(), length)?);
     }
     Ok(())
+}
+
+/// Bytes that are no image come back whole.
+fn comes_back(rt: &impl Abort, length: usize, given: Vec<u8>) {
+    let Err((bytes, error)) = Image::from_bytes(given) else {
+        panic!(rt; "{length} bytes are accepted");
+    };
+    same(rt, bytes.len(), length);
+    same(rt, error, GeomError::WrongLength);
+    are_numbered(rt, bytes.as_slice());
+}
+
+fn are_numbered(rt: &impl Abort, bytes: &[u8]) {
+    for (place, byte) in bytes.iter().enumerate() {
+        same(rt, *byte, byte_at(place));
+    }
 }
 
 /// Writes two records that are neighbours.

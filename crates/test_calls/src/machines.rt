@@ -222,50 +222,74 @@ fn fault<T: Typist, W: Write, L: Write, S: Write>(
 ) -> Result<(&'static str, Option<ErrorKind>), Fail> {
     let system = blank(alloc)?;
     let mut machine = reading(alloc, program)?;
-    Ok(
-        match play_live(
-            alloc,
-            &system,
-            &mut machine,
-            100,
-            &[],
-            typist,
-            out,
-            list,
-            record,
-        ) {
-            Ok(_) => ("played", None),
-            Err(LiveError::Unreadable(error)) => ("unreadable", Some(error.kind())),
-            Err(LiveError::Unwritable(error)) => ("unwritable", Some(error.kind())),
-            Err(LiveError::Unprinted(error)) => ("unprinted", Some(error.kind())),
-            Err(LiveError::Unrecorded(error)) => ("unrecorded", Some(error.kind())),
-            Err(LiveError::OutOfMemory) => ("out of memory", None),
-        },
-    )
+    let played = play_live(
+        alloc,
+        &system,
+        &mut machine,
+        100,
+        &[],
+        typist,
+        out,
+        list,
+        record,
+    );
+    Ok(match played {
+        Ok(_) => ("played", None),
+        Err(error) => named(error),
+    })
+}
+
+/// What failed, and the kind of its error.
+fn named(error: LiveError) -> (&'static str, Option<ErrorKind>) {
+    match error {
+        LiveError::Unreadable(error) => ("unreadable", Some(error.kind())),
+        LiveError::Unwritable(error) => ("unwritable", Some(error.kind())),
+        LiveError::Unprinted(error) => ("unprinted", Some(error.kind())),
+        LiveError::Unrecorded(error) => ("unrecorded", Some(error.kind())),
+        LiveError::OutOfMemory => ("out of memory", None),
+    }
+}
+
+fn input_fails(rt: &(impl Abort + AllocGlobal)) -> Result<(), Fail> {
+    let mut text = Vec::new(rt.alloc());
+    let mut lines = Vec::new(rt.alloc());
+    let dead = &mut KeyReader::new(FailingConsole);
+    let list = &mut io::sink();
+    let found = fault(rt.alloc(), READS, dead, &mut text, list, &mut lines)?;
+    same(rt, found, ("unreadable", Some(ErrorKind::BrokenPipe)));
+    same(rt, text.len(), 0);
+    same(rt, lines.len(), 0);
+    Ok(())
+}
+
+/// The echo of the first key can't be written; the key was recorded.
+fn output_fails<T: Typist>(rt: &(impl Abort + AllocGlobal), typed: &mut T) -> Result<(), Fail> {
+    let mut lines = Vec::new(rt.alloc());
+    let out = &mut FailingConsole;
+    let list = &mut io::sink();
+    let found = fault(rt.alloc(), READS, typed, out, list, &mut lines)?;
+    same(rt, found, ("unwritable", Some(ErrorKind::StorageFull)));
+    same(rt, lines.as_slice(), b"3 a\n".as_slice());
+    Ok(())
+}
+
+fn record_fails<T: Typist>(rt: &(impl Abort + AllocGlobal), typed: &mut T) -> Result<(), Fail> {
+    let mut text = Vec::new(rt.alloc());
+    let record = &mut FailingConsole;
+    let list = &mut io::sink();
+    let found = fault(rt.alloc(), READS, typed, &mut text, list, record)?;
+    same(rt, found, ("unrecorded", Some(ErrorKind::StorageFull)));
+    same(rt, text.len(), 0);
+    Ok(())
 }
 
 #[test]
 fn a_live_session_names_what_failed(rt: HostRuntime) -> Result<(), Fail> {
-    let mut text = Vec::new(rt.alloc());
-    let mut lines = Vec::new(rt.alloc());
     let keys: &[u8] = b"ab";
     let mut typed = KeyReader::new(keys);
-    let mut dead = KeyReader::new(FailingConsole);
-    let list = &mut io::sink();
-    let found = fault(rt.alloc(), READS, &mut dead, &mut text, list, &mut lines)?;
-    same(&rt, found, ("unreadable", Some(ErrorKind::BrokenPipe)));
-    same(&rt, text.len(), 0);
-    same(&rt, lines.len(), 0);
-    // The echo of the first key can't be written; the key was recorded.
-    let out = &mut FailingConsole;
-    let found = fault(rt.alloc(), READS, &mut typed, out, list, &mut lines)?;
-    same(&rt, found, ("unwritable", Some(ErrorKind::StorageFull)));
-    same(&rt, lines.as_slice(), b"3 a\n".as_slice());
-    let record = &mut FailingConsole;
-    let found = fault(rt.alloc(), READS, &mut typed, &mut text, list, record)?;
-    same(&rt, found, ("unrecorded", Some(ErrorKind::StorageFull)));
-    same(&rt, text.len(), 0);
-    Ok(())
+    input_fails(&rt)?;
+    output_fails(&rt, &mut typed)?;
+    record_fails(&rt, &mut typed)
 }
 
 /// The text of the turn is shown before its list bytes fail.

@@ -35,26 +35,30 @@ impl Read for Zeros {
     }
 }
 
+fn reads_all(rt: &(impl Abort + AllocGlobal)) {
+    let mut whole: &[u8] = b"all of it";
+    let bytes = read_whole(rt.alloc(), &mut whole).expect(rt, "bytes");
+    same(rt, bytes.as_slice(), b"all of it".as_slice());
+}
+
+/// Fails unless zeros that fail there are refused so, and says how many were read.
+fn is_unread(
+    rt: &(impl Abort + AllocGlobal),
+    fails_at: Option<u64>,
+    wanted: ErrorKind,
+) -> u64 {
+    let mut zeros = Zeros { given: 0, fails_at };
+    let error = read_whole(rt.alloc(), &mut zeros).expect_err(rt, "an error");
+    same(rt, error.kind(), wanted);
+    zeros.given
+}
+
 #[test]
 fn reads_no_more_than_a_file_may_have(rt: HostRuntime) {
-    let mut whole: &[u8] = b"all of it";
-    let bytes = read_whole(rt.alloc(), &mut whole).expect(&rt, "bytes");
-    same(&rt, bytes.as_slice(), b"all of it".as_slice());
-
-    let mut endless = Zeros {
-        given: 0,
-        fails_at: None,
-    };
-    let error = read_whole(rt.alloc(), &mut endless).expect_err(&rt, "an error");
-    same(&rt, error.kind(), ErrorKind::FileTooLarge);
-    same(&rt, endless.given, MOST_FILE + 1);
-
-    let mut broken = Zeros {
-        given: 0,
-        fails_at: Some(50),
-    };
-    let error = read_whole(rt.alloc(), &mut broken).expect_err(&rt, "an error");
-    same(&rt, error.kind(), ErrorKind::Other);
+    reads_all(&rt);
+    let given = is_unread(&rt, None, ErrorKind::FileTooLarge);
+    same(&rt, given, MOST_FILE + 1);
+    is_unread(&rt, Some(50), ErrorKind::Other);
 }
 
 /// Compares the statuses of errors, and their texts after their codes, with what is wanted.
@@ -185,20 +189,21 @@ impl Read for FailingOrders {
 /// Prints `A` and returns.
 const LETTER: &[u8] = &[0x0E, 0x02, 0x1E, 0x41, 0xCD, 0x05, 0x00, 0xC9];
 
+/// Debugs that program by these orders.
+fn debugs(rt: &(impl Abort + AllocGlobal), out: &mut Vec<u8>) -> DebugError {
+    let orders = FailingOrders { is_read: false };
+    let mut input = BufReader::new(rt.alloc(), orders).expect(rt, "memory");
+    let program = Vec::from_slice(rt.alloc(), LETTER).expect(rt, "memory");
+    let answer = run_debug(rt.alloc(), Cpu::I8080, program, &[], &mut input, out);
+    answer.expect_err(rt, "not refused")
+}
+
 #[test]
 fn answers_what_was_read_before_a_fault(rt: HostRuntime) {
-    let mut input = BufReader::new(rt.alloc(), FailingOrders { is_read: false }).expect(
-        &rt, "memory",
-    );
     let mut out: Vec<u8> = Vec::new(rt.alloc());
-    let program = Vec::from_slice(rt.alloc(), LETTER).expect(&rt, "memory");
-    match run_debug(rt.alloc(), Cpu::I8080, program, &[], &mut input, &mut out) {
-        Ok(()) => panic!(&rt; "not refused"),
-        Err(error) => {
-            let text = error.to_string(rt.alloc()).expect(&rt, "memory");
-            same(&rt, text.as_str(), "can't read orders: the line is dead");
-        }
-    }
+    let error = debugs(&rt, &mut out);
+    let text = error.to_string(rt.alloc()).expect(&rt, "memory");
+    same(&rt, text.as_str(), "can't read orders: the line is dead");
     let wanted: &[u8] = b"2 All\n0104  CD 05 00  CALL 00005H\n";
     same(&rt, out.as_slice(), wanted);
 }
@@ -246,21 +251,20 @@ fn config(rt: &(impl Abort + AllocGlobal)) -> Config {
 /// Fails unless a run is refused, before it reads a key or writes anything.
 fn is_refused(rt: &(impl Abort + AllocGlobal), config: &Config) {
     let mut store = filled(rt);
-    let options = typed_at("one", &[], &[]);
     let keys: &[u8] = b"DIR\r";
     let mut typed = KeyReader::new(keys);
     let mut out: Vec<u8> = Vec::new(rt.alloc());
-    let mut lines: Vec<u8> = Vec::new(rt.alloc());
-    match run_host(
+    let answer = run_host(
         rt.alloc(),
         config,
-        options,
+        typed_at("one", &[], &[]),
         &mut store,
         &mut typed,
         &mut out,
-        &mut lines,
+        &mut io::sink(),
         &mut NoWatcher,
-    ) {
+    );
+    match answer {
         Ok(_) => panic!(rt; "run"),
         Err(error) => same(rt, error.code().status(), 2),
     }

@@ -3,8 +3,8 @@
 use crate::same::same;
 use cpm_geom::{Format, Image};
 use cpm_host::{
-    Config, KeyReader, MemoryStore, NoWatcher, Progress, RecordFile, Replay, RunOptions, RunStage,
-    RunWatcher, Store, Typist, Watcher, run_host,
+    Config, KeyReader, MemoryStore, NoWatcher, Progress, RecordFile, Replay, Report, RunError,
+    RunOptions, RunStage, RunWatcher, Store, Typist, Watcher, run_host,
 };
 use std::io;
 use std::io::{Read, Write};
@@ -118,49 +118,70 @@ fn is_refused<P: Typist, W: Write, R: Write>(
 ) {
     let config = config(rt);
     let mut store = filled(rt);
-    let options = typed_at("one", &[], &[]);
-    let alloc = rt.alloc();
-    match run_host(
-        alloc,
+    let answer = run_host(
+        rt.alloc(),
         &config,
-        options,
+        typed_at("one", &[], &[]),
         &mut store,
         typist,
         out,
         lines,
         &mut NoWatcher,
-    ) {
-        Ok(_) => panic!(rt; "run"),
-        Err(error) => {
-            let code = error.code();
-            same(rt, code.status(), status);
-            let text = format!(in alloc; "{code} {error}").expect(rt, "memory");
-            same(rt, text.as_str(), wanted);
-        }
-    }
+    );
+    is_told(rt, answer, status, wanted);
     assert!(rt; store.file("one.txt").is_none());
 }
 
-/// The prompt is shown before the first key is read, and a key is recorded before the machine gets it.
-#[test]
-fn a_run_names_the_stream_that_failed(rt: HostRuntime) {
+/// Fails unless a refusal has this status, and this text after its code.
+fn is_told(
+    rt: &(impl Abort + AllocGlobal),
+    answer: Result<Report, RunError>,
+    status: u8,
+    wanted: &str,
+) {
+    let Err(error) = answer else {
+        panic!(rt; "run");
+    };
+    let code = error.code();
+    same(rt, code.status(), status);
+    let text = format!(in rt.alloc(); "{code} {error}").expect(rt, "memory");
+    same(rt, text.as_str(), wanted);
+}
+
+/// The prompt is shown before the first key is read.
+fn names_the_input(rt: &(impl Abort + AllocGlobal)) {
     let mut text: Vec<u8> = Vec::new(rt.alloc());
     let mut lines: Vec<u8> = Vec::new(rt.alloc());
     let wanted = "HO4 can't read standard input: the line is dead";
     let mut dead = KeyReader::new(DeadLine);
-    is_refused(&rt, &mut dead, &mut text, &mut lines, 4, wanted);
-    same(&rt, text.as_slice(), b"\r\nA>".as_slice());
-    same(&rt, lines.len(), 0);
-    let keys: &[u8] = b"ab";
+    is_refused(rt, &mut dead, &mut text, &mut lines, 4, wanted);
+    same(rt, text.as_slice(), b"\r\nA>".as_slice());
+    same(rt, lines.len(), 0);
+}
+
+fn names_the_output(rt: &(impl Abort + AllocGlobal), keys: &[u8]) {
+    let mut lines: Vec<u8> = Vec::new(rt.alloc());
     let mut typed = KeyReader::new(keys);
     let wanted = "HO5 can't write to standard output: the line is dead";
-    is_refused(&rt, &mut typed, &mut DeadLine, &mut lines, 5, wanted);
-    same(&rt, lines.len(), 0);
-    same(&rt, typed.into_input().len(), 2);
+    is_refused(rt, &mut typed, &mut DeadLine, &mut lines, 5, wanted);
+    same(rt, lines.len(), 0);
+    same(rt, typed.into_input().len(), 2);
+}
+
+/// A key is recorded before the machine gets it.
+fn names_the_record(rt: &(impl Abort + AllocGlobal), keys: &[u8]) {
+    let mut text: Vec<u8> = Vec::new(rt.alloc());
     let mut typed = KeyReader::new(keys);
     let wanted = "HO5 can't write the record of the keys: the line is dead";
-    is_refused(&rt, &mut typed, &mut text, &mut DeadLine, 5, wanted);
-    same(&rt, typed.into_input().len(), 1);
+    is_refused(rt, &mut typed, &mut text, &mut DeadLine, 5, wanted);
+    same(rt, typed.into_input().len(), 1);
+}
+
+#[test]
+fn a_run_names_the_stream_that_failed(rt: HostRuntime) {
+    names_the_input(&rt);
+    names_the_output(&rt, b"ab");
+    names_the_record(&rt, b"ab");
 }
 
 /// The session that is typed at is played first, then each that waits, and at last all.

@@ -48,12 +48,7 @@ impl Scene for Directories {
             "field" => self.fcb.field(alloc, arguments),
             "parse" => parse(alloc, line.given(alloc, arguments)?.as_slice()),
             verb if is_of_images(verb) => self.images.act(alloc, line),
-            verb => match arguments {
-                [] => Err(RowFault::Unknown),
-                [word] => self.act_one(alloc, verb, *word),
-                [first, second] => self.take_blocks(alloc, verb, *first, *second),
-                _ => Err(RowFault::Unknown),
-            },
+            verb => self.act_words(alloc, verb, arguments),
         }
     }
 }
@@ -64,11 +59,24 @@ impl Directories {
         let [image, index, bytes @ ..] = arguments else {
             return Err(RowFault::Words);
         };
-        let (index, bytes) = (number(*index)?, filled(alloc, bytes)?);
-        let mut changed = self.images.copy(alloc, image.text)?;
-        put_bytes(&mut changed, index, &bytes)?;
+        let index = number(*index)?;
+        let bytes = filled(alloc, bytes)?;
+        let changed = self.with_entry(alloc, image.text, index, &bytes)?;
         self.images.put(alloc, image.text, changed)?;
         Ok(RowAnswer::Done)
+    }
+
+    /// A copy of an image, where a directory entry is what these bytes say.
+    fn with_entry(
+        &self,
+        alloc: Global,
+        image: &str,
+        index: u16,
+        bytes: &[u8; 32],
+    ) -> Result<Image, RowFault> {
+        let mut changed = self.images.copy(alloc, image)?;
+        put_bytes(&mut changed, index, bytes)?;
+        Ok(changed)
     }
 
     /// `look NAME N`: what directory entry N says.
@@ -76,9 +84,14 @@ impl Directories {
         let [image, index] = arguments else {
             return Err(RowFault::Words);
         };
-        let index = number(*index)?;
-        let image = self.images.copy(alloc, image.text)?;
-        shown(alloc, &entry_of(&image, index)?)
+        let entry = self.entry_at(alloc, image.text, number(*index)?)?;
+        shown(alloc, &entry)
+    }
+
+    /// A directory entry of an image.
+    fn entry_at(&self, alloc: Global, image: &str, index: u16) -> Result<Entry, RowFault> {
+        let image = self.images.copy(alloc, image)?;
+        entry_of(&image, index)
     }
 
     /// `find IMAGE USER NAME FROM GROUP`: the first entry of the name, from an entry on, of a group of extents if it is given.
@@ -88,8 +101,34 @@ impl Directories {
         };
         let from = number(*from)?;
         let pattern = pattern_in(alloc, small(*user)?, *word, group)?;
-        let image = self.images.copy(alloc, image.text)?;
-        place(alloc, find(&LentImage::new(&image), &pattern, from))
+        self.find_on(alloc, image.text, &pattern, from)
+    }
+
+    fn find_on(
+        &self,
+        alloc: Global,
+        image: &str,
+        pattern: &Pattern,
+        from: u16,
+    ) -> Result<RowAnswer, RowFault> {
+        let image = self.images.copy(alloc, image)?;
+        place(alloc, find(&LentImage::new(&image), pattern, from))
+    }
+
+    /// Does a line of one word after its first, or of two.
+    fn act_words(
+        &mut self,
+        alloc: Global,
+        verb: &str,
+        arguments: &[Word<'_>],
+    ) -> Result<RowAnswer, RowFault> {
+        match arguments {
+            [word] => self.act_one(alloc, verb, *word),
+            [first, last] if verb == "take-all" => {
+                self.take_blocks(alloc, number(*first)?, number(*last)?)
+            }
+            _ => Err(RowFault::Unknown),
+        }
     }
 
     /// Does a line of one word after its first.
@@ -187,15 +226,10 @@ impl Directories {
     fn take_blocks(
         &mut self,
         alloc: Global,
-        verb: &str,
-        first: Word<'_>,
-        last: Word<'_>,
+        first: u16,
+        last: u16,
     ) -> Result<RowAnswer, RowFault> {
-        if verb != "take-all" {
-            return Err(RowFault::Unknown);
-        }
-        let last = number(last)?;
-        for block in number(first)?..=last {
+        for block in first..=last {
             match self.reserved.take_lowest(last) {
                 Ok(taken) if taken == block => {}
                 other => return place(alloc, other),
@@ -268,20 +302,24 @@ fn shown(alloc: Global, entry: &Entry) -> Result<RowAnswer, RowFault> {
 /// Adds what an entry says: its user, its name, the bytes after that, and the blocks.
 fn write_entry(text: &mut String, entry: &Entry) -> Result<(), AllocError> {
     let extent = &entry.extent;
-    write_byte(text, "user", entry.user)?;
-    text.push(' ')?;
+    let bytes = [
+        ("EX", extent.ex),
+        ("S1", extent.s1),
+        ("S2", extent.s2),
+        ("RC", extent.record_count),
+    ];
+    write!(text, "user {:02X} ", entry.user)?;
     write_name(text, &extent.name)?;
-    write_byte(text, " EX", extent.ex)?;
-    write_byte(text, " S1", extent.s1)?;
-    write_byte(text, " S2", extent.s2)?;
-    write_byte(text, " RC", extent.record_count)?;
+    write_bytes(text, bytes.as_slice())?;
     write_blocks(text, &extent.blocks)
 }
 
-/// Adds a byte after its name.
-fn write_byte(text: &mut String, name: &str, byte: u8) -> Result<(), AllocError> {
-    text.push_str(name)?;
-    write!(text, " {byte:02X}")
+/// Adds bytes, each after its name.
+fn write_bytes(text: &mut String, bytes: &[(&str, u8)]) -> Result<(), AllocError> {
+    for (name, byte) in bytes {
+        write!(text, " {name} {byte:02X}")?;
+    }
+    Ok(())
 }
 
 fn write_blocks(text: &mut String, blocks: &[u16]) -> Result<(), AllocError> {

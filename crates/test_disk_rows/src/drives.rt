@@ -1,6 +1,7 @@
 //! Rows of the drives of a session: the functions on files over a file control block and a buffer, and the sectors.
 
 use crate::fcb::FcbBytes;
+use crate::file_functions::function_of;
 use crate::runs::{WordCounts, yes_or_no};
 use crate::words::{byte_at, done, filled, is_of_images, name, number, only, small};
 use cpm_drives::{Disks, FileFunction};
@@ -36,25 +37,6 @@ const ALONE: [&str; 20] = [
     "read-only-vector",
     "allocation-vector",
     "drives-there",
-];
-
-/// The functions by their words.
-const FUNCTIONS: [(&str, FileFunction); 15] = [
-    ("open", FileFunction::OpenFile),
-    ("close", FileFunction::CloseFile),
-    ("search-first", FileFunction::SearchFirst),
-    ("search-next", FileFunction::SearchNext),
-    ("erase", FileFunction::EraseFiles),
-    ("read", FileFunction::ReadNext),
-    ("write", FileFunction::WriteNext),
-    ("make", FileFunction::MakeFile),
-    ("rename", FileFunction::RenameFiles),
-    ("set-attributes", FileFunction::SetAttributes),
-    ("read-random", FileFunction::ReadRandom),
-    ("write-random", FileFunction::WriteRandom),
-    ("size", FileFunction::ComputeSize),
-    ("set-random", FileFunction::SetRandomRecord),
-    ("write-cleared", FileFunction::WriteRandomCleared),
 ];
 
 /// A session: its drives, a file control block, and the buffer of a record.
@@ -121,11 +103,19 @@ impl Drives {
     /// `end NAME..`: the session ends, and its drives leave images of these names.
     fn end(&mut self, alloc: Global, arguments: &[Word<'_>]) -> Result<RowAnswer, RowFault> {
         let ended = mem::replace(&mut self.here.disks, Disks::new(Vec::new(alloc)));
-        for (name, image) in arguments.iter().zip(ended.into_images()) {
-            let image = image.ok_or(RowFault::Absent)?;
-            self.images.put(alloc, name.text, image)?;
+        let mut images = ended.into_images();
+        for (name, image) in arguments.iter().zip(images.iter_mut()) {
+            self.leave(alloc, name.text, image.take())?;
         }
         Ok(RowAnswer::Done)
+    }
+
+    /// Gives an image that is left its name.
+    fn leave(&mut self, alloc: Global, name: &str, image: Option<Image>) -> Result<(), RowFault> {
+        match image {
+            Some(image) => self.images.put(alloc, name, image),
+            None => Err(RowFault::Absent),
+        }
     }
 }
 
@@ -154,10 +144,7 @@ impl DriveCaller {
             "repeat" => self.repeat(alloc, system, arguments),
             "each-drive" => self.each_drive(alloc, system, arguments),
             _ => match function_of(verb) {
-                Some(function) => {
-                    self.prepare(alloc, function, arguments)?;
-                    code(alloc, self.call(system, function))
-                }
+                Some(function) => self.call_with(alloc, system, function, arguments),
                 None => self.choose(alloc, system, verb, arguments),
             },
         }
@@ -246,6 +233,18 @@ impl DriveCaller {
         }
     }
 
+    /// Calls a function with what stands after its name.
+    fn call_with(
+        &mut self,
+        alloc: Global,
+        system: &Image,
+        function: FileFunction,
+        arguments: &[Word<'_>],
+    ) -> Result<RowAnswer, RowFault> {
+        self.prepare(alloc, function, arguments)?;
+        code(alloc, self.call(system, function))
+    }
+
     /// Calls a function.
     fn call(&mut self, system: &Image, function: FileFunction) -> Result<u8, DriveError> {
         self.disks
@@ -264,8 +263,18 @@ impl DriveCaller {
         };
         let function = function_of(verb.text).ok_or(RowFault::Unknown)?;
         self.prepare(alloc, function, rest)?;
+        self.repeat_call(alloc, system, function, count(*times)?)
+    }
+
+    fn repeat_call(
+        &mut self,
+        alloc: Global,
+        system: &Image,
+        function: FileFunction,
+        times: usize,
+    ) -> Result<RowAnswer, RowFault> {
         let mut codes = WordCounts::new(alloc);
-        for _ in 0..count(*times)? {
+        for _ in 0..times {
             add_code(alloc, &mut codes, self.call(system, function))?;
         }
         codes.into_answer()
@@ -278,7 +287,9 @@ impl DriveCaller {
         system: &Image,
         arguments: &[Word<'_>],
     ) -> Result<RowAnswer, RowFault> {
-        let function = function_of(only(arguments)?.text).ok_or(RowFault::Unknown)?;
+        let Some(function) = function_of(only(arguments)?.text) else {
+            return Err(RowFault::Unknown);
+        };
         let bytes = self.fcb.bytes;
         let mut codes = WordCounts::new(alloc);
         for drive in 0..=255u8 {
@@ -368,14 +379,4 @@ fn add_code(
         Ok(code) => codes.add_byte(alloc, code),
         Err(fault) => codes.add(alloc, format!(in alloc; "{fault:?}")?.as_str()),
     }
-}
-
-/// The function of a word.
-fn function_of(word: &str) -> Option<FileFunction> {
-    for (name, function) in &FUNCTIONS {
-        if *name == word {
-            return Some(*function);
-        }
-    }
-    None
 }

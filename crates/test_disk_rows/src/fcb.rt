@@ -58,8 +58,7 @@ impl FcbBytes {
         if bytes.is_empty() {
             return RowAnswer::bytes(alloc, self.part(start, length)?);
         }
-        let bytes = bytes_of(alloc, bytes)?;
-        self.put(start, bytes.as_slice())?;
+        self.put(start, bytes_of(alloc, bytes)?.as_slice())?;
         Ok(RowAnswer::Done)
     }
 

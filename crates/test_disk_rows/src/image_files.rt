@@ -126,8 +126,9 @@ impl ImageFiles {
             return Err(RowFault::Words);
         };
         let user = small(*user)?;
+        let name = name_of(alloc, *name)?;
         let mut drive = Drive::new(self.images.copy(alloc, image.text)?);
-        read_file(alloc, &mut drive, user, name_of(alloc, *name)?)
+        read_file(alloc, &mut drive, user, name)
     }
 
     /// `list IMAGE`: a line for each file, with its user, its name and its records, and one with the free blocks.

@@ -4,6 +4,7 @@
 mod directories;
 mod drives;
 mod fcb;
+mod file_functions;
 mod image_files;
 mod images;
 mod one_drive;

@@ -216,17 +216,27 @@ impl OneDrive {
         let place = number(*place)?;
         let dpb = self.drive.image.format().dpb();
         let mut fcb = Fcb::from_bytes(&dpb, &self.fcb.bytes);
-        let answer = match (verb, bytes) {
-            ("read-random", []) => {
-                self.drive
-                    .read_random(self.user, place, &mut fcb, &mut self.buffer)
-            }
-            ("read-random-protected", []) => self.read_random_protected(place, &mut fcb)?,
-            (_, []) => return Err(RowFault::Words),
+        let answer = match bytes {
+            [] => self.read_record(verb, place, &mut fcb)?,
             _ => self.write_record(verb, place, &mut fcb, &filled(alloc, bytes)?)?,
         };
         self.fcb.bytes = fcb.to_bytes(&dpb);
         record(alloc, answer)
+    }
+
+    /// A random read.
+    fn read_record(
+        &mut self,
+        verb: &str,
+        place: u16,
+        fcb: &mut Fcb,
+    ) -> Result<RecordAnswer, RowFault> {
+        let user = self.user;
+        match verb {
+            "read-random" => Ok(self.drive.read_random(user, place, fcb, &mut self.buffer)),
+            "read-random-protected" => self.read_random_protected(place, fcb),
+            _ => Err(RowFault::Words),
+        }
     }
 
     /// `read_random_protected`.
@@ -280,12 +290,25 @@ impl OneDrive {
                 let image = LentImage::new(self.drive.image.image());
                 one_or_none(alloc, compute_size(&image, self.user, &name))
             }
-            _ if self.drive.marks.is_protected => Err(RowFault::Unready),
-            ("erase", []) => code(alloc, self.drive.erase_files(self.user, &name)),
-            ("set-attributes", []) => {
-                code(alloc, Ok(self.drive.set_attributes(self.user, &name)))
-            }
-            ("rename", [other]) => self.rename(alloc, &name, *other),
+            _ => self.change_files(alloc, verb, &name, rest),
+        }
+    }
+
+    /// Does a line that changes all entries of a name: `erase NAME`, `set-attributes NAME` or `rename NAME OTHER`.
+    fn change_files(
+        &mut self,
+        alloc: Global,
+        verb: &str,
+        name: &[u8; 11],
+        rest: &[Word<'_>],
+    ) -> Result<RowAnswer, RowFault> {
+        if self.drive.marks.is_protected {
+            return Err(RowFault::Unready);
+        }
+        match (verb, rest) {
+            ("erase", []) => code(alloc, self.drive.erase_files(self.user, name)),
+            ("set-attributes", []) => code(alloc, Ok(self.drive.set_attributes(self.user, name))),
+            ("rename", [other]) => self.rename(alloc, name, *other),
             _ => Err(RowFault::Unknown),
         }
     }

@@ -51,8 +51,10 @@ pub(crate) fn byte_at(
     buffer: &[u8],
     arguments: &[Word<'_>],
 ) -> Result<RowAnswer, RowFault> {
-    let byte = buffer.get(count(only(arguments)?)?).ok_or(RowFault::Number)?;
-    RowAnswer::bytes(alloc, [*byte].as_slice())
+    match buffer.get(count(only(arguments)?)?) {
+        Some(byte) => RowAnswer::bytes(alloc, [*byte].as_slice()),
+        None => Err(RowFault::Number),
+    }
 }
 
 /// Whether a line is one about images, which `Images` does.
