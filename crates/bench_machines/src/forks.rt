@@ -24,20 +24,31 @@ pub fn fork_and_close(alloc: Global, system: Image, times: u64) -> Option<u64> {
     let mut host = host_of(alloc, system, 2)?;
     let id = run_one(alloc, &mut host)?;
     for _ in 0..times {
-        let fork = host.fork(alloc, id).ok()?;
-        host.close(fork).ok()?;
+        fork_and_close_one(alloc, &mut host, id)?;
     }
     Some(times)
+}
+
+fn fork_and_close_one(alloc: Global, host: &mut Host, id: SlotId) -> Option<()> {
+    let fork = host.fork(alloc, id).ok()?;
+    host.close(fork).ok()?;
+    Some(())
 }
 
 /// A host with so many sessions, of which the first has run a program and the others are forks of it.
 pub fn host_of_forks(alloc: Global, system: Image, sessions: u16) -> Option<Host> {
     let mut host = host_of(alloc, system, 64)?;
-    let id = run_one(alloc, &mut host)?;
+    fork_one(alloc, &mut host, sessions)?;
+    Some(host)
+}
+
+/// Opens a session that has run a program, and forks it so that there are so many.
+fn fork_one(alloc: Global, host: &mut Host, sessions: u16) -> Option<()> {
+    let id = run_one(alloc, host)?;
     for _ in 1..sessions {
         host.fork(alloc, id).ok()?;
     }
-    Some(host)
+    Some(())
 }
 
 /// A host with so many sessions, each of which was opened and has run the program itself.

@@ -41,7 +41,8 @@ fn resident(rt: &HostRuntime) -> Option<u64> {
 /// The number of that memory in the status of a process.
 fn most_resident(status: &str) -> Option<u64> {
     let (_, behind) = status.split_once("VmHWM:")?;
-    behind.split_whitespace().next()?.parse().ok()
+    let (number, _) = behind.trim_start().split_once(" kB")?;
+    number.parse().ok()
 }
 
 /// Makes so many memories in one store, each with a quota of 16 pages and one page written, and keeps them to the end.
@@ -51,10 +52,15 @@ fn share(rt: &HostRuntime, number: u64) -> Option<u64> {
         return None;
     }
     let mut store = FrameStore::new(rt.alloc(), 16 * number).ok()?;
-    for _ in 0..number {
-        share_one(&mut store)?;
-    }
+    share_all(&mut store, number)?;
     resident(rt)
+}
+
+fn share_all(store: &mut FrameStore, number: u16) -> Option<()> {
+    for _ in 0..number {
+        share_one(store)?;
+    }
+    Some(())
 }
 
 /// Makes one of them.
@@ -76,11 +82,16 @@ fn share_one(store: &mut FrameStore) -> Option<()> {
 
 /// Makes so many memories of their own, each with one page written, and keeps them to the end.
 fn own(rt: &HostRuntime, number: u64) -> Option<u64> {
-    let mut memories = Vec::new(rt.alloc());
-    for _ in 0..number {
-        memories.push(own_one(rt.alloc())?).ok()?;
-    }
+    let _memories = own_all(rt.alloc(), number)?;
     resident(rt)
+}
+
+fn own_all(alloc: Global, number: u64) -> Option<Vec<FlatMemory>> {
+    let mut memories = Vec::new(alloc);
+    for _ in 0..number {
+        memories.push(own_one(alloc)?).ok()?;
+    }
+    Some(memories)
 }
 
 /// Makes one of them.

@@ -61,10 +61,15 @@ fn four_drives(alloc: Global, format: Format) -> Option<Vec<Image>> {
 /// A host with so many sessions, each with four blank drives of this format and a quota of 16 pages.
 pub fn host_of_drives(alloc: Global, format: Format, sessions: u16) -> Option<Host> {
     let mut host = host_of(alloc, blank(alloc)?, 4)?;
-    for _ in 0..sessions {
-        open_with_four(alloc, &mut host, format)?;
-    }
+    open_all_with_four(alloc, &mut host, format, sessions)?;
     Some(host)
+}
+
+fn open_all_with_four(alloc: Global, host: &mut Host, format: Format, sessions: u16) -> Option<()> {
+    for _ in 0..sessions {
+        open_with_four(alloc, host, format)?;
+    }
+    Some(())
 }
 
 /// Opens a session with four blank drives.
@@ -116,11 +121,16 @@ fn in_turn(host: &mut Host, slots: &[SlotId], steps: u64, rounds: u64) -> Option
 /// Runs the program RUN.COM of the system drive in sessions in turn, and says how many steps were executed in all.
 pub fn run_host(alloc: Global, cpu: Cpu, system: Image, turns: &HostTurns) -> Option<u64> {
     let mut host = host_of(alloc, system, turns.sessions)?;
+    run_in_turn(alloc, cpu, &mut host, turns)
+}
+
+/// The same in this host.
+fn run_in_turn(alloc: Global, cpu: Cpu, host: &mut Host, turns: &HostTurns) -> Option<u64> {
     let mut slots = Vec::new(alloc);
     for _ in 0..turns.sessions {
-        slots.push(start(alloc, &mut host, cpu, turns.quota)?).ok()?;
+        slots.push(start(alloc, host, cpu, turns.quota)?).ok()?;
     }
-    in_turn(&mut host, slots.as_slice(), turns.steps, turns.rounds)
+    in_turn(host, slots.as_slice(), turns.steps, turns.rounds)
 }
 
 /// So many sessions that come to their prompts.
@@ -161,15 +171,30 @@ pub fn run_beside(
         return None;
     }
     let mut host = host_of(alloc, system, waiting + 1)?;
-    let worker = start(alloc, &mut host, Cpu::I8080, 256)?;
-    let others = prompts(alloc, &mut host, waiting)?;
-    beside(&mut host, worker, others.as_slice(), steps, rounds)
+    run_one_beside(alloc, &mut host, waiting, steps, rounds)
+}
+
+/// The same in this host.
+fn run_one_beside(
+    alloc: Global,
+    host: &mut Host,
+    waiting: u16,
+    steps: u64,
+    rounds: u64,
+) -> Option<u64> {
+    let worker = start(alloc, host, Cpu::I8080, 256)?;
+    let others = prompts(alloc, host, waiting)?;
+    beside(host, worker, others.as_slice(), steps, rounds)
 }
 
 /// Looks at a session so many times.
 pub fn look_often(alloc: Global, times: u64) -> Option<u64> {
     let mut host = host_of(alloc, blank(alloc)?, 1)?;
-    let id = open_one(alloc, &mut host)?;
+    look_at_one(alloc, &mut host, times)
+}
+
+fn look_at_one(alloc: Global, host: &mut Host, times: u64) -> Option<u64> {
+    let id = open_one(alloc, host)?;
     for _ in 0..times {
         host.look(id).ok()?;
     }
@@ -180,10 +205,15 @@ pub fn look_often(alloc: Global, times: u64) -> Option<u64> {
 pub fn open_and_close(alloc: Global, times: u64) -> Option<u64> {
     let mut host = host_of(alloc, blank(alloc)?, 1)?;
     for _ in 0..times {
-        let id = open_one(alloc, &mut host)?;
-        host.close(id).ok()?;
+        open_and_close_one(alloc, &mut host)?;
     }
     Some(times)
+}
+
+fn open_and_close_one(alloc: Global, host: &mut Host) -> Option<()> {
+    let id = open_one(alloc, host)?;
+    host.close(id).ok()?;
+    Some(())
 }
 
 /// Makes so many openings with a blank drive, and drops them.

@@ -42,11 +42,7 @@ fn reads_all(rt: &(impl Abort + AllocGlobal)) {
 }
 
 /// Fails unless zeros that fail there are refused so, and says how many were read.
-fn is_unread(
-    rt: &(impl Abort + AllocGlobal),
-    fails_at: Option<u64>,
-    wanted: ErrorKind,
-) -> u64 {
+fn is_unread(rt: &(impl Abort + AllocGlobal), fails_at: Option<u64>, wanted: ErrorKind) -> u64 {
     let mut zeros = Zeros { given: 0, fails_at };
     let error = read_whole(rt.alloc(), &mut zeros).expect_err(rt, "an error");
     same(rt, error.kind(), wanted);

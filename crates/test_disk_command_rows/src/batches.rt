@@ -31,7 +31,15 @@ impl Scene for Batches {
     }
 
     fn is_alone(verb: &str) -> bool {
-        ["config", "inputs", "status", "failures", "write-all", "told"].contains(&verb)
+        [
+            "config",
+            "inputs",
+            "status",
+            "failures",
+            "write-all",
+            "told",
+        ]
+        .contains(&verb)
     }
 
     fn takes_text(verb: &str) -> bool {
@@ -203,7 +211,10 @@ fn write_start(out: &mut String, start: &Start) -> Result<(), AllocError> {
             write!(out, ": opened on {cpu:?}, quota {quota}, drives {drives}")
         }
         Start::Forked { parent, at } => {
-            write!(out, ": forked from session {parent}, counted from 0, at {at}")
+            write!(
+                out,
+                ": forked from session {parent}, counted from 0, at {at}"
+            )
         }
     }
 }

@@ -238,12 +238,7 @@ impl DiskCommands {
     }
 
     /// The files of the user that a pattern names.
-    fn matches(
-        &self,
-        alloc: Global,
-        image: &str,
-        pattern: &str,
-    ) -> Result<Vec<FileName>, NotDone> {
+    fn matches(&self, alloc: Global, image: &str, pattern: &str) -> Result<Vec<FileName>, NotDone> {
         let user = self.user;
         if user >= 16 {
             return Err(NotDone::Fault(RowFault::Unready));

@@ -46,10 +46,7 @@ pub fn only<'a>(arguments: &[Word<'a>]) -> Result<Word<'a>, RowFault> {
 }
 
 /// The name of a file on the host, or `none`.
-pub fn shown_text(
-    alloc: Global,
-    text: Option<impl Display + Drop>,
-) -> Result<RowAnswer, RowFault> {
+pub fn shown_text(alloc: Global, text: Option<impl Display + Drop>) -> Result<RowAnswer, RowFault> {
     match text {
         Some(text) => RowAnswer::words(alloc, text),
         None => RowAnswer::words(alloc, "none"),

@@ -223,12 +223,7 @@ impl Directories {
     }
 
     /// `take-all FIRST LAST`: the lowest free blocks are taken from FIRST to LAST; whether they come in order.
-    fn take_blocks(
-        &mut self,
-        alloc: Global,
-        first: u16,
-        last: u16,
-    ) -> Result<RowAnswer, RowFault> {
+    fn take_blocks(&mut self, alloc: Global, first: u16, last: u16) -> Result<RowAnswer, RowFault> {
         for block in first..=last {
             match self.reserved.take_lowest(last) {
                 Ok(taken) if taken == block => {}

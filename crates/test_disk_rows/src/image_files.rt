@@ -4,7 +4,8 @@ use crate::words::{name as name_of, only, small, write_name};
 use cpm_drive::Drive;
 use cpm_geom::Image;
 use cpm_image_files::{
-    DiskFile, DiskListing, FileName, ImageFilesError, from_text, get, list, put, remove, rename, to_text,
+    DiskFile, DiskListing, FileName, ImageFilesError, from_text, get, list, put, remove, rename,
+    to_text,
 };
 use cpm_volume::{Answer as RecordAnswer, Extent, Fcb};
 use std::alloc::{AllocError, Global};
