@@ -251,8 +251,8 @@ fn named(error: LiveError) -> (&'static str, Option<ErrorKind>) {
 }
 
 fn input_fails(rt: &(impl Abort + AllocGlobal)) -> Result<(), Fail> {
-    let mut text = Vec::new(rt.alloc());
-    let mut lines = Vec::new(rt.alloc());
+    let mut text: Vec<u8> = Vec::new(rt.alloc());
+    let mut lines: Vec<u8> = Vec::new(rt.alloc());
     let dead = &mut KeyReader::new(FailingConsole);
     let list = &mut io::sink();
     let found = fault(rt.alloc(), READS, dead, &mut text, list, &mut lines)?;
@@ -264,7 +264,7 @@ fn input_fails(rt: &(impl Abort + AllocGlobal)) -> Result<(), Fail> {
 
 /// The echo of the first key can't be written; the key was recorded.
 fn output_fails<T: Typist>(rt: &(impl Abort + AllocGlobal), typed: &mut T) -> Result<(), Fail> {
-    let mut lines = Vec::new(rt.alloc());
+    let mut lines: Vec<u8> = Vec::new(rt.alloc());
     let out = &mut FailingConsole;
     let list = &mut io::sink();
     let found = fault(rt.alloc(), READS, typed, out, list, &mut lines)?;
@@ -274,7 +274,7 @@ fn output_fails<T: Typist>(rt: &(impl Abort + AllocGlobal), typed: &mut T) -> Re
 }
 
 fn record_fails<T: Typist>(rt: &(impl Abort + AllocGlobal), typed: &mut T) -> Result<(), Fail> {
-    let mut text = Vec::new(rt.alloc());
+    let mut text: Vec<u8> = Vec::new(rt.alloc());
     let record = &mut FailingConsole;
     let list = &mut io::sink();
     let found = fault(rt.alloc(), READS, typed, &mut text, list, record)?;
