@@ -68,7 +68,8 @@ fn told<T: Drop>(answer: Result<T, DiskCommandError>) -> CallOutcome {
 
 /// Makes the call of cpm_image_files of this name.
 pub fn of_image_files(alloc: Global, name: &str) -> Result<CallOutcome, AllocError> {
-    let (file, other) = (file()?, other()?);
+    let file = file()?;
+    let other = other()?;
     let disk = disk(alloc)?;
     Ok(match name {
         "put" => came(put(alloc, &disk, &other, TEXT)),
@@ -84,7 +85,8 @@ pub fn of_image_files(alloc: Global, name: &str) -> Result<CallOutcome, AllocErr
 
 /// Makes the call of cpm_disk_commands of this name.
 pub fn of_disk_commands(alloc: Global, name: &str) -> Result<CallOutcome, AllocError> {
-    let (file, other) = (file()?, other()?);
+    let file = file()?;
+    let other = other()?;
     let disk = disk(alloc)?;
     Ok(match name {
         "new_image" => told(new_image(alloc, true)),
