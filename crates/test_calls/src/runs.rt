@@ -232,10 +232,10 @@ fn filled(rt: &(impl Abort + AllocGlobal)) -> MemoryStore {
     let mut store = MemoryStore::new(rt.alloc());
     let blank = Image::blank(rt.alloc(), Format::Ibm3740).expect(rt, "memory");
     let bytes = blank.into_bytes();
-    same(rt, store.write("p.img", bytes.as_slice()), Ok(()));
-    same(rt, store.write("a.img", bytes.as_slice()), Ok(()));
-    same(rt, store.write("one.keys", b"0 DIR^M"), Ok(()));
-    same(rt, store.write("two.keys", b"60 X^M"), Ok(()));
+    store.write("p.img", bytes.as_slice()).expect(rt, "memory");
+    store.write("a.img", bytes.as_slice()).expect(rt, "memory");
+    store.write("one.keys", b"0 DIR^M").expect(rt, "memory");
+    store.write("two.keys", b"60 X^M").expect(rt, "memory");
     store
 }
 
