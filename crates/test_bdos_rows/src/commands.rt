@@ -1,6 +1,6 @@
 //! Rows of lines at the prompt, and what each of them is.
 
-use crate::text::add_quoted;
+use crate::text::{add_number, add_quoted};
 use cpm_ccp::{Command, parse_command};
 use cpm_directory::{Extent, Fcb};
 use std::alloc::{AllocError, Global};
@@ -37,10 +37,15 @@ fn parse(alloc: Global, arguments: &[Word<'_>]) -> Result<RowAnswer, RowFault> {
         return Err(RowFault::Words);
     };
     let text = bytes_of(alloc, text)?;
-    let command = parse_command(text.as_slice(), drive_of(drive.text)?);
+    Ok(RowAnswer::Words(command_words(alloc, *drive, text.as_slice())?))
+}
+
+/// What a line is where this drive is the current one, in words.
+fn command_words(alloc: Global, drive: Word<'_>, text: &[u8]) -> Result<String, RowFault> {
+    let command = parse_command(text, drive_of(drive.text)?);
     let mut words = String::new(alloc);
-    add_command(alloc, &mut words, command)?;
-    Ok(RowAnswer::Words(words))
+    add_command(alloc, &mut words, &command)?;
+    Ok(words)
 }
 
 /// The number of a drive by its letter, 0 for A.
@@ -52,24 +57,29 @@ fn drive_of(letter: &str) -> Result<u8, RowFault> {
 }
 
 /// Adds the name of a command and its operands.
-fn add_command(alloc: Global, out: &mut String, command: Command) -> Result<(), AllocError> {
+fn add_command(alloc: Global, out: &mut String, command: &Command) -> Result<(), AllocError> {
     match command {
-        Command::SelectDrive(drive) => {
-            out.push_str(format!(in alloc; "SelectDrive {drive}")?.as_str())
-        }
-        Command::User(user) => out.push_str(format!(in alloc; "User {user}")?.as_str()),
-        Command::Directory(file) => add_named(alloc, out, "Directory", &file),
-        Command::Erase(file) => add_named(alloc, out, "Erase", &file),
-        Command::EraseAll(file) => add_named(alloc, out, "EraseAll", &file),
-        Command::TypeFile(file) => add_named(alloc, out, "TypeFile", &file),
-        Command::Program(file) => add_named(alloc, out, "Program", &file),
+        Command::Directory(file) => add_named(alloc, out, "Directory", file),
+        Command::Erase(file) => add_named(alloc, out, "Erase", file),
+        Command::EraseAll(file) => add_named(alloc, out, "EraseAll", file),
+        Command::TypeFile(file) => add_named(alloc, out, "TypeFile", file),
+        Command::Program(file) => add_named(alloc, out, "Program", file),
+        _ => add_other(alloc, out, command),
+    }
+}
+
+/// The same of a command that has no file, or more than one.
+fn add_other(alloc: Global, out: &mut String, command: &Command) -> Result<(), AllocError> {
+    match command {
+        Command::SelectDrive(drive) => add_number(alloc, out, "SelectDrive ", u16::from(*drive)),
+        Command::User(user) => add_number(alloc, out, "User ", u16::from(*user)),
         Command::Save { pages, file } => {
-            out.push_str(format!(in alloc; "Save {pages}")?.as_str())?;
-            add_file(alloc, out, &file)
+            add_number(alloc, out, "Save ", u16::from(*pages))?;
+            add_file(alloc, out, file)
         }
         Command::Rename { old, new } => {
-            add_named(alloc, out, "Rename", &old)?;
-            add_file(alloc, out, &new)
+            add_named(alloc, out, "Rename", old)?;
+            add_file(alloc, out, new)
         }
         _ => out.push_str(format!(in alloc; "{command:?}")?.as_str()),
     }
@@ -83,8 +93,14 @@ fn add_named(alloc: Global, out: &mut String, name: &str, file: &Fcb) -> Result<
 
 /// Adds the drive of a file control block, 1 for A, and its name; and that it has more than these, if it has.
 fn add_file(alloc: Global, out: &mut String, file: &Fcb) -> Result<(), AllocError> {
-    out.push_str(format!(in alloc; " {} ", file.drive)?.as_str())?;
+    add_number(alloc, out, " ", u16::from(file.drive))?;
+    out.push(' ')?;
     add_quoted(alloc, out, &file.extent.name)?;
+    out.push_str(if has_more(file) { " and more" } else { "" })
+}
+
+/// Whether a file control block has more than a drive and a name.
+fn has_more(file: &Fcb) -> bool {
     let plain = Fcb {
         drive: file.drive,
         extent: Extent {
@@ -98,8 +114,5 @@ fn add_file(alloc: Global, out: &mut String, file: &Fcb) -> Result<(), AllocErro
         current_record: 0,
         random_record: [0; 3],
     };
-    if *file != plain {
-        out.push_str(" and more")?;
-    }
-    Ok(())
+    *file != plain
 }

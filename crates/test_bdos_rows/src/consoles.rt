@@ -20,14 +20,28 @@ pub struct Consoles {
 /// A console whose cursor stands at a column, and of which all bytes were taken.
 pub fn console_at(alloc: Global, column: u8) -> Result<Console, RowFault> {
     let mut console = Console::new(alloc)?;
+    move_to(&mut console, column)?;
+    taken(alloc, &mut console)?;
+    Ok(console)
+}
+
+/// Shows so many spaces.
+fn move_to(console: &mut Console, column: u8) -> Result<(), RowFault> {
     for _ in 0..column {
         if console.held() >= RING {
             return Err(RowFault::Unready);
         }
         console.put(b' ');
     }
-    taken(alloc, &mut console)?;
-    Ok(console)
+    Ok(())
+}
+
+/// The bytes that were taken; a refusal where others were moved too.
+fn taken_answer(alloc: Global, taken: &[u8], rest: &[u8]) -> Result<RowAnswer, RowFault> {
+    if rest.iter().any(|byte| *byte != UNTOUCHED) {
+        return RowAnswer::refused_text(alloc, "more bytes were moved than it says");
+    }
+    RowAnswer::bytes(alloc, taken)
 }
 
 impl Consoles {
@@ -45,14 +59,19 @@ impl Consoles {
         let [times] = arguments else {
             return Err(RowFault::Words);
         };
+        Ok(RowAnswer::Bytes(self.next_keys(alloc, count(*times)?)?))
+    }
+
+    /// So many keys, or as many as are pending.
+    fn next_keys(&mut self, alloc: Global, times: usize) -> Result<Vec<u8>, AllocError> {
         let mut keys = Vec::new(alloc);
-        for _ in 0..count(*times)? {
+        for _ in 0..times {
             match self.console.next_key() {
                 Some(key) => keys.push(key)?,
                 None => break,
             }
         }
-        RowAnswer::bytes(alloc, keys.as_slice())
+        Ok(keys)
     }
 
     /// `put BYTES`: shows bytes one by one as they are.
@@ -123,12 +142,31 @@ impl Consoles {
         if most > MOST_TAKEN {
             return Err(RowFault::Number);
         }
+        self.take_up_to(alloc, device, most)
+    }
+
+    /// Moves out so many bytes, or as many as wait.
+    fn take_up_to(
+        &mut self,
+        alloc: Global,
+        device: Device,
+        most: usize,
+    ) -> Result<RowAnswer, RowFault> {
         let mut out = vec![in alloc; UNTOUCHED; most]?;
         let count = self.console.take_from(device, out.as_mut_slice());
-        if out[count..].iter().any(|byte| *byte != UNTOUCHED) {
-            return RowAnswer::refused_text(alloc, "more bytes were moved than it says");
+        taken_answer(alloc, &out[..count], &out[count..])
+    }
+
+    /// Does a line that asks the console.
+    fn look(&self, alloc: Global, verb: &str) -> Result<RowAnswer, RowFault> {
+        match verb {
+            "first-key" => key_answer(alloc, self.console.first_key()),
+            "pending" => RowAnswer::words(alloc, self.console.pending()),
+            "held" => RowAnswer::words(alloc, self.console.held()),
+            "held-list" => RowAnswer::words(alloc, self.console.held_list()),
+            "column" => RowAnswer::words(alloc, self.console.column()),
+            _ => RowAnswer::truth(alloc, self.console.has_room()),
         }
-        RowAnswer::bytes(alloc, &out[..count])
     }
 
     /// Does a line that has bytes.
@@ -175,12 +213,7 @@ impl Scene for Consoles {
             "take" => self.take(alloc, Device::Console, line.arguments()),
             "list" => self.take(alloc, Device::List, line.arguments()),
             "list-echo" => list_echo(alloc, &mut self.console, line.arguments()),
-            "first-key" => key_answer(alloc, self.console.first_key()),
-            "pending" => RowAnswer::words(alloc, self.console.pending()),
-            "held" => RowAnswer::words(alloc, self.console.held()),
-            "held-list" => RowAnswer::words(alloc, self.console.held_list()),
-            "column" => RowAnswer::words(alloc, self.console.column()),
-            "has-room" => RowAnswer::truth(alloc, self.console.has_room()),
+            verb if Consoles::is_alone(verb) => self.look(alloc, verb),
             verb => self.act_on_bytes(alloc, verb, bytes_of(alloc, line.arguments())?.as_slice()),
         }
     }

@@ -38,7 +38,19 @@ impl EditedLines {
             return Err(RowFault::Unready);
         }
         self.progress = self.draft.key_into_line(&mut self.console, key);
-        RowAnswer::bytes(alloc, taken(alloc, &mut self.console)?.as_slice())
+        Ok(RowAnswer::Bytes(taken(alloc, &mut self.console)?))
+    }
+
+    /// Does a line that leaves all as it is.
+    fn look(&self, alloc: Global, verb: &str) -> Result<RowAnswer, RowFault> {
+        match verb {
+            "line" => RowAnswer::bytes(alloc, self.draft.characters()),
+            "start" => RowAnswer::words(alloc, self.draft.start()),
+            "limit" => RowAnswer::words(alloc, self.draft.limit()),
+            "progress" => RowAnswer::name(alloc, self.progress),
+            "column" => RowAnswer::words(alloc, self.console.column()),
+            _ => Err(RowFault::Unknown),
+        }
     }
 }
 
@@ -66,13 +78,8 @@ impl Scene for EditedLines {
         match line.verb() {
             "begin" => self.begin(alloc, line.arguments()),
             "key" => self.key(alloc, line.arguments()),
-            "line" => RowAnswer::bytes(alloc, self.draft.characters()),
-            "start" => RowAnswer::words(alloc, self.draft.start()),
-            "limit" => RowAnswer::words(alloc, self.draft.limit()),
-            "progress" => RowAnswer::name(alloc, self.progress),
-            "column" => RowAnswer::words(alloc, self.console.column()),
-            "list" => RowAnswer::bytes(alloc, taken_list(alloc, &mut self.console)?.as_slice()),
-            _ => Err(RowFault::Unknown),
+            "list" => Ok(RowAnswer::Bytes(taken_list(alloc, &mut self.console)?)),
+            verb => self.look(alloc, verb),
         }
     }
 }

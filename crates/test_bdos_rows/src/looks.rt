@@ -27,6 +27,44 @@ fn register_of<'a>(regs: &'a mut Regs, name: &str) -> Option<&'a mut u8> {
     }
 }
 
+/// What a register of 8 bits, PC or SP has.
+fn register_value(alloc: Global, regs: &mut Regs, name: &str) -> Result<RowAnswer, RowFault> {
+    match name {
+        "PC" => RowAnswer::address(alloc, regs.pc),
+        "SP" => RowAnswer::address(alloc, regs.sp),
+        _ => match register_of(regs, name) {
+            Some(register) => RowAnswer::byte(alloc, *register),
+            None => Err(RowFault::Words),
+        },
+    }
+}
+
+/// Gives a register of 8 bits or PC the value that a word names.
+fn set_register(regs: &mut Regs, name: &str, value: Word<'_>) -> Result<RowAnswer, RowFault> {
+    if name == "PC" {
+        regs.pc = address(value)?;
+        return Ok(RowAnswer::Done);
+    }
+    match register_of(regs, name) {
+        Some(register) => {
+            *register = byte(value)?;
+            Ok(RowAnswer::Done)
+        }
+        None => Err(RowFault::Words),
+    }
+}
+
+/// The number of a drive by its letter, among those that a session has.
+fn drive_number(letter: &str) -> Option<usize> {
+    match letter {
+        "A" => Some(0),
+        "B" => Some(1),
+        "C" => Some(2),
+        "D" => Some(3),
+        _ => None,
+    }
+}
+
 impl Caller {
     /// `register NAME`: what a register of 8 bits, PC or SP has. `register NAME HH`, or HHHH for PC: it gets this.
     pub fn register(
@@ -36,23 +74,8 @@ impl Caller {
     ) -> Result<RowAnswer, RowFault> {
         let regs = &mut self.session.regs;
         match arguments {
-            [name] if name.text == "PC" => RowAnswer::address(alloc, regs.pc),
-            [name] if name.text == "SP" => RowAnswer::address(alloc, regs.sp),
-            [name, value] if name.text == "PC" => {
-                regs.pc = address(*value)?;
-                Ok(RowAnswer::Done)
-            }
-            [name] => match register_of(regs, name.text) {
-                Some(register) => RowAnswer::byte(alloc, *register),
-                None => Err(RowFault::Words),
-            },
-            [name, value] => match register_of(regs, name.text) {
-                Some(register) => {
-                    *register = byte(*value)?;
-                    Ok(RowAnswer::Done)
-                }
-                None => Err(RowFault::Words),
-            },
+            [name] => register_value(alloc, regs, name.text),
+            [name, value] => set_register(regs, name.text, *value),
             _ => Err(RowFault::Words),
         }
     }
@@ -107,12 +130,8 @@ impl Caller {
 
     /// The bytes of a record of a drive, named by its letter.
     fn record(&self, drive: &str, number: u16) -> Result<&[u8], RowFault> {
-        let place = match drive {
-            "A" => 0,
-            "B" => 1,
-            "C" => 2,
-            "D" => 3,
-            _ => return Err(RowFault::Words),
+        let Some(place) = drive_number(drive) else {
+            return Err(RowFault::Words);
         };
         match self.session.disks.drives.get(place) {
             Some(Some(drive)) => drive.image.record(number).map_err(|_| RowFault::Absent),
@@ -134,10 +153,22 @@ impl Caller {
             return Err(RowFault::Words);
         };
         let (entry, place, length) = (middle(*entry)?, count(*place)?, count(*length)?);
+        self.entry_bytes(alloc, drive.text, entry, place, length)
+    }
+
+    /// So many bytes of a directory entry, from a place on.
+    fn entry_bytes(
+        &self,
+        alloc: Global,
+        drive: &str,
+        entry: u16,
+        place: usize,
+        length: usize,
+    ) -> Result<RowAnswer, RowFault> {
         if place > ENTRY || length > ENTRY - place {
             return Err(RowFault::Number);
         }
-        let record = self.record(drive.text, entry / 4)?;
+        let record = self.record(drive, entry / 4)?;
         let from = ENTRY * usize::from(entry % 4) + place;
         match record.get(from..from + length) {
             Some(bytes) => RowAnswer::bytes(alloc, bytes),

@@ -1,35 +1,53 @@
 //! The mode of a session in words: `Program`, `Text 8001`, `Hold Call`, `Command Directory 1 1`.
 
+use crate::text::{add_address, add_number};
 use cpm_bdos::{CommandPart, HeldOutput, Mode};
 use std::alloc::{AllocError, Global};
 use test_language::{RowFault, Word, address};
 
 /// The words of a mode.
 pub fn mode_words(alloc: Global, mode: Mode) -> Result<String, AllocError> {
+    let mut words = String::new(alloc);
+    add_mode(alloc, &mut words, mode)?;
+    Ok(words)
+}
+
+/// Adds the words of a mode.
+fn add_mode(alloc: Global, out: &mut String, mode: Mode) -> Result<(), AllocError> {
     match mode {
-        Mode::Text { next } => format!(in alloc; "Text {next:04X}"),
-        Mode::Hold(held) => format!(in alloc; "Hold {}", held_words(alloc, held)?),
-        Mode::Command(part) => format!(in alloc; "Command {}", part_words(alloc, part)?),
-        _ => format!(in alloc; "{mode:?}"),
+        Mode::Text { next } => add_address(alloc, out, "Text ", next),
+        Mode::Hold(held) => add_held(alloc, out, held),
+        Mode::Command(part) => {
+            out.push_str("Command ")?;
+            add_part(alloc, out, part)
+        }
+        _ => out.push_str(format!(in alloc; "{mode:?}")?.as_str()),
     }
 }
 
-/// The words of what is held.
-fn held_words(alloc: Global, held: HeldOutput) -> Result<String, AllocError> {
+/// Adds the words of what is held.
+fn add_held(alloc: Global, out: &mut String, held: HeldOutput) -> Result<(), AllocError> {
+    out.push_str("Hold ")?;
     match held {
-        HeldOutput::Call => format!(in alloc; "Call"),
-        HeldOutput::Text { next } => format!(in alloc; "Text {next:04X}"),
-        HeldOutput::Command(part) => part_words(alloc, part),
+        HeldOutput::Call => out.push_str("Call"),
+        HeldOutput::Text { next } => add_address(alloc, out, "Text ", next),
+        HeldOutput::Command(part) => add_part(alloc, out, part),
     }
 }
 
-/// The words of a part of the command processor.
-fn part_words(alloc: Global, part: CommandPart) -> Result<String, AllocError> {
+/// Adds the words of a part of the command processor.
+fn add_part(alloc: Global, out: &mut String, part: CommandPart) -> Result<(), AllocError> {
     match part {
-        CommandPart::Directory { next, column } => format!(in alloc; "Directory {next} {column}"),
-        CommandPart::Save { next, left } => format!(in alloc; "Save {next:04X} {left}"),
-        CommandPart::Load { next } => format!(in alloc; "Load {next:04X}"),
-        _ => format!(in alloc; "{part:?}"),
+        CommandPart::Directory { next, column } => {
+            add_number(alloc, out, "Directory ", next)?;
+            add_number(alloc, out, " ", u16::from(column))
+        }
+        CommandPart::Save { next, left } => {
+            add_address(alloc, out, "Save ", next)?;
+            add_number(alloc, out, " ", left)
+        }
+        CommandPart::Load { next } => add_address(alloc, out, "Load ", next),
+        _ => out.push_str(format!(in alloc; "{part:?}")?.as_str()),
     }
 }
 

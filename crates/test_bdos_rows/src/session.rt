@@ -28,9 +28,10 @@ pub struct Caller {
 impl Caller {
     /// A session with these drives, the first as A, and this system drive.
     pub fn new(alloc: Global, images: Vec<Image>, system: Image) -> Result<Caller, AllocError> {
+        let (console, memory) = (Console::new(alloc)?, FlatMemory::new(alloc)?);
         Ok(Caller {
-            session: Session::new(Console::new(alloc)?, images),
-            memory: FlatMemory::new(alloc)?,
+            session: Session::new(console, images),
+            memory,
             system,
         })
     }
@@ -54,7 +55,12 @@ impl Caller {
             return Err(RowFault::Words);
         };
         let bytes = bytes_of(alloc, bytes)?;
-        self.put(address(*from)?, bytes.as_slice())
+        self.put_at(*from, bytes.as_slice())
+    }
+
+    /// Puts bytes into memory, at the address that a word names.
+    fn put_at(&mut self, from: Word<'_>, bytes: &[u8]) -> Result<RowAnswer, RowFault> {
+        self.put(address(from)?, bytes)
     }
 
     /// `fcb HHHH DRIVE NAME`: puts a file control block of a drive and a name, which else has zeros.
@@ -63,13 +69,23 @@ impl Caller {
             return Err(RowFault::Words);
         };
         let name = bytes_of(alloc, name)?;
+        self.put_file(*from, *drive, name.as_slice())
+    }
+
+    /// Puts a file control block of a drive and a name.
+    fn put_file(
+        &mut self,
+        from: Word<'_>,
+        drive: Word<'_>,
+        name: &[u8],
+    ) -> Result<RowAnswer, RowFault> {
         if name.len() != 11 {
             return Err(RowFault::Bytes);
         }
         let mut bytes = [0; 36];
-        bytes[0] = small(*drive)?;
-        bytes[1..12].copy_from_slice(name.as_slice());
-        self.put(address(*from)?, &bytes)
+        bytes[0] = small(drive)?;
+        bytes[1..12].copy_from_slice(name);
+        self.put_at(from, &bytes)
     }
 
     /// Comes to an address as a program does by CALL, with all other registers 55h.

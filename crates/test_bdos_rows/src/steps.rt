@@ -1,12 +1,13 @@
 //! The steps of a session: calls of the BDOS and the BIOS, and parts of the command processor.
 
 use crate::session::{BACK, Caller};
-use crate::text::{add_quoted, small, taken};
+use crate::text::{add_quoted, small, taken, takes_all};
 use cpm_bdos::{Mode, Went};
 use cpm_ccp::{ccp_step, load_step};
+use cpm_flags::Regs;
 use cpm_memory::has_room;
 use cpm_volume::Fault as DiskFault;
-use std::alloc::Global;
+use std::alloc::{AllocError, Global};
 use test_language::{RowAnswer, RowFault, Word, address, bytes_of};
 
 /// Where the command processor is called.
@@ -20,6 +21,17 @@ const RETURNED: u16 = 0xEBFE;
 
 /// The most steps that keys at a prompt may take.
 const MOST_STEPS: u32 = 10_000;
+
+/// The fault of this name.
+fn fault_of(name: &str) -> Option<DiskFault> {
+    match name {
+        "BadSector" => Some(DiskFault::BadSector),
+        "Select" => Some(DiskFault::Select),
+        "FileReadOnly" => Some(DiskFault::FileReadOnly),
+        "ReadOnly" => Some(DiskFault::ReadOnly),
+        _ => None,
+    }
+}
 
 impl Caller {
     /// One step of the BDOS.
@@ -106,17 +118,27 @@ impl Caller {
 
     /// The message of a fault, which a key then ends.
     fn boot_by_key(&mut self, alloc: Global) -> Result<RowAnswer, RowFault> {
-        let shown = taken(alloc, &mut self.session.console)?;
-        let mut message = String::new(alloc);
-        add_quoted(alloc, &mut message, shown.as_slice())?;
-        if !self.session.console.give(b' ') {
-            return Err(RowFault::Unready);
-        }
-        let went = self.step()?;
-        if went != Went::Reboot || !self.is_booted() {
+        let mut message = self.take_quoted(alloc)?;
+        if !self.boots_by_key()? {
             message.push_str(" and no boot")?;
         }
         Ok(RowAnswer::Refused(message))
+    }
+
+    /// What the console shows, which is taken, between quotes.
+    fn take_quoted(&mut self, alloc: Global) -> Result<String, AllocError> {
+        let shown = taken(alloc, &mut self.session.console)?;
+        let mut message = String::new(alloc);
+        add_quoted(alloc, &mut message, shown.as_slice())?;
+        Ok(message)
+    }
+
+    /// Presses a key. Whether the next step boots.
+    fn boots_by_key(&mut self) -> Result<bool, RowFault> {
+        if !self.session.console.give(b' ') {
+            return Err(RowFault::Unready);
+        }
+        Ok(self.step()? == Went::Reboot && self.is_booted())
     }
 
     /// `step`: one step of the BDOS.
@@ -135,8 +157,19 @@ impl Caller {
         self.put_pairs(words)?;
         let before = self.session.regs;
         let went = self.bios_step(function)?;
-        let after = self.session.regs;
-        let mut kept = before;
+        if !self.keeps_others(&before, went) {
+            return RowAnswer::refused_text(alloc, "other registers changed");
+        }
+        match went {
+            Went::Returned => Ok(RowAnswer::Words(self.bios_words(alloc)?)),
+            _ => RowAnswer::name(alloc, went),
+        }
+    }
+
+    /// Whether a function of the BIOS that went so left all registers as they were but those of its result, and the mode.
+    fn keeps_others(&self, before: &Regs, went: Went) -> bool {
+        let after = &self.session.regs;
+        let mut kept = *before;
         if went == Went::Returned {
             kept.pc = BACK;
             kept.sp = RETURNED;
@@ -144,16 +177,14 @@ impl Caller {
             kept.h = after.h;
             kept.l = after.l;
         }
-        if went != Went::Reboot && (after != kept || self.session.mode != Mode::Program) {
-            return RowAnswer::refused_text(alloc, "other registers changed");
-        }
-        match went {
-            Went::Returned => RowAnswer::words(
-                alloc,
-                format!(in alloc; "{:02X} {:02X}{:02X}", after.a, after.h, after.l)?,
-            ),
-            _ => RowAnswer::name(alloc, went),
-        }
+        went == Went::Reboot || (*after == kept && self.session.mode == Mode::Program)
+    }
+
+    /// A and HL.
+    fn bios_words(&self, alloc: Global) -> Result<String, AllocError> {
+        let Regs { a, h, l, .. } = self.session.regs;
+        let hl = 256 * u16::from(h) + u16::from(l);
+        format!(in alloc; "{a:02X} {hl:04X}")
     }
 
     /// Puts words into BC and DE.
@@ -185,19 +216,34 @@ impl Caller {
         alloc: Global,
         arguments: &[Word<'_>],
     ) -> Result<RowAnswer, RowFault> {
-        for key in bytes_of(alloc, arguments)?.as_slice() {
-            if !self.session.console.give(*key) {
-                return RowAnswer::refused_text(alloc, "KeysFull");
-            }
+        let keys = bytes_of(alloc, arguments)?;
+        if !takes_all(&mut self.session.console, keys.as_slice()) {
+            return RowAnswer::refused_text(alloc, "KeysFull");
         }
+        self.run_prompt(alloc)
+    }
+
+    /// Makes steps until a program runs or a key is waited for, and answers their number.
+    fn run_prompt(&mut self, alloc: Global) -> Result<RowAnswer, RowFault> {
+        match self.steps_to_wait()? {
+            Some(steps) => RowAnswer::words(alloc, steps),
+            None => RowAnswer::refused_text(alloc, "no end"),
+        }
+    }
+
+    /// The number of these steps, unless there are too many.
+    fn steps_to_wait(&mut self) -> Result<Option<u32>, RowFault> {
         for steps in 0..MOST_STEPS {
-            let is_in_program = self.session.mode == Mode::Program
-                && self.session.regs.pc != PROMPT;
-            if is_in_program || self.command_step()? == Went::Waits {
-                return RowAnswer::words(alloc, steps);
+            if self.is_in_program() || self.command_step()? == Went::Waits {
+                return Ok(Some(steps));
             }
         }
-        RowAnswer::refused_text(alloc, "no end")
+        Ok(None)
+    }
+
+    /// Whether a program runs.
+    fn is_in_program(&self) -> bool {
+        self.session.mode == Mode::Program && self.session.regs.pc != PROMPT
     }
 
     /// `fault NAME DRIVE`: comes into a fault on a drive, 0 for A.
@@ -205,12 +251,8 @@ impl Caller {
         let [name, drive] = arguments else {
             return Err(RowFault::Words);
         };
-        let fault = match name.text {
-            "BadSector" => DiskFault::BadSector,
-            "Select" => DiskFault::Select,
-            "FileReadOnly" => DiskFault::FileReadOnly,
-            "ReadOnly" => DiskFault::ReadOnly,
-            _ => return Err(RowFault::Words),
+        let Some(fault) = fault_of(name.text) else {
+            return Err(RowFault::Words);
         };
         let drive = small(*drive)?;
         if !self.session.console.has_room() {

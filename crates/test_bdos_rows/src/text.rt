@@ -18,15 +18,37 @@ pub fn middle(word: Word<'_>) -> Result<u16, RowFault> {
 pub fn add_quoted(alloc: Global, out: &mut String, bytes: &[u8]) -> Result<(), AllocError> {
     out.push('"')?;
     for byte in bytes {
-        match *byte {
-            b'\r' => out.push_str("\\r")?,
-            b'\n' => out.push_str("\\n")?,
-            b'\\' => out.push_str("\\\\")?,
-            b' ' | b'!' | b'#'..=b'~' => out.push(char::from(*byte))?,
-            _ => out.push_str(format!(in alloc; "\\x{byte:02X}")?.as_str())?,
-        }
+        add_character(alloc, out, *byte)?;
     }
     out.push('"')
+}
+
+/// Adds a byte to a text, as it stands between quotes.
+fn add_character(alloc: Global, out: &mut String, byte: u8) -> Result<(), AllocError> {
+    match byte {
+        b'\r' => out.push_str("\\r"),
+        b'\n' => out.push_str("\\n"),
+        b'\\' => out.push_str("\\\\"),
+        b' ' | b'!' | b'#'..=b'~' => out.push(char::from(byte)),
+        _ => out.push_str(format!(in alloc; "\\x{byte:02X}")?.as_str()),
+    }
+}
+
+/// Adds a word and a decimal number to a text.
+pub fn add_number(
+    alloc: Global,
+    out: &mut String,
+    word: &str,
+    value: u16,
+) -> Result<(), AllocError> {
+    out.push_str(word)?;
+    out.push_str(format!(in alloc; "{value}")?.as_str())
+}
+
+/// Adds a word and an address to a text.
+pub fn add_address(alloc: Global, out: &mut String, word: &str, at: u16) -> Result<(), AllocError> {
+    out.push_str(word)?;
+    out.push_str(format!(in alloc; "{at:04X}")?.as_str())
 }
 
 /// All bytes that the console holds, which are taken.
@@ -45,12 +67,21 @@ pub fn taken_list(alloc: Global, console: &mut Console) -> Result<Vec<u8>, Alloc
 
 /// Presses keys, until one is refused.
 pub fn press(alloc: Global, console: &mut Console, keys: &[u8]) -> Result<RowAnswer, RowFault> {
+    if takes_all(console, keys) {
+        Ok(RowAnswer::Done)
+    } else {
+        RowAnswer::refused_text(alloc, "KeysFull")
+    }
+}
+
+/// Presses keys, until one is refused. Whether none is.
+pub fn takes_all(console: &mut Console, keys: &[u8]) -> bool {
     for key in keys {
         if !console.give(*key) {
-            return RowAnswer::refused_text(alloc, "KeysFull");
+            return false;
         }
     }
-    Ok(RowAnswer::Done)
+    true
 }
 
 /// A key, if one is there: two digits, or `none`.
