@@ -208,5 +208,6 @@ fn a_watcher_is_told_what_begins(rt: HostRuntime) {
         &mut stages,
     );
     assert!(rt; ran.is_ok());
-    assert!(rt; matches!(stages.begun.as_slice(), [RunStage::Typing, RunStage::Alone(1), RunStage::All]));
+    let begun = stages.begun.as_slice();
+    assert!(rt; matches!(begun, [RunStage::Typing, RunStage::Alone(1), RunStage::All]));
 }
