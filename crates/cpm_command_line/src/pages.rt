@@ -114,7 +114,8 @@ where its program counter then stood, as in 'end Exited count 7 pc E406':
   Running   its steps or the typing ended, or it waited under --stop-idle
   CountEnd  its count of steps can't rise any more
 
-With --stop-idle its last word is 'waiting' where the program waited for a key.
+With --stop-idle it has 'waiting' where the program waited for a key. Its last
+word is 'quit', 'input-end' or 'signal' where typing ended it.
 The line before 'end Illegal' has the bytes that it came to.
 ";
 
@@ -207,9 +208,10 @@ Examples:
   cpmhost run lab.toml --within lab --outputs-here
 
 A line on standard output says for each session its name, how it ended, after
-how many steps, and how many bytes its console got. With --stop-idle its last
-word is 'waiting' where the session waited for a key. The ends are those that
-'cpmhost help com' lists, but for Exited, and one more:
+how many steps, and how many bytes its console got. With --stop-idle it has
+'waiting' then where the session waited for a key. The last word of a session
+of --keyboard is 'quit', 'input-end' or 'signal' where typing ended it. The ends
+are those that 'cpmhost help com' lists, but for Exited, and one more:
   Quota     its next step might have written more pages than its quota
 ";
 
@@ -260,7 +262,7 @@ Exit status:
   9   the program in FILE has more than 58,112 bytes, or the quotas of all
       sessions exceed the frames of the configuration
   10  a program was cut off by its limit of steps, so that its drives were not
-      written, nor files of theirs
+      written, nor files of theirs, nor what it sent to the printer
   11  with --status: the program still runs, its end was Running
   12  with --status: its end was Illegal
   13  with --status: its end was Quota

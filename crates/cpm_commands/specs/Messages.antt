@@ -7,24 +7,15 @@ use Rattle.cpm_flags.specs.declared.regs.Cpu.TheVariants.{I8080, Z80}
 use Rattle.cpm_machine.specs.declared.reply.End.{End}
 use Rattle.cpm_machine.specs.declared.reply.End.TheVariants.{Illegal}
 use Rattle.cpm_play.specs.declared.live.PlayEnd.{PlayEnd}
-use Rattle.cpm_play.specs.declared.live.PlayEnd.TheVariants.{Typing}
-use Rattle.cpm_play.specs.declared.typist.TypingEnd.TheVariants.{Quit, InputEnd, Signal}
 use Rattle.cpm_run.specs.Ending.{ending_text, illegal_of, illegal_text}
 use Rattle.cpm_run.specs.declared.ending.Ending.{Ending}
 use Rattle.cpm_run.specs.declared.report.SessionReport.{SessionReport}
 use Rattle.cpm_disk_commands.specs.declared.damage.NamedFile.{NamedFile}
 use Rattle.cpm_commands.specs.Drives.{AreToldBy}
 use Rattle.cpm_commands.specs.OutFolder.{IsUnwrittenTold}
-use Rattle.cpm_commands.specs.Report.{waiting_word}
+use Rattle.cpm_commands.specs.Report.{typing_word, waiting_word}
 
 -- ---- of a program
-
--- the word for why no more was typed, where that ended it
-abbrev pub typing_word : Option PlayEnd → List ℕ
-typing_word (Some (Typing Quit)) = codes " quit"
-typing_word (Some (Typing InputEnd)) = codes " input-end"
-typing_word (Some (Typing Signal)) = codes " signal"
-typing_word end = []
 
 -- the last line: how it ended, whether it was to stop where it waits for a key, and did, and why no more was typed
 abbrev pub end_line : Ending → Bool → Option PlayEnd → List ℕ

@@ -178,7 +178,7 @@ pub record HasRunSessions {F : Type 0} (does : F → StoreAccess → F → Type 
   pub prepared : IsRunPrepared does sees_to task old seen config replays scripts None
   pub played : HasRunAll does tells_name task config replays scripts report (streams unread left before shown unrecorded record_now) seen ran
   pub named : gives_names ran None new
-  pub printed_so : IsReported shown printed (report_text (zip report.sessions.items report.idle.items))
+  pub printed_so : IsReported shown printed (report_text (zip report.sessions.items report.stops.items))
   pub tells : told report.sessions.items
   pub recorded : ended None
 
@@ -219,6 +219,6 @@ pub data IsRunStopped {F : Type 0} (does : F → StoreAccess → F → Type 0) (
   NotRecorded : (config : Config) (replays : List Replay) (scripts : List (String Global)) (seen ran : F) (report : Report) (shown : Option (List ℕ))
       → IsRunPrepared does sees_to task old seen config replays scripts None
       → HasRunAll does tells_name task config replays scripts report (streams unread left before shown unrecorded record_now) seen ran
-      → gives_names ran None new → IsReported shown printed (report_text (zip report.sessions.items report.idle.items)) → told report.sessions.items
+      → gives_names ran None new → IsReported shown printed (report_text (zip report.sessions.items report.stops.items)) → told report.sessions.items
       → ended (Some e) → IsUnrecorded e
       → IsRunStopped does sees_to gives_names tells_name ended told task old new unread left before printed unrecorded record_now e

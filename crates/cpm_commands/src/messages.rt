@@ -1,13 +1,13 @@
 //! What a person is told of a command, beside what it prints.
 ghost use Rattle.std.specs.Prelude.{◌≡◌, ◌++◌, ℕ, Bool, List, Some, codes, string_bytes};
 ghost use Rattle.cpm_commands.specs.Messages.{AreHintsTold, AreIllegalTold, IsEndTold, IsIllegalTold, end_line, list_hint, needs_z80};
-ghost use Rattle.cpm_commands.specs.Messages.{typing_word, z80_hint};
+ghost use Rattle.cpm_commands.specs.Messages.{z80_hint};
 ghost use Rattle.cpm_run.specs.Ending.{illegal_text};
 
-use crate::report::waiting_word;
+use crate::report::{typing_word, waiting_word};
 use cpm_decode::rowz80;
 use cpm_flags::Cpu;
-use cpm_host::{End, Ending, IllegalBytes, PlayEnd, PlayTask, SessionReport, TypingEnd};
+use cpm_host::{End, Ending, IllegalBytes, PlayEnd, PlayTask, SessionReport};
 use std::fmt;
 
 /// Who is told what there is to say of a command, a line at a time. What can't be told there is told nowhere.
@@ -25,18 +25,6 @@ pub trait Messages {
     /// Tells a line.
     fn tell<D: fmt::Display>(&mut self, line: &D)
         ensures { (text : List ℕ) → D.output line.now ≡ Some text → tells self.old text self.new };
-}
-
-/// The word for why no more was typed, in the last line of a program.
-fn typing_word(end: Option<PlayEnd>) -> &'static str
-    ensures { result.now ≡ typing_word end }
-{
-    match end {
-        Some(PlayEnd::Typing(TypingEnd::Quit)) => " quit",
-        Some(PlayEnd::Typing(TypingEnd::InputEnd)) => " input-end",
-        Some(PlayEnd::Typing(TypingEnd::Signal)) => " signal",
-        _ => "",
-    }
 }
 
 /// The last line of a program: how it ended, whether it was to stop where it waits for a key, and did, and why no more was typed, where that ended it.

@@ -1,10 +1,10 @@
 //! What is printed of a run.
 ghost use Rattle.std.specs.Prelude.{◌≡◌, ◌⊎◌, ◌∷◌, [], IfErr, IfOk, OnOk, string_bytes, zip};
 ghost use Rattle.std.specs.Io.KnownBytes.{Appends};
-ghost use Rattle.cpm_commands.specs.Report.{report_line, report_text, waiting_word, IsReported, IsUnprinted};
+ghost use Rattle.cpm_commands.specs.Report.{report_line, report_text, typing_word, waiting_word, IsReported, IsUnprinted};
 ghost use Rattle.cpm_run.specs.Run.{report_view};
 
-use cpm_host::{HostError, Report, SessionReport, end_word};
+use cpm_host::{HostError, PlayEnd, Report, SessionReport, SessionStop, TypingEnd, end_word};
 use std::alloc::{AllocError, Global};
 use std::io;
 use std::io::Write;
@@ -24,15 +24,28 @@ pub fn waiting_word(waits: bool) -> &'static str
     if waits { " waiting" } else { "" }
 }
 
+/// The word for why no more was typed, where that ended a session or a program.
+pub(crate) fn typing_word(end: Option<PlayEnd>) -> &'static str
+    ensures { result.now ≡ typing_word end }
+{
+    match end {
+        Some(PlayEnd::Typing(TypingEnd::Quit)) => " quit",
+        Some(PlayEnd::Typing(TypingEnd::InputEnd)) => " input-end",
+        Some(PlayEnd::Typing(TypingEnd::Signal)) => " signal",
+        _ => "",
+    }
+}
+
 /// The line of a session.
-fn line_of(alloc: Global, session: &SessionReport, is_idle: bool) -> Result<String, AllocError>
-    ensures { IfOk result (λ line. string_bytes line ≡ report_line (report_view session.now) is_idle) }
+fn line_of(alloc: Global, session: &SessionReport, stop: SessionStop) -> Result<String, AllocError>
+    ensures { IfOk result (λ line. string_bytes line ≡ report_line (report_view session.now) stop) }
 {
     let name = session.name.as_str();
     let word = end_word(session.ending.ended);
     let (count, bytes) = (session.ending.count, session.bytes);
-    let waiting = waiting_word(is_idle);
-    format!(in alloc; "{name} {word} {count} {bytes}{waiting}\n")
+    let waiting = waiting_word(stop.is_idle);
+    let typing = typing_word(stop.typing);
+    format!(in alloc; "{name} {word} {count} {bytes}{waiting}{typing}\n")
 }
 
 /// Writes a text, and all of what was written before it.
@@ -59,23 +72,23 @@ pub(crate) fn print_text<W: Write>(out: &mut W, text: &str) -> Result<(), HostEr
 fn print_session<W: Write>(
     alloc: Global,
     session: &SessionReport,
-    is_idle: bool,
+    stop: SessionStop,
     out: &mut W,
 ) -> Result<(), HostError>
-    ensures printed { OnOk result (Appends (W.contents out.old) (W.contents out.new) (report_line (report_view session.now) is_idle)) }
+    ensures printed { OnOk result (Appends (W.contents out.old) (W.contents out.new) (report_line (report_view session.now) stop)) }
     ensures refusal { IfErr result IsUnprinted }
 {
-    let line = line_of(alloc, session, is_idle)?;
+    let line = line_of(alloc, session, stop)?;
     print_text(out, line.as_str())
 }
 
 /// Prints the line of each session.
 fn print_sessions<W: Write>(alloc: Global, report: &Report, out: &mut W) -> Result<(), HostError>
-    ensures printed { OnOk result (Appends (W.contents out.old) (W.contents out.new) (report_text (zip report.now.sessions.items report.now.idle.items))) }
+    ensures printed { OnOk result (Appends (W.contents out.old) (W.contents out.new) (report_text (zip report.now.sessions.items report.now.stops.items))) }
     ensures refusal { IfErr result IsUnprinted }
 {
-    for (session, is_idle) in report.sessions.iter().zip(&report.idle) {
-        print_session(alloc, session, *is_idle, out)?;
+    for (session, stop) in report.sessions.iter().zip(&report.stops) {
+        print_session(alloc, session, *stop, out)?;
     }
     Ok(())
 }
@@ -86,7 +99,7 @@ pub(crate) fn print_report<W: LineWriter>(
     report: &Report,
     out: &mut W,
 ) -> Result<(), HostError>
-    ensures printed { OnOk result (IsReported (W.contents out.old) (W.contents out.new) (report_text (zip report.now.sessions.items report.now.idle.items))) }
+    ensures printed { OnOk result (IsReported (W.contents out.old) (W.contents out.new) (report_text (zip report.now.sessions.items report.now.stops.items))) }
     ensures refusal { IfErr result IsUnprinted }
 {
     out.end_line().map_err(HostError::OutputUnwritable)?;

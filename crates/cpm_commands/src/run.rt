@@ -226,7 +226,7 @@ fn end_run<F: CommandFiles, W: LineWriter, M: Messages>(
     messages: &mut M,
 ) -> Result<(), HostError>
     ensures ended { OnOk result (F.gives_names files.old None files.new
-        × IsReported (W.contents out.old) (W.contents out.new) (report_text (zip report.now.sessions.items report.now.idle.items))) }
+        × IsReported (W.contents out.old) (W.contents out.new) (report_text (zip report.now.sessions.items report.now.stops.items))) }
     ensures refusal { IfErr result (IsEndStopped F.gives_names files.old files.new) }
     ensures told { HasToldIllegal M.tells report.now.sessions.items messages.new }
 {

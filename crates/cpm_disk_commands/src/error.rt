@@ -78,7 +78,7 @@ fn advice(reason: FileRefusal) -> &'static str {
     match reason {
         FileRefusal::ReadOnly => "a program in a session can take the attribute away",
         FileRefusal::DirectoryFull | FileRefusal::DiskFull => {
-            "remove files, or take a large disk in place of a small one ('cpmhost disk new --large')"
+            "remove files, or put some on another disk; a large one ('cpmhost disk new --large') has more room"
         }
         FileRefusal::NoFile => "'cpmhost disk list' shows its files",
         FileRefusal::Exists => "remove that one first, or choose another name",

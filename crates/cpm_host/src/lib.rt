@@ -27,7 +27,7 @@ pub use cpm_play::{
 pub use cpm_refusals::RefusalCode;
 pub use cpm_run::{
     Ending, IllegalBytes, RecordFile, Report, RunError, RunOptions, RunStage, RunWatcher,
-    SessionReport, end_word, run_host,
+    SessionReport, SessionStop, end_word, run_host,
 };
 pub use cpm_script::{
     Cue, Key, LineFault, MOST_KEYS, ScriptError, key_line, read_keys, read_recording,

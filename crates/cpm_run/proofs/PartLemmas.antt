@@ -10,7 +10,7 @@ use Rattle.cpm_batch.specs.declared.input.Start.{Start}
 use Rattle.cpm_batch.specs.declared.input.Start.TheVariants as start
 use Rattle.cpm_config.specs.declared.config.SessionConfig.{SessionConfig}
 use Rattle.cpm_geom.specs.declared.image.Image.{Image}
-use Rattle.cpm_play.specs.declared.live.LivePlay.{LivePlay}
+use Rattle.cpm_play.specs.declared.live.TypedPlay.{TypedPlay}
 use Rattle.cpm_script.specs.Cues.{Counted, CueText, all_said, cue_text, cued_key_count}
 use Rattle.cpm_script.specs.declared.cue.Cue.{Cue}
 use Rattle.cpm_script.specs.declared.cue.Cue.TheVariants as cue
@@ -154,16 +154,16 @@ said_counted (k ∷ ks) = ap (λ (cs : List CueText). Counted k ∷ cs) (said_co
 pub joined_said : (keys : List Key) (own all : List Cue) → all ≡ map cue.Key keys ++ own → map cue_text all ≡ map Counted keys ++ map cue_text own
 joined_said keys own all is = ap (map cue_text) is ∙ map-append cue_text (map cue.Key keys) own ∙ ap (λ (cs : List CueText). cs ++ map cue_text own) (said_counted keys)
 
-here_typed : (t : ℕ × LivePlay) (place : ℕ) (said : List CueText) → place ≡ t.0 → said_at (typed_view (Some t)) place said ≡ map Counted t.1.keys.items
+here_typed : (t : ℕ × TypedPlay) (place : ℕ) (said : List CueText) → place ≡ t.0 → said_at (typed_view (Some t)) place said ≡ map Counted t.1.live.keys.items
 here_typed t place said at =
     let test : (place == t.0) ≡ true = grind (arith, nat_tests) in
-    ap (λ (b : Bool). if b then map Counted t.1.keys.items else said) test
+    ap (λ (b : Bool). if b then map Counted t.1.live.keys.items else said) test
 
-pub said_typed : (typed : Option (ℕ × LivePlay)) (t : ℕ × LivePlay) (place : ℕ) (cues v : Vec Cue Global) (keys : List Key) (none : List Cue) → typed ≡ Some t → t.0 ≡ place → keys ≡ t.1.keys.items → none ≡ []
+pub said_typed : (typed : Option (ℕ × TypedPlay)) (t : ℕ × TypedPlay) (place : ℕ) (cues v : Vec Cue Global) (keys : List Key) (none : List Cue) → typed ≡ Some t → t.0 ≡ place → keys ≡ t.1.live.keys.items → none ≡ []
     → v.items ≡ map cue.Key keys ++ none → all_said v ≡ said_at (typed_view typed) place (all_said cues)
 said_typed typed t place cues v keys none is at own end h =
     joined_said keys none v.items h ∙ ap (λ (cs : List Cue). map Counted keys ++ map cue_text cs) end ∙ append-nil (map Counted keys) ∙ ap (map Counted) own
-    ∙ sym (ap (λ (o : Option (ℕ × LivePlay)). said_at (typed_view o) place (all_said cues)) is ∙ here_typed t place (all_said cues) (sym at))
+    ∙ sym (ap (λ (o : Option (ℕ × TypedPlay)). said_at (typed_view o) place (all_said cues)) is ∙ here_typed t place (all_said cues) (sym at))
 
 -- ---- equal images
 

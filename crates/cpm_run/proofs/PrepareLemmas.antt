@@ -1,5 +1,5 @@
 -- Sessions that are prepared one after another: opened, or to be forked.
-use Rattle.std.proofs.Common.{◌≡◌, ◌∙◌, Bool, inl, inr, ◌<◌, ◌+◌, ℕ, List, [], ◌∷◌, ◌++◌, Some, length, map, ap, refl, subst, sym, arith, append_assoc}
+use Rattle.std.proofs.Common.{◌≡◌, ◌∙◌, Bool, inl, inr, ◌<◌, ◌+◌, ℕ, List, [], ◌∷◌, ◌++◌, Option, Some, length, map, ap, refl, subst, sym, arith, append_assoc}
 use Rattle.std.specs.Prelude.{⊤, string_bytes}
 use Rattle.std.proofs.lemmas.List.{length-append}
 use Rattle.cpm_batch.specs.Inputs.{Forks, Opens, StartInput, start_view}
@@ -17,6 +17,7 @@ use Rattle.cpm_machine.specs.declared.opening.OpenError.{OpenError}
 use Rattle.cpm_machine.specs.declared.opening.Opening.{Opening}
 use Rattle.cpm_play.specs.Players.{AllDiffer, ids_of}
 use Rattle.cpm_play.specs.ScriptedSlots.{AreDifferent, IsNone}
+use Rattle.cpm_play.specs.declared.live.PlayEnd.{PlayEnd}
 use Rattle.cpm_play.specs.declared.player.Fork.{Fork}
 use Rattle.cpm_play.specs.declared.player.Player.{Player}
 use Rattle.cpm_play.specs.declared.player.Player.TheVariants.{Playing, Waiting}
@@ -128,8 +129,8 @@ name_after : (done rest : List SettledSession) (i : SettledSession) → name_at 
 name_after [] rest i = refl
 name_after (s ∷ done) rest i = name_after done rest i
 
-abbrev input_of : SessionConfig → StartInput → List Key → (before steps : ℕ) → Bool → SettledSession
-input_of session b keys before steps idle = record { session = session; start = b; keys = keys; before = before; steps = steps; is_idle = idle }
+abbrev input_of : SessionConfig → StartInput → List Key → (before steps : ℕ) → Bool → Option PlayEnd → SettledSession
+input_of session b keys before steps idle typing = record { session = session; start = b; keys = keys; before = before; steps = steps; is_idle = idle; typing = typing }
 
 -- the next of those still to come
 pub prepared_next : (start now : Host) (all : List SettledSession) (rest more : List SettledInput) (x : SettledInput) (ps : List Player) → rest ≡ x ∷ more → IsPreparedTo start now all (map settled_view rest) ps
@@ -137,12 +138,12 @@ pub prepared_next : (start now : Host) (all : List SettledSession) (rest more : 
 prepared_next start now all rest more x ps steps h = subst (λ (xs : List SettledInput). IsPreparedTo start now all (map settled_view xs) ps) steps h
 
 -- one that is opened
-opened_more : (start now new : Host) (all rest : List SettledSession) (session : SessionConfig) (cpu : Cpu) (quota : ℕ) (drives : List Disk) (keys : List Key) (before steps : ℕ) (idle : Bool) (ps : List Player) (p : ScriptedSlot) (o : Opening)
-    → IsPreparedTo start now all (input_of session (Opens cpu quota drives) keys before steps idle ∷ rest) ps → IsOpening cpu quota drives o → OpensSlot o keys steps now new p
+opened_more : (start now new : Host) (all rest : List SettledSession) (session : SessionConfig) (cpu : Cpu) (quota : ℕ) (drives : List Disk) (keys : List Key) (before steps : ℕ) (idle : Bool) (typing : Option PlayEnd) (ps : List Player) (p : ScriptedSlot) (o : Opening)
+    → IsPreparedTo start now all (input_of session (Opens cpu quota drives) keys before steps idle typing ∷ rest) ps → IsOpening cpu quota drives o → OpensSlot o keys steps now new p
     → IsPreparedTo start new all rest (ps ++ Playing p ∷ [])
-opened_more start now new all rest session cpu quota drives keys before steps idle ps p o h is open_slot =
+opened_more start now new all rest session cpu quota drives keys before steps idle typing ps p o h is open_slot =
     let n = now.openings in
-    let i = input_of session (Opens cpu quota drives) keys before steps idle in
+    let i = input_of session (Opens cpu quota drives) keys before steps idle typing in
     let next = with_opened now o in
     let opening : opened_slot o ≡ opened_machine cpu quota drives =
     ap (λ cpu. opened_machine cpu o.quota o.drives.items) is.cpu ∙ ap (λ quota. opened_machine cpu quota o.drives.items) is.quota ∙ ap (λ drives. opened_machine cpu quota drives) is.drives in
@@ -164,11 +165,11 @@ opened_more start now new all rest session cpu quota drives keys before steps id
     subst (λ (host : Host). IsPreparedTo start host all rest (ps ++ Playing p ∷ [])) (sym open_slot.host) made
 
 -- one that is to be forked
-forked_more : (start now new : Host) (all rest : List SettledSession) (session : SessionConfig) (parent at : ℕ) (keys : List Key) (before steps : ℕ) (idle : Bool) (ps : List Player) (fork : Fork)
-    → IsPreparedTo start now all (input_of session (Forks parent at) keys before steps idle ∷ rest) ps → IsForkFor (input_of session (Forks parent at) keys before steps idle) parent at fork → new ≡ now
+forked_more : (start now new : Host) (all rest : List SettledSession) (session : SessionConfig) (parent at : ℕ) (keys : List Key) (before steps : ℕ) (idle : Bool) (typing : Option PlayEnd) (ps : List Player) (fork : Fork)
+    → IsPreparedTo start now all (input_of session (Forks parent at) keys before steps idle typing ∷ rest) ps → IsForkFor (input_of session (Forks parent at) keys before steps idle typing) parent at fork → new ≡ now
     → IsPreparedTo start new all rest (ps ++ Waiting fork ∷ [])
-forked_more start now new all rest session parent at keys before steps idle ps fork h is same =
-    let i = input_of session (Forks parent at) keys before steps idle in
+forked_more start now new all rest session parent at keys before steps idle typing ps fork h is same =
+    let i = input_of session (Forks parent at) keys before steps idle typing in
     let ids = ids_waiting ps fork in
     let made : IsPreparedTo start now all rest (ps ++ Waiting fork ∷ []) = record {
       done = h.done ++ i ∷ [];
@@ -183,23 +184,23 @@ forked_more start now new all rest session parent at keys before steps idle ps f
     } in
     subst (λ (host : Host). IsPreparedTo start host all rest (ps ++ Waiting fork ∷ [])) (sym same) made
 
-more_by : (start now new : Host) (all rest : List SettledSession) (session : SessionConfig) (b : StartInput) (keys : List Key) (before steps : ℕ) (idle : Bool) (ps : List Player) (p : Player)
-    → IsPreparedTo start now all (input_of session b keys before steps idle ∷ rest) ps → IsPreparedBy b (input_of session b keys before steps idle) now new p → IsPreparedTo start new all rest (ps ++ p ∷ [])
-more_by start now new all rest session (Opens cpu quota drives) keys before steps idle ps (Playing slot) h r = opened_more start now new all rest session cpu quota drives keys before steps idle ps slot r.0 h r.1 r.2
-more_by start now new all rest session (Opens cpu quota drives) keys before steps idle ps (Waiting fork) h r = absurd r
-more_by start now new all rest session (Forks parent at) keys before steps idle ps (Playing slot) h r = absurd r
-more_by start now new all rest session (Forks parent at) keys before steps idle ps (Waiting fork) h r = forked_more start now new all rest session parent at keys before steps idle ps fork h r.0 r.1
+more_by : (start now new : Host) (all rest : List SettledSession) (session : SessionConfig) (b : StartInput) (keys : List Key) (before steps : ℕ) (idle : Bool) (typing : Option PlayEnd) (ps : List Player) (p : Player)
+    → IsPreparedTo start now all (input_of session b keys before steps idle typing ∷ rest) ps → IsPreparedBy b (input_of session b keys before steps idle typing) now new p → IsPreparedTo start new all rest (ps ++ p ∷ [])
+more_by start now new all rest session (Opens cpu quota drives) keys before steps idle typing ps (Playing slot) h r = opened_more start now new all rest session cpu quota drives keys before steps idle typing ps slot r.0 h r.1 r.2
+more_by start now new all rest session (Opens cpu quota drives) keys before steps idle typing ps (Waiting fork) h r = absurd r
+more_by start now new all rest session (Forks parent at) keys before steps idle typing ps (Playing slot) h r = absurd r
+more_by start now new all rest session (Forks parent at) keys before steps idle typing ps (Waiting fork) h r = forked_more start now new all rest session parent at keys before steps idle typing ps fork h r.0 r.1
 
 -- one player more
 pub prepared_more : (start now new : Host) (all rest : List SettledSession) (i : SettledSession) (ps more : List Player) (p : Player) → IsPreparedTo start now all (i ∷ rest) ps
     → IsPreparedBy i.start i now new p → more ≡ ps ++ p ∷ [] → IsPreparedTo start new all rest more
 prepared_more start now new all rest i ps more p h r pushed =
-    subst (λ (qs : List Player). IsPreparedTo start new all rest qs) (sym pushed) (more_by start now new all rest i.session i.start i.keys i.before i.steps i.is_idle ps p h r)
+    subst (λ (qs : List Player). IsPreparedTo start new all rest qs) (sym pushed) (more_by start now new all rest i.session i.start i.keys i.before i.steps i.is_idle i.typing ps p h r)
 
-refused_by : (start now : Host) (all rest : List SettledSession) (session : SessionConfig) (b : StartInput) (keys : List Key) (before steps : ℕ) (idle : Bool) (ps : List Player) (e : RunError)
-    → IsPreparedTo start now all (input_of session b keys before steps idle ∷ rest) ps → IsStartRefusal now b (string_bytes session.name) e → IsSlotRefusal (map (λ s. s.session) all) start (starts_of all) e
-refused_by start now all rest session (Opens cpu quota drives) keys before steps idle ps (refusal.SessionRefused name fault) h r =
-    let i = input_of session (Opens cpu quota drives) keys before steps idle in
+refused_by : (start now : Host) (all rest : List SettledSession) (session : SessionConfig) (b : StartInput) (keys : List Key) (before steps : ℕ) (idle : Bool) (typing : Option PlayEnd) (ps : List Player) (e : RunError)
+    → IsPreparedTo start now all (input_of session b keys before steps idle typing ∷ rest) ps → IsStartRefusal now b (string_bytes session.name) e → IsSlotRefusal (map (λ s. s.session) all) start (starts_of all) e
+refused_by start now all rest session (Opens cpu quota drives) keys before steps idle typing ps (refusal.SessionRefused name fault) h r =
+    let i = input_of session (Opens cpu quota drives) keys before steps idle typing in
     let named : name_at (map (λ s. s.session) all) (length h.done) ≡ string_bytes session.name =
     ap (λ (ss : List SettledSession). name_at (map (λ s. s.session) ss) (length h.done)) (sym h.parts) ∙ name_after h.done rest i in
     record {
@@ -207,11 +208,11 @@ refused_by start now all rest session (Opens cpu quota drives) keys before steps
       first = h.refused (starts_of all) fault (length h.done) (r.0, r.1, inl (r.2.0, refl));
       told = subst (λ (n : StoreName). IsShownAs n name.bytes) (sym named) r.2.1;
     }
-refused_by start now all rest session (Opens cpu quota drives) keys before steps idle ps refusal.OutOfMemory h r = tt
-refused_by start now all rest session (Opens cpu quota drives) keys before steps idle ps _ h r = absurd r.2
-refused_by start now all rest session (Forks parent at) keys before steps idle ps e h r = absurd r
+refused_by start now all rest session (Opens cpu quota drives) keys before steps idle typing ps refusal.OutOfMemory h r = tt
+refused_by start now all rest session (Opens cpu quota drives) keys before steps idle typing ps _ h r = absurd r.2
+refused_by start now all rest session (Forks parent at) keys before steps idle typing ps e h r = absurd r
 
 -- an opening that is refused
 pub prepare_refused : (start now : Host) (all rest : List SettledSession) (i : SettledSession) (ps : List Player) (e : RunError) → IsPreparedTo start now all (i ∷ rest) ps
     → IsStartRefusal now i.start (string_bytes i.session.name) e → IsSlotRefusal (map (λ s. s.session) all) start (starts_of all) e
-prepare_refused start now all rest i ps e h r = refused_by start now all rest i.session i.start i.keys i.before i.steps i.is_idle ps e h r
+prepare_refused start now all rest i ps e h r = refused_by start now all rest i.session i.start i.keys i.before i.steps i.is_idle i.typing ps e h r

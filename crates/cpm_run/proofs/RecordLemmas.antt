@@ -1,5 +1,5 @@
 -- The lines of keys, and the records of all sessions.
-use Rattle.std.proofs.Common.{◌≡◌, ◌∙◌, ◌<◌, ◌≤◌, ◌+◌, ℕ, Bool, List, [], ◌∷◌, ◌++◌, Option, Some, length, map, refl, sym, subst, ap, slice_get, get_or, drop, append-nil, append_assoc}
+use Rattle.std.proofs.Common.{◌≡◌, ◌∙◌, ◌<◌, ◌≤◌, ◌+◌, ℕ, List, [], ◌∷◌, ◌++◌, Option, Some, length, map, refl, sym, subst, ap, slice_get, get_or, drop, append-nil, append_assoc}
 use Rattle.std.specs.Prelude.{option_map}
 use Rattle.std.specs.List.{All}
 use Rattle.std.proofs.lemmas.List.{at_drop_all, drop_more}
@@ -8,10 +8,11 @@ use Rattle.std.proofs.lemmas.Option.{get_or_from_slice_get, slice_get-get_or, sl
 use Rattle.cpm_script.specs.Recording.{key_line, recorded}
 use Rattle.cpm_script.specs.declared.script.Key.{Key}
 use Rattle.cpm_store.specs.Writes.{NamedBytes}
-use Rattle.cpm_run.specs.Run.{record_of, record_outputs}
+use Rattle.cpm_run.specs.Run.{record_of, record_outputs, stop_of}
 use Rattle.cpm_run.specs.Settled.{SettledSession, settled_view}
 use Rattle.cpm_run.specs.Settling.{AreBelow80h}
 use Rattle.cpm_run.specs.declared.options.RecordFile.{RecordFile}
+use Rattle.cpm_run.specs.declared.report.SessionStop.{SessionStop}
 use Rattle.cpm_run.specs.declared.settled.SettledInput.{SettledInput}
 
 -- ---- lines
@@ -65,8 +66,8 @@ own-below ss i e own below within at is =
     let all = subst (λ (s : SettledSession). AreBelow80h s.keys) here (below i (settled_view e) (slice_get_within (map settled_view ss) i (settled_view (get_or ss i e)) there)) in
     subst AreBelow80h (sym (is ∙ ap (λ (x : SettledInput). drop x.before x.keys.items) at)) (All-drop (λ k. k.byte < 128) (get_or ss i e).before (get_or ss i e).keys.items all)
 
--- ---- where sessions stopped idle
+-- ---- how sessions stopped
 
-pub idles : (ss : List SettledInput) → map (λ i. i.is_idle) ss ≡ map (λ s. s.is_idle) (map settled_view ss)
-idles [] = refl
-idles (s ∷ ss) = ap (λ (bs : List Bool). s.is_idle ∷ bs) (idles ss)
+pub stops_all : (ss : List SettledInput) → map (λ i. stop_of (settled_view i)) ss ≡ map stop_of (map settled_view ss)
+stops_all [] = refl
+stops_all (s ∷ ss) = ap (λ (ts : List SessionStop). stop_of (settled_view s) ∷ ts) (stops_all ss)

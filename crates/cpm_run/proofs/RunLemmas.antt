@@ -125,10 +125,10 @@ place_refused config options io old new (refusal.NotOpened shown) faultless h sa
 place_refused config options io old new _ faultless h same = absurd h
 
 pub place_stopped : {S : Type 0} → (does : S → StoreAccess → S → Type 0) (config : Config) (options : RunOptions) (io : Streams) (s : S) (e : RunError) → IsPlaceRefusal config options e
-    → IsStoppedRun does config options io s s e
-place_stopped does config options io s (refusal.NoSession shown) h = refl
-place_stopped does config options io s (refusal.NotOpened shown) h = refl
-place_stopped does config options io s _ h = absurd h
+    → AreUntouched io → IsStoppedRun does config options io s s e
+place_stopped does config options io s (refusal.NoSession shown) h untouched = (refl, untouched)
+place_stopped does config options io s (refusal.NotOpened shown) h untouched = (refl, untouched)
+place_stopped does config options io s _ h untouched = absurd h
 
 -- settling is refused
 pub settle_refused : (config : Config) (options : RunOptions) (io : Streams) (system : Disk) (inputs : List SessionInput) (old new : Option StoreFiles) (e : RunError) → config_fault config ≡ None
@@ -204,9 +204,9 @@ none_in_input config replays log h = ⊎_elim (λ f. f) (λ t. none_in_sessions 
 module _ {S : Type 0} (does : S → StoreAccess → S → Type 0) (config : Config) (options : RunOptions) (io : Streams) (start end : S) where
   -- where what is needed could not be read, or is not what it should be
   pub reading_stopped : (e : ReadError) → AreUntouched io → LogLeadsBy does (StopsReading config options.replays.now e) start end → IsStoppedRun does config options io start end (run_error_of_reading e)
-  reading_stopped (reading.File name) untouched h = (h.0, ⊎_elim (λ m. let is = m.0 in absurd (cc)) (λ f. f) h.1, h.2)
-  reading_stopped (reading.Image name count) untouched h = (h.0, ⊎_elim (λ m. let is = m.0 in absurd (cc)) (λ f. f) h.1, h.2)
-  reading_stopped (reading.Script name line fault) untouched h = (h.0, ⊎_elim (λ m. let is = m.0 in absurd (cc)) (λ f. f) h.1, h.2)
+  reading_stopped (reading.File name) untouched h = ((h.0, ⊎_elim (λ m. let is = m.0 in absurd (cc)) (λ f. f) h.1, h.2), untouched)
+  reading_stopped (reading.Image name count) untouched h = ((h.0, ⊎_elim (λ m. let is = m.0 in absurd (cc)) (λ f. f) h.1, h.2), untouched)
+  reading_stopped (reading.Script name line fault) untouched h = ((h.0, ⊎_elim (λ m. let is = m.0 in absurd (cc)) (λ f. f) h.1, h.2), untouched)
   reading_stopped reading.OutOfMemory untouched h = inl ((h.0, ⊎_elim (λ m. m.1) (λ f. absurd (none_in_input config options.replays.now h.0 f)) h.1, h.2), untouched)
 
 -- ---- what was played

@@ -30,7 +30,7 @@ use Rattle.cpm_script.proofs.CueLemmas.{ascii-append, counted-keys}
 use Rattle.cpm_run.specs.Playing.{IsForkPressable, IsPressableBy}
 use Rattle.cpm_run.specs.Run.{GivesItsKeysAgain, starts_read}
 use Rattle.cpm_run.specs.Settled.{AreSettled, HasPlayedKeys, IsSettled, SessionPart, SettledSession, TypedSession}
-use Rattle.cpm_run.specs.Settled.{before_in, forked_at, keys_if_settled, opened_by, opening_at, opening_of, part_of, said_at, settled_steps, settled_view, start_by, starts_of, steps_at}
+use Rattle.cpm_run.specs.Settled.{before_in, forked_at, keys_if_settled, opened_by, opening_at, opening_of, part_of, said_at, settled_steps, settled_view, start_by, starts_of, steps_at, typing_at}
 use Rattle.cpm_run.specs.Settling.{AreBelow80h, AreCounts, AreFitInputs, AreOpenable, AreReady, AreSound, AreSoundKeys, HasParent, IsFitInput, IsFitPart, IsOpenable}
 use Rattle.cpm_run.specs.Settling.{IsPartReady, IsPartRefusal, IsSessionReady, IsSettlingRefusal, IsSoundAfter}
 use Rattle.cpm_run.specs.declared.settled.SettledInput.{SettledInput}
@@ -369,16 +369,16 @@ sound_more system ss s all one =
     (still_pressable system ss s s.start s one.pressable, one.ascii, one.replays)
 
 keys_more : (system : Disk) (stops_idle : Bool) (typed : Option TypedSession) (sessions : List SessionConfig) (before : List SettledSession) (is : List SessionInput) (ss : List SettledSession) (i : SessionInput) (s : SettledSession)
-    → AreSettled system stops_idle typed sessions before is ss → IsSettled system stops_idle (part_of typed sessions (before ++ ss) i) i s
+    → AreSettled system stops_idle typed sessions before is ss → IsSettled system stops_idle (typing_at typed (length (before ++ ss))) (part_of typed sessions (before ++ ss) i) i s
     → AreSettled system stops_idle typed sessions before (is ++ i ∷ []) (ss ++ s ∷ [])
 keys_more system stops_idle typed sessions before [] [] i s all one =
-    (subst (λ (xs : List SettledSession). IsSettled system stops_idle (part_of typed sessions xs i) i s) (append-nil before) one, tt)
+    (subst (λ (xs : List SettledSession). IsSettled system stops_idle (typing_at typed (length xs)) (part_of typed sessions xs i) i s) (append-nil before) one, tt)
 keys_more system stops_idle typed sessions before [] (x ∷ ss) i s all one = absurd all
 keys_more system stops_idle typed sessions before (j ∷ is) [] i s all one = absurd all
 keys_more system stops_idle typed sessions before (j ∷ is) (x ∷ ss) i s all one = (
   all.0,
   keys_more system stops_idle typed sessions (before ++ x ∷ []) is ss i s all.1
-      (subst (λ (xs : List SettledSession). IsSettled system stops_idle (part_of typed sessions xs i) i s) (sym (append_assoc before (x ∷ []) ss)) one),
+      (subst (λ (xs : List SettledSession). IsSettled system stops_idle (typing_at typed (length xs)) (part_of typed sessions xs i) i s) (sym (append_assoc before (x ∷ []) ss)) one),
 )
 
 -- the code's values: the next of those still to come, after those that are settled
@@ -401,7 +401,7 @@ pushed_view settled now more s same pushed =
 
 -- one more
 pub settled_more : (system : Disk) (stops_idle : Bool) (typed : Option TypedSession) (sessions : List SessionConfig) (all rest : List SessionInput) (i : SessionInput) (settled more : List SettledSession) (s : SettledSession)
-    → IsSettledTo system stops_idle typed sessions all (i ∷ rest) settled → IsSettled system stops_idle (part_of typed sessions settled i) i s → IsSoundAfter system settled s → more ≡ settled ++ s ∷ []
+    → IsSettledTo system stops_idle typed sessions all (i ∷ rest) settled → IsSettled system stops_idle (typing_at typed (length settled)) (part_of typed sessions settled i) i s → IsSoundAfter system settled s → more ≡ settled ++ s ∷ []
     → IsSettledTo system stops_idle typed sessions all rest more
 settled_more system stops_idle typed sessions all rest i settled more s h one sound pushed =
     let begins : starts_of (settled ++ s ∷ []) ≡ starts_of settled ++ i.start ∷ [] =

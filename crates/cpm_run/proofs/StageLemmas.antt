@@ -23,7 +23,7 @@ use Rattle.cpm_script.specs.declared.cue.Cue.TheVariants as cue
 use Rattle.cpm_script.specs.declared.script.Key.{Key}
 use Rattle.cpm_slots.specs.Host.{Host, new_host, room_fault, with_opened}
 use Rattle.cpm_play.specs.Typist.{TypingState}
-use Rattle.cpm_play.specs.declared.live.LivePlay.{LivePlay}
+use Rattle.cpm_play.specs.declared.live.TypedPlay.{TypedPlay}
 use Rattle.cpm_run.specs.Playing.{IsSessionsRefusal}
 use Rattle.cpm_run.specs.Refusing.{IsSettleRefusal}
 use Rattle.cpm_run.specs.Run.{AllAccepted, IsOpening, starts_read}
@@ -210,13 +210,13 @@ settle_refused config options io system inputs typed (refusal.TooManyKeys shown)
 settle_refused config options io system inputs typed refusal.OutOfMemory judged heard r = inr (inr (record { judged = judged; typed = typed; heard = heard }))
 settle_refused config options io system inputs typed _ judged heard r = absurd r.refused
 
-pub settle_refused_as : (config : Config) (options : RunOptions) (io : Streams) (system : Disk) (inputs : List SessionInput) (typed heard : Option (ℕ × LivePlay)) (e : RunError) → typed ≡ heard
+pub settle_refused_as : (config : Config) (options : RunOptions) (io : Streams) (system : Disk) (inputs : List SessionInput) (typed heard : Option (ℕ × TypedPlay)) (e : RunError) → typed ≡ heard
     → AllAccepted (starts_read inputs) (new_host system config.frames) (starts_read inputs) ⊎ AreUntouched io
     → IsTypedIfAny system config.sessions.items (option_map (λ n. n.now) options.typed) inputs io (typed_view heard)
     → IsSettlingRefusal system options (typed_view typed) config.sessions.items inputs e → IsSettleRefusal config options io system inputs e
 settle_refused_as config options io system inputs typed heard e same judged given r =
     settle_refused config options io system inputs (typed_view heard) e judged given
-    (subst (λ (t : Option (ℕ × LivePlay)). IsSettlingRefusal system options (typed_view t) config.sessions.items inputs e) same r)
+    (subst (λ (t : Option (ℕ × TypedPlay)). IsSettlingRefusal system options (typed_view t) config.sessions.items inputs e) same r)
 
 -- where nothing is to be typed, nothing was
 pub nothing_heard : (config : Config) (options : RunOptions) (io : Streams) (system : Disk) (inputs : List SessionInput) → options.typed ≡ None → AreUntouched io

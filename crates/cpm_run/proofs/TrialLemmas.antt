@@ -112,10 +112,10 @@ tried_refused config is trial h e same r = by_error e (subst (λ (bs : List Star
     by_error _ r = absurd r
 
 abbrev tried_with : SessionConfig → StartInput → List Key → SettledSession
-tried_with session start keys = record { session = session; start = start; keys = keys; before = 0; steps = 0; is_idle = false }
+tried_with session start keys = record { session = session; start = start; keys = keys; before = 0; steps = 0; is_idle = false; typing = None }
 
 pub tried-view : (i : Input) (s : Start) (keys : Vec Key Global) → start_view s ≡ trial_start (start_view i.start) → keys.items ≡ []
-    → settled_view (record { session = i.session; start = s; keys = keys; before = 0; steps = 0; is_idle = false }) ≡ trial_of (given i)
+    → settled_view (record { session = i.session; start = s; keys = keys; before = 0; steps = 0; is_idle = false; typing = None }) ≡ trial_of (given i)
 tried-view i s keys start none = ap (λ (b : StartInput). tried_with i.session.now b keys.items) start ∙ ap (tried_with i.session.now (trial_start (start_view i.start))) none
 
 -- one more session of the trial

@@ -18,7 +18,7 @@ use Rattle.cpm_play.specs.Cued.{AreAscii}
 use Rattle.cpm_play.specs.Sitting.{IsPlayCut, sitting}
 use Rattle.cpm_play.specs.declared.live.LiveError.{LiveError}
 use Rattle.cpm_play.specs.declared.live.LiveError.TheVariants as live
-use Rattle.cpm_play.specs.declared.live.LivePlay.{LivePlay}
+use Rattle.cpm_play.specs.declared.live.TypedPlay.{TypedPlay}
 use Rattle.cpm_script.specs.Cues.{CueText, all_said, cue_text}
 use Rattle.cpm_script.specs.Laws.{KeysAreAscii}
 use Rattle.cpm_script.specs.declared.cue.Cue.{Cue}
@@ -157,13 +157,13 @@ here_openable config name place inputs i system here is accepted =
     slice_get-map (λ (x : SessionInput). x.start) (map given inputs) place ∙ ap (option_map (λ (x : SessionInput). x.start)) (given_there inputs place i here.within is) in
     all_there (λ b. IsOpened b → IsOpenable b) (starts_read (map given inputs)) place (start_view i.start) all there (here.opened i is)
 
-pub heard_at : (system : Disk) (config : Config) (options : RunOptions) (name : Bor (List ℕ)) (place : ℕ) (inputs : List Input) (i : Input) (io : Streams) (heard : LivePlay)
+pub heard_at : (system : Disk) (config : Config) (options : RunOptions) (name : Bor (List ℕ)) (place : ℕ) (inputs : List Input) (i : Input) (io : Streams) (heard : TypedPlay)
     → options.typed ≡ Some name → IsTypedHere config name.now place inputs → i ≡ get_or inputs place i
-    → IsTypedBy system config.sessions.items name.now (start_view i.start) (all_said i.cues) io heard.keys.items heard.steps
+    → IsTypedBy system config.sessions.items name.now (start_view i.start) (all_said i.cues) io heard.live.keys.items heard.live.steps heard.end
     → IsTypedIfAny system config.sessions.items (option_map (λ n. n.now) options.typed) (map given inputs) io (typed_view (Some (place, heard)))
 heard_at system config options name place inputs i io heard asked here is typed =
     subst (λ (o : Option (Bor (List ℕ))). IsTypedIfAny system config.sessions.items (option_map (λ n. n.now) o) (map given inputs) io (typed_view (Some (place, heard)))) (sym asked) (
-      record { place = place; keys = heard.keys.items; steps = heard.steps },
+      record { place = place; keys = heard.live.keys.items; steps = heard.live.steps; end = heard.end },
       refl,
       record {
         input = given i;

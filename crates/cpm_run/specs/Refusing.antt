@@ -222,13 +222,14 @@ pub record StopsAfterReading {S : Type 0} (does : S → StoreAccess → S → Ty
   pub refused : IsSettleRefusal config options io system inputs e
 
 -- What calls a run that is refused has made of any store: none, where the configuration is refused or no session can be typed at; the reads up to the file
--- that is refused; all reads and the writes up to the one that failed; and else all reads. Where memory was refused and not all was read, none that writes, and
--- no key was read.
+-- that is refused; all reads and the writes up to the one that failed; and else all reads. Where memory was refused and not all was read, none that writes.
+-- Where not all was read, no key was read.
 abbrev pub IsStoppedRun : {S : Type 0} → (S → StoreAccess → S → Type 0) → Config → RunOptions → Streams → S → S → RunError → Type 0
-IsStoppedRun {S} does config options io old new (refusal.ConfigRefused e) = new ≡ old
-IsStoppedRun {S} does config options io old new (refusal.NoSession name) = new ≡ old
-IsStoppedRun {S} does config options io old new (refusal.NotOpened name) = new ≡ old
-IsStoppedRun {S} does config options io old new (refusal.FileRefused e) = LogLeadsBy does (StopsAtInput config options.replays.now e) old new
+IsStoppedRun {S} does config options io old new (refusal.ConfigRefused e) = (new ≡ old) × AreUntouched io
+IsStoppedRun {S} does config options io old new (refusal.NoSession name) = (new ≡ old) × AreUntouched io
+IsStoppedRun {S} does config options io old new (refusal.NotOpened name) = (new ≡ old) × AreUntouched io
+IsStoppedRun {S} does config options io old new (refusal.FileRefused e) =
+    LogLeadsBy does (StopsAtInput config options.replays.now e) old new × AreUntouched io
 IsStoppedRun {S} does config options io old new (refusal.WriteFault name) = FailsAtWrite does config options io old new (refusal.WriteFault name)
 IsStoppedRun {S} does config options io old new refusal.OutOfMemory =
     (LogLeadsBy does AreNoWrites old new × AreUntouched io) ⊎ StopsAfterReading does config options io old new refusal.OutOfMemory

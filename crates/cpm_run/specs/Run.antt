@@ -36,6 +36,7 @@ use Rattle.cpm_run.specs.declared.options.RecordFile.{RecordFile}
 use Rattle.cpm_run.specs.declared.options.RunOptions.{RunOptions}
 use Rattle.cpm_run.specs.declared.report.Report.{Report}
 use Rattle.cpm_run.specs.declared.report.SessionReport.{SessionReport}
+use Rattle.cpm_run.specs.declared.report.SessionStop.{SessionStop}
 use Rattle.cpm_script.specs.Recording.{recorded, recording}
 use Rattle.cpm_script.specs.Script.{script, most_keys}
 use Rattle.cpm_script.specs.declared.script.Key.{Key}
@@ -174,10 +175,14 @@ pub record AreParts (config : Config) (options : RunOptions) (io : Streams) (r :
 abbrev pub outputs_by : RunOptions → RunParts → List NamedBytes
 outputs_by options r = outputs_of r.system options.records.now r.settled
 
--- each session is reported; and of each it is told whether it was played by itself and stopped where it waits for a key
+-- whether a session was played by itself and stopped where it waits for a key, and why no more was typed at it, where one typed
+abbrev pub stop_of : SettledSession → SessionStop
+stop_of s = record { is_idle = s.is_idle; typing = s.typing }
+
+-- each session is reported; and of each it is told how it stopped where it was played by itself
 pub record AreReportedOf (system : Disk) (settled : List SettledSession) (report : Report) : Type 0 where
   pub sessions : map report_view report.sessions.items ≡ reports_of system settled
-  pub idle : report.idle.items ≡ map (λ s. s.is_idle) settled
+  pub stops : report.stops.items ≡ map stop_of settled
 
 -- Where the store tells its files: with what the files held, the sessions were run alone.
 -- The files that they name were written in order, and nothing else; and each session is reported.

@@ -18,8 +18,8 @@ use Rattle.cpm_play.specs.Output.{OutputState, output_state}
 use Rattle.cpm_play.specs.Playing.{alone_by}
 use Rattle.cpm_play.specs.Sitting.{IsTypedPlay, sitting}
 use Rattle.cpm_play.specs.Typist.{TypingState}
-use Rattle.cpm_play.specs.declared.live.LivePlay.{LivePlay}
 use Rattle.cpm_play.specs.declared.live.PlayEnd.{PlayEnd}
+use Rattle.cpm_play.specs.declared.live.TypedPlay.{TypedPlay}
 use Rattle.cpm_script.specs.Cues.{Counted, CueText, cue_text}
 use Rattle.cpm_script.specs.Fork.{keys_before}
 use Rattle.cpm_script.specs.Recording.{recorded}
@@ -40,9 +40,19 @@ pub record SettledSession : Type 0 where
   pub steps : ℕ
   -- whether it stopped idle where it was played by itself
   pub is_idle : Bool
+  -- why no more was typed at it, where one typed
+  pub typing : Option PlayEnd
 
 abbrev pub settled_view : SettledInput → SettledSession
-settled_view i = record { session = i.session.now; start = start_view i.start; keys = i.keys.items; before = i.before; steps = i.steps; is_idle = i.is_idle }
+settled_view i = record {
+  session = i.session.now;
+  start = start_view i.start;
+  keys = i.keys.items;
+  before = i.before;
+  steps = i.steps;
+  is_idle = i.is_idle;
+  typing = i.typing;
+}
 
 -- the machine at the opening of a session that is opened. One that is forked has none of its own
 abbrev pub opening_of : StartInput → MachineState
@@ -64,15 +74,16 @@ starts_of sessions = map (λ s. s.start) sessions
 
 -- ---- what was typed
 
--- what was typed at the session at a place: its keys with the counts at which they were accepted, and the steps that it then has
+-- what was typed at the session at a place: its keys with the counts at which they were accepted, the steps that it then has, and why no more was typed
 pub record TypedSession : Type 0 where
   pub place : ℕ
   pub keys : List Key
   pub steps : ℕ
+  pub end : PlayEnd
 
-abbrev pub typed_view : Option (ℕ × LivePlay) → Option TypedSession
+abbrev pub typed_view : Option (ℕ × TypedPlay) → Option TypedSession
 typed_view None = None
-typed_view (Some t) = Some (record { place = t.0; keys = t.1.keys.items; steps = t.1.steps })
+typed_view (Some t) = Some (record { place = t.0; keys = t.1.live.keys.items; steps = t.1.live.steps; end = t.1.end })
 
 -- what the session at a place says: the keys that were typed at it, or else what its script says
 abbrev pub said_at : Option TypedSession → ℕ → List CueText → List CueText
@@ -83,6 +94,11 @@ said_at (Some t) place said = if place == t.place then map Counted t.keys else s
 abbrev pub steps_at : Option TypedSession → ℕ → ℕ → ℕ
 steps_at None place steps = steps
 steps_at (Some t) place steps = if place == t.place then t.steps else steps
+
+-- why no more was typed at it, where one typed
+abbrev pub typing_at : Option TypedSession → ℕ → Option PlayEnd
+typing_at None place = None
+typing_at (Some t) place = if place == t.place then Some t.end else None
 
 -- the count at which a session is forked from the one of this name
 abbrev pub fork_count : List ℕ → Origin → ℕ
@@ -168,18 +184,20 @@ HasSettledBy system p false None keys steps is_idle = HasPlayedKeys system p fal
 HasSettledBy system p false (Some own) keys steps is_idle =
     HasSettledTimed (nat_le (length p.before + length own) most_keys) system p own keys steps is_idle
 
-pub record IsSettled (system : Disk) (stops_idle : Bool) (p : SessionPart) (i : SessionInput) (s : SettledSession) : Type 0 where
+pub record IsSettled (system : Disk) (stops_idle : Bool) (typing : Option PlayEnd) (p : SessionPart) (i : SessionInput) (s : SettledSession) : Type 0 where
   pub session : s.session ≡ i.session
   pub start : s.start ≡ i.start
   pub before : s.before ≡ length p.before
   pub keys : HasSettledBy system p stops_idle (timed_keys p.said) s.keys s.steps s.is_idle
+  pub typing : s.typing ≡ typing
 
 -- each session in order, after those before it
 abbrev pub AreSettled : Disk → (stops_idle : Bool) → Option TypedSession → List SessionConfig
     → (settled : List SettledSession) → List SessionInput → List SettledSession → Type 0
 AreSettled system stops_idle typed sessions settled [] [] = ⊤
 AreSettled system stops_idle typed sessions settled (i ∷ is) (s ∷ ss) =
-    IsSettled system stops_idle (part_of typed sessions settled i) i s × AreSettled system stops_idle typed sessions (settled ++ s ∷ []) is ss
+    IsSettled system stops_idle (typing_at typed (length settled)) (part_of typed sessions settled i) i s
+    × AreSettled system stops_idle typed sessions (settled ++ s ∷ []) is ss
 AreSettled system stops_idle typed sessions settled [] (s ∷ ss) = ⊥
 AreSettled system stops_idle typed sessions settled (i ∷ is) [] = ⊥
 
@@ -223,9 +241,8 @@ most_steps = 2 ^ 64 - 1
 -- typed: it has shown what the machine run alone by these shows, each at the count at which it was accepted; and the record has got just these. It has the
 -- steps that were executed meanwhile, up to the last fork.
 pub record IsTypedBy (system : Disk) (sessions : List SessionConfig) (name : List ℕ) (start : StartInput) (said : List CueText) (io : Streams)
-    (keys : List Key) (steps : ℕ) : Type 0 where
+    (keys : List Key) (steps : ℕ) (end : PlayEnd) : Type 0 where
   pub done : ℕ
-  pub end : PlayEnd
   pub cues : List Cue
   pub says : map cue_text cues ≡ said
   pub given : AreGiven (length keys) done keys
@@ -241,7 +258,7 @@ pub record IsTypedAt (system : Disk) (sessions : List SessionConfig) (name : Lis
   pub place : place_of name (map session_view sessions) ≡ Some t.place
   pub there : slice_get inputs t.place ≡ Some input
   pub opened : IsOpened input.start
-  pub typed : IsTypedBy system sessions name input.start input.said io t.keys t.steps
+  pub typed : IsTypedBy system sessions name input.start input.said io t.keys t.steps t.end
 
 -- a session was typed at, where one is named; and else nothing was read
 abbrev pub IsTypedIfAny : Disk → List SessionConfig → Option (List ℕ) → List SessionInput → Streams → Option TypedSession → Type 0

@@ -128,7 +128,7 @@ trial_start (Opens cpu quota drives) = Opens cpu quota drives
 trial_start (Forks parent at) = Forks parent 0
 
 abbrev pub trial_of : SessionInput → SettledSession
-trial_of i = record { session = i.session; start = trial_start i.start; keys = []; before = 0; steps = 0; is_idle = false }
+trial_of i = record { session = i.session; start = trial_start i.start; keys = []; before = 0; steps = 0; is_idle = false; typing = None }
 
 -- each that is opened has no fault
 abbrev pub AreOpenable : List StartInput → Type 0

@@ -23,6 +23,6 @@ mod watcher;
 pub use ending::{Ending, IllegalBytes, end_word};
 pub use error::RunError;
 pub use options::{RecordFile, RunOptions};
-pub use report::{Report, SessionReport};
+pub use report::{Report, SessionReport, SessionStop};
 pub use run::run_host;
 pub use watcher::{RunStage, RunWatcher};

@@ -1,17 +1,17 @@
 //! What there is to play a session of a run by, before it is settled.
-ghost use Rattle.std.specs.Prelude.{◌≡◌, Some, IfOk, IfSome, map, option_map};
+ghost use Rattle.std.specs.Prelude.{◌≡◌, Some, IfOk, IfSome, length, map, option_map};
 ghost use Rattle.cpm_batch.specs.Inputs.{IsOpened, start_view, timed_keys};
 ghost use Rattle.cpm_play.specs.Cued.{key_count};
 ghost use Rattle.cpm_script.specs.Cues.{all_said, cue_text};
 ghost use Rattle.cpm_run.specs.Settled.{before_in, fork_count, forked_at, last_fork, opened_by, part_of, said_at};
-ghost use Rattle.cpm_run.specs.Settled.{settled_view, starts_of, steps_at, typed_view};
+ghost use Rattle.cpm_run.specs.Settled.{settled_view, starts_of, steps_at, typed_view, typing_at};
 ghost use Rattle.cpm_run.specs.Settling.{AreCounts, HasParent, part_view};
 
 use crate::alone::after_keys;
 use crate::settled::SettledInput;
 use cpm_batch::Start;
 use cpm_config::{Config, Origin, SessionConfig};
-use cpm_play::LivePlay;
+use cpm_play::{PlayEnd, TypedPlay};
 use cpm_script::{Cue, Key, keys_before};
 use std::alloc::{AllocError, Global};
 
@@ -125,27 +125,40 @@ fn before_in(
 /// What the session at a place says: the keys that were typed at it, or else its script.
 fn said_at(
     alloc: Global,
-    typed: &Option<(usize, LivePlay)>,
+    typed: &Option<(usize, TypedPlay)>,
     place: usize,
     cues: Vec<Cue>,
 ) -> Result<Vec<Cue>, AllocError>
     ensures { IfOk result (λ v. all_said v ≡ said_at (typed_view typed.now) place (all_said cues)) }
 {
     match typed {
-        Some((typed_at, live)) if *typed_at == place => {
-            after_keys(alloc, live.keys.as_slice(), Vec::new(alloc))
+        Some((typed_at, play)) if *typed_at == place => {
+            after_keys(alloc, play.live.keys.as_slice(), Vec::new(alloc))
         }
         _ => Ok(cues),
     }
 }
 
 /// The steps of the session at a place: those for which it was typed at, or else these.
-fn steps_at(typed: &Option<(usize, LivePlay)>, place: usize, steps: u64) -> u64
+fn steps_at(typed: &Option<(usize, TypedPlay)>, place: usize, steps: u64) -> u64
     ensures { result ≡ steps_at (typed_view typed.now) place steps }
 {
     match typed {
-        Some((typed_at, live)) if *typed_at == place => live.steps,
+        Some((typed_at, play)) if *typed_at == place => play.live.steps,
         _ => steps,
+    }
+}
+
+/// Why no more was typed at the session that comes after these, where one typed at it.
+pub(crate) fn typing_after(
+    typed: &Option<(usize, TypedPlay)>,
+    settled: &[SettledInput<'_>],
+) -> Option<PlayEnd>
+    ensures { result ≡ typing_at (typed_view typed.now) (length (map settled_view settled.now)) }
+{
+    match typed {
+        Some((typed_at, play)) if *typed_at == settled.len() => Some(play.end),
+        _ => None,
     }
 }
 
@@ -153,7 +166,7 @@ fn steps_at(typed: &Option<(usize, LivePlay)>, place: usize, steps: u64) -> u64
 pub(crate) fn part_of<'a>(
     alloc: Global,
     config: &Config,
-    typed: &Option<(usize, LivePlay)>,
+    typed: &Option<(usize, TypedPlay)>,
     settled: &'a [SettledInput<'_>],
     session: &SessionConfig,
     start: &'a Start,

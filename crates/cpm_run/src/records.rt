@@ -3,11 +3,12 @@ ghost use Rattle.std.specs.Prelude.{◌≡◌, ◌++◌, IfOk, OnOk, map};
 ghost use Rattle.std.specs.List.{All};
 ghost use Rattle.cpm_script.specs.Recording.{recorded};
 ghost use Rattle.cpm_store.specs.Writes.{named_output};
-ghost use Rattle.cpm_run.specs.Run.{record_of, record_outputs};
+ghost use Rattle.cpm_run.specs.Run.{record_of, record_outputs, stop_of};
 ghost use Rattle.cpm_run.specs.Settled.{settled_view};
 ghost use Rattle.cpm_run.specs.Settling.{AreBelow80h};
 
 use crate::options::RecordFile;
+use crate::report::SessionStop;
 use crate::settle::keys_after;
 use crate::settled::SettledInput;
 use cpm_script::{Key, key_line};
@@ -68,9 +69,18 @@ pub(crate) fn records_of<'a>(
     Ok(outputs)
 }
 
-/// Of each session, whether it stopped idle where it was played by itself.
-pub(crate) fn idle_of(alloc: Global, settled: &[SettledInput<'_>]) -> Result<Vec<bool>, AllocError>
-    ensures { IfOk result (λ v. v.items ≡ map (λ s. s.is_idle) (map settled_view settled.now)) }
+/// Of each session, how it stopped where it was played by itself.
+pub(crate) fn stops_of(
+    alloc: Global,
+    settled: &[SettledInput<'_>],
+) -> Result<Vec<SessionStop>, AllocError>
+    ensures { IfOk result (λ v. v.items ≡ map stop_of (map settled_view settled.now)) }
 {
-    settled.iter().map(|session| session.is_idle).collect(alloc)
+    settled
+        .iter()
+        .map(|session| SessionStop {
+            is_idle: session.is_idle,
+            typing: session.typing,
+        })
+        .collect(alloc)
 }

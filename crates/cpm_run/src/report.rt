@@ -1,6 +1,7 @@
 //! What is reported of a run.
 
 use crate::ending::Ending;
+use cpm_play::PlayEnd;
 use std::fmt;
 
 /// How a session ended. Its text is `NAME END COUNT BYTES`.
@@ -12,12 +13,21 @@ pub struct SessionReport {
     pub bytes: u64,
 }
 
+/// How a session stopped where it was played by itself.
+#[derive(Clone, Copy, Drop)]
+pub struct SessionStop {
+    /// Whether sessions were to stop idle, and it stopped where it waits for a key that doesn't come.
+    pub is_idle: bool,
+    /// Why no more was typed at it, where one typed.
+    pub typing: Option<PlayEnd>,
+}
+
 /// How each session of a run ended, in their order.
 #[derive(Drop)]
 pub struct Report {
     pub sessions: Vec<SessionReport>,
-    /// Of each, whether sessions were to stop idle, and it stopped where it waits for a key that doesn't come.
-    pub idle: Vec<bool>,
+    /// Of each, how it stopped where it was played by itself.
+    pub stops: Vec<SessionStop>,
 }
 
 impl fmt::Display for SessionReport {

@@ -13,7 +13,7 @@ ghost use Rattle.cpm_run.specs.Settling.{AreSound};
 use crate::error::RunError;
 use crate::options::RunOptions;
 use crate::play::play_all;
-use crate::records::{idle_of, records_of};
+use crate::records::{records_of, stops_of};
 use crate::report::Report;
 use crate::settled::SettledInput;
 use crate::stages::settle_inputs;
@@ -97,14 +97,14 @@ fn play_inputs<'a, T: RunWatcher>(
         (starts_of (map settled_view inputs.entry.items))) }
 {
     watcher.begin(RunStage::All);
-    let idle = idle_of(alloc, inputs.as_slice())?;
+    let stops = stops_of(alloc, inputs.as_slice())?;
     let mut records = records_of(alloc, options.records, inputs.as_slice())?;
     let (reports, files) = play_all(alloc, config, system, inputs, watcher)?;
     let mut outputs = outputs_of(alloc, files)?;
     outputs.append(&mut records)?;
     let report = Report {
         sessions: reports,
-        idle,
+        stops,
     };
     Ok((report, outputs))
 }

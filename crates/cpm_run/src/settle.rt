@@ -3,7 +3,7 @@
 ghost use Rattle.std.specs.Prelude.{◌≡◌, ◌++◌, [], drop, IfErr, IfOk, map};
 ghost use Rattle.cpm_batch.specs.Inputs.{IsOpened, given, start_view, timed_keys};
 ghost use Rattle.cpm_script.specs.Cues.{all_said};
-ghost use Rattle.cpm_run.specs.Settled.{AreSettled, HasPlayedKeys, HasSettledBy, IsSettled, opened_by, part_of, said_at, settled_view, starts_of, typed_view};
+ghost use Rattle.cpm_run.specs.Settled.{AreSettled, HasPlayedKeys, HasSettledBy, IsSettled, opened_by, part_of, said_at, settled_view, starts_of, typed_view, typing_at};
 ghost use Rattle.cpm_run.specs.Settling.{AreFitInputs, AreReady, AreSound, AreSoundKeys, IsFitInput, IsFitPart, IsOpenable, IsPartReady, IsPartRefusal};
 ghost use Rattle.cpm_run.specs.Settling.{IsSessionReady, IsSettlingRefusal, IsSoundAfter, part_view};
 ghost use Rattle.std.specs.Prelude.{Some, ◌+◌, false, length, nat_le, true};
@@ -13,14 +13,14 @@ ghost use Rattle.cpm_script.specs.Script.{most_keys};
 use crate::alone::{after_keys, machine_of};
 use crate::error::RunError;
 use crate::options::{RunOptions, has_replays};
-use crate::part::{Part, key_count, part_of, timed_keys};
+use crate::part::{Part, key_count, part_of, timed_keys, typing_after};
 use crate::settled::SettledInput;
 use crate::watcher::{RunStage, RunWatcher};
 use cpm_batch::Input;
 use cpm_command_line::shown;
 use cpm_config::Config;
 use cpm_geom::Image;
-use cpm_play::{CuedKeys, LivePlay, play_cues};
+use cpm_play::{CuedKeys, LivePlay, TypedPlay, play_cues};
 use cpm_script::{Key, MOST_KEYS};
 use std::alloc::{AllocError, Global};
 use std::io;
@@ -116,7 +116,7 @@ fn is_few(before: usize, own: usize) -> bool
 }
 
 /// Whether the keys of a session are limited to so many as a script can have: nobody types, and no session is played by a recording.
-fn is_limited(options: RunOptions<'_>, typed: &Option<(usize, LivePlay)>) -> bool
+fn is_limited(options: RunOptions<'_>, typed: &Option<(usize, TypedPlay)>) -> bool
     ensures limited { result ≡ true → IsLimited options.entry (typed_view typed.now) }
     ensures free { result ≡ false → IsLimited options.entry (typed_view typed.now) → ⊥ }
 {
@@ -163,7 +163,7 @@ fn settle_session<'a, T: RunWatcher>(
     system: &Image,
     input: Input<'a>,
     settled: &[SettledInput<'_>],
-    typed: &Option<(usize, LivePlay)>,
+    typed: &Option<(usize, TypedPlay)>,
     watcher: &mut T,
 ) -> Result<SettledInput<'a>, RunError>
     requires fit { IsFitInput (typed_view typed.now) (starts_of (map settled_view settled.now)) (given input) }
@@ -171,7 +171,7 @@ fn settle_session<'a, T: RunWatcher>(
     requires ready { IsSessionReady options (typed_view typed.now) (said_at (typed_view typed.now) (length settled.now) (all_said input.cues))
         (opened_by (starts_of (map settled_view settled.now)) (start_view input.start)) }
     ensures settled { IfOk result (λ s. IsSettled system.now options.entry.stops_idle
-        (part_of (typed_view typed.now) config.now.sessions.items (map settled_view settled.now) (given input.entry)) (given input.entry) (settled_view s)) }
+        (typing_at (typed_view typed.now) (length (map settled_view settled.now))) (part_of (typed_view typed.now) config.now.sessions.items (map settled_view settled.now) (given input.entry)) (given input.entry) (settled_view s)) }
     ensures sound { IfOk result (λ s. IsSoundAfter system.now (map settled_view settled.now) (settled_view s)) }
     ensures refusal { IfErr result (IsPartRefusal options.entry (typed_view typed.now)
         (part_of (typed_view typed.now) config.now.sessions.items (map settled_view settled.now) (given input.entry)) (given input.entry)) }
@@ -195,6 +195,7 @@ fn settle_session<'a, T: RunWatcher>(
         before,
         steps: live.steps,
         is_idle,
+        typing: typing_after(typed, settled),
     })
 }
 
@@ -205,7 +206,7 @@ pub(crate) fn settle<'a, T: RunWatcher>(
     options: RunOptions<'_>,
     system: &Image,
     inputs: Vec<Input<'a>>,
-    typed: &Option<(usize, LivePlay)>,
+    typed: &Option<(usize, TypedPlay)>,
     watcher: &mut T,
 ) -> Result<Vec<SettledInput<'a>>, RunError>
     requires fit { AreFitInputs (typed_view typed.now) [] (map given inputs.items) }

@@ -2,6 +2,7 @@
 
 use cpm_batch::Start;
 use cpm_config::SessionConfig;
+use cpm_play::PlayEnd;
 use cpm_script::Key;
 
 /// A session with what it is played by.
@@ -17,4 +18,6 @@ pub(crate) struct SettledInput<'a> {
     pub(crate) steps: u64,
     /// Whether it stopped idle where it was played by itself.
     pub(crate) is_idle: bool,
+    /// Why no more was typed at it, where one typed.
+    pub(crate) typing: Option<PlayEnd>,
 }

@@ -22,7 +22,7 @@ use crate::watcher::{RunStage, RunWatcher};
 use cpm_batch::{Input, Start};
 use cpm_config::Config;
 use cpm_geom::Image;
-use cpm_play::{LivePlay, Typist};
+use cpm_play::{TypedPlay, Typist};
 use cpm_script::Cue;
 use cpm_slots::{LEAST_FRAMES, MOST_FRAMES};
 use std::alloc::Global;
@@ -85,7 +85,7 @@ fn type_if_any<P: Typist, W: Write, R: Write, T: RunWatcher>(
     out: &mut W,
     record: &mut R,
     watcher: &mut T,
-) -> Result<Option<(usize, LivePlay)>, RunError>
+) -> Result<Option<(usize, TypedPlay)>, RunError>
     requires place { IsTypedPlace config.now options typed }
     requires sessions { map (λ i. i.session) (map given inputs.now) ≡ config.now.sessions.items }
     requires starts { All BeginsAsConfigured (map given inputs.now) }

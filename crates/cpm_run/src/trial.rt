@@ -44,6 +44,7 @@ fn trial_of<'a>(alloc: Global, inputs: &[Input<'a>]) -> Result<Vec<SettledInput<
             before: 0,
             steps: 0,
             is_idle: false,
+            typing: None,
         })?;
     }
     Ok(trial)

@@ -16,7 +16,7 @@ use cpm_batch::Input;
 use cpm_command_line::shown;
 use cpm_config::{Config, Origin, place_of};
 use cpm_geom::Image;
-use cpm_play::{LivePlay, Typist, play_live};
+use cpm_play::{LivePlay, TypedPlay, Typist, play_live};
 use std::alloc::Global;
 use std::io;
 use std::io::Write;
@@ -43,7 +43,8 @@ pub(crate) fn typed_place(
 }
 
 /// Plays a session by itself, by its script and then by the keys that are typed, without a limit of steps. A typist that isn't patient may break in on the
-/// script. What the session prints is dropped. It gives its keys, each with the count at which it was accepted, and how many steps the session then has.
+/// script. What the session prints is dropped. It gives its keys, each with the count at which it was accepted, how many steps the session then has, and why
+/// no more was typed.
 pub(crate) fn type_at<P: Typist, W: Write, R: Write>(
     alloc: Global,
     config: &Config,
@@ -53,13 +54,13 @@ pub(crate) fn type_at<P: Typist, W: Write, R: Write>(
     typist: &mut P,
     out: &mut W,
     record: &mut R,
-) -> Result<LivePlay, RunError>
+) -> Result<TypedPlay, RunError>
     requires opened { IsOpened (start_view session.now.start) }
     requires openable { IsOpenable (start_view session.now.start) }
     requires ascii { AreAscii session.now.cues.items }
     ensures typed { IfOk result (λ t. IsTypedBy system.now config.now.sessions.items name.now (start_view session.now.start) (all_said session.now.cues)
         (streams (P.typing typist.old) (P.typing typist.new) (W.contents out.old) (W.contents out.new) (R.contents «record».old) (R.contents «record».new))
-        t.keys.items t.steps) }
+        t.live.keys.items t.live.steps t.end) }
     ensures refusal { IfErr result (IsTypingRefusal system.now (start_view session.now.start) (all_said session.now.cues)
         (streams (P.typing typist.old) (P.typing typist.new) (W.contents out.old) (W.contents out.new)
         (R.contents «record».old) (R.contents «record».new))) }
@@ -77,8 +78,12 @@ pub(crate) fn type_at<P: Typist, W: Write, R: Write>(
         record,
     )?;
     let LivePlay { keys, steps } = play.live;
-    Ok(LivePlay {
+    let live = LivePlay {
         keys,
         steps: last_fork(config, name).max(steps),
+    };
+    Ok(TypedPlay {
+        live,
+        end: play.end,
     })
 }

@@ -6,6 +6,15 @@ use cpm_host::{PlayEnd, ProgramPlay, TypingEnd};
 use std::alloc::Global;
 use test_language::{RowAnswer, RowFault, RowLine, Word, count};
 
+/// The word for why no more was typed.
+pub(crate) fn typing_word(end: TypingEnd) -> &'static str {
+    match end {
+        TypingEnd::Quit => "quit",
+        TypingEnd::InputEnd => "input-end",
+        TypingEnd::Signal => "signal",
+    }
+}
+
 impl Programs {
     /// Does a line that asks for the result of the last command.
     pub(crate) fn look(&self, alloc: Global, line: &RowLine<'_>) -> Result<RowAnswer, RowFault> {
@@ -60,9 +69,7 @@ impl Programs {
         let word = match end {
             PlayEnd::Steps => "steps",
             PlayEnd::Ended => "ended",
-            PlayEnd::Typing(TypingEnd::Quit) => "quit",
-            PlayEnd::Typing(TypingEnd::InputEnd) => "input-end",
-            PlayEnd::Typing(TypingEnd::Signal) => "signal",
+            PlayEnd::Typing(end) => typing_word(end),
         };
         RowAnswer::words(alloc, word)
     }

@@ -3,8 +3,11 @@
 use crate::asked::{Asked, TypingOutcome, stops_idle};
 use crate::config::changed;
 use crate::given::{bytes_given, count_of};
+use crate::looks::typing_word;
 use cpm_geom::Image;
-use cpm_host::{Config, HostError, KeyReader, MemoryStore, NoWatcher, Report, Store, run_host};
+use cpm_host::{
+    Config, HostError, KeyReader, MemoryStore, NoWatcher, PlayEnd, Report, Store, run_host,
+};
 use std::alloc::{AllocError, Global};
 use test_images::Images;
 use test_language::{RowAnswer, RowFault, RowLine, Scene, Word, number};
@@ -116,12 +119,16 @@ fn status_of(outcome: &Result<Report, HostError>) -> u8 {
 /// The lines of a report, as the command prints them.
 fn report_lines(alloc: Global, report: &Report) -> Result<String, RowFault> {
     let mut lines = String::new(alloc);
-    for (session, is_idle) in report.sessions.iter().zip(&report.idle) {
+    for (session, stop) in report.sessions.iter().zip(&report.stops) {
         if !lines.as_str().is_empty() {
             lines.push('\n')?;
         }
         lines.push_str(session.to_string(alloc)?.as_str())?;
-        lines.push_str(if *is_idle { " waiting" } else { "" })?;
+        lines.push_str(if stop.is_idle { " waiting" } else { "" })?;
+        if let Some(PlayEnd::Typing(end)) = stop.typing {
+            lines.push(' ')?;
+            lines.push_str(typing_word(end))?;
+        }
     }
     Ok(lines)
 }

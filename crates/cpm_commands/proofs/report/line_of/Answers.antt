@@ -7,5 +7,5 @@ pub returns : goal.returns
 returns c =
     let session = c.args.session.now in
     IfOk-weaker c.format.result _ _
-    (λ s h. h ∙ (λ i. (c.as_str-name.ensures.value i) ++ (32 ∷ ((c.end_word-word.ensures i) ++ (32 ∷ (decimal session.ending.count ++ (32 ∷ (decimal session.bytes ++ ((c.waiting_word-waiting.ensures i) ++ (10 ∷ [])))))))))
+    (λ s h. h ∙ (λ i. (c.as_str-name.ensures.value i) ++ (32 ∷ ((c.end_word-word.ensures i) ++ (32 ∷ (decimal session.ending.count ++ (32 ∷ (decimal session.bytes ++ ((c.waiting_word-waiting.ensures i) ++ ((c.typing_word-typing.ensures i) ++ (10 ∷ []))))))))))
     ∙ grind (arith, common_steps)) c.format.ensures.ok

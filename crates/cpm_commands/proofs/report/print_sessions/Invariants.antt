@@ -10,4 +10,4 @@ use Rattle.cpm_commands.proofs.report.print_sessions.Given as goal
 abbrev pub invariant-loop-session : goal.invariant-loop-session
 invariant-loop-session g l =
     (printed : Option (List ℕ)) → Appends (g.W.Write.contents l.out) printed (report_text (zip (iter_rest (zip_first l.session-iterator)) (iter_rest (zip_second l.session-iterator))))
-    → Appends (g.W.Write.contents l.fn.out) printed (report_text (zip l.report.sessions.items l.report.idle.items))
+    → Appends (g.W.Write.contents l.fn.out) printed (report_text (zip l.report.sessions.items l.report.stops.items))

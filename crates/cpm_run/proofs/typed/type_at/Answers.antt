@@ -25,7 +25,6 @@ returns-clause-typed g c =
     let same = c.in_ok-machine.ensures.machine in
     record {
       done = done;
-      end = play.end;
       cues = cues;
       says = ap (map cue_text) c.as_slice.ensures.value;
       given = played.keys;
