@@ -399,6 +399,12 @@ pub pushed_view : (settled now more : List SettledInput) (s : SettledInput) → 
 pushed_view settled now more s same pushed =
     ap (map settled_view) pushed ∙ map_push settled_view settled s ∙ ap (λ (ss : List SettledInput). map settled_view ss ++ settled_view s ∷ []) (sym same)
 
+-- the place of the next one, by the code's values
+pub next_settled : (system : Disk) (stops_idle : Bool) (typed : Option TypedSession) (settled : List SettledInput) (p : SessionPart) (i : SessionInput) (s : SettledSession)
+    → IsSettled system stops_idle (typing_at typed (length settled)) p i s → IsSettled system stops_idle (typing_at typed (length (map settled_view settled))) p i s
+next_settled system stops_idle typed settled p i s h =
+    subst (λ (n : ℕ). IsSettled system stops_idle (typing_at typed n) p i s) (sym (length-map settled settled_view)) h
+
 -- one more
 pub settled_more : (system : Disk) (stops_idle : Bool) (typed : Option TypedSession) (sessions : List SessionConfig) (all rest : List SessionInput) (i : SessionInput) (settled more : List SettledSession) (s : SettledSession)
     → IsSettledTo system stops_idle typed sessions all (i ∷ rest) settled → IsSettled system stops_idle (typing_at typed (length settled)) (part_of typed sessions settled i) i s → IsSoundAfter system settled s → more ≡ settled ++ s ∷ []

@@ -184,12 +184,12 @@ HasSettledBy system p false None keys steps is_idle = HasPlayedKeys system p fal
 HasSettledBy system p false (Some own) keys steps is_idle =
     HasSettledTimed (nat_le (length p.before + length own) most_keys) system p own keys steps is_idle
 
-pub record IsSettled (system : Disk) (stops_idle : Bool) (typing : Option PlayEnd) (p : SessionPart) (i : SessionInput) (s : SettledSession) : Type 0 where
+pub record IsSettled (system : Disk) (stops_idle : Bool) (end : Option PlayEnd) (p : SessionPart) (i : SessionInput) (s : SettledSession) : Type 0 where
   pub session : s.session ≡ i.session
   pub start : s.start ≡ i.start
   pub before : s.before ≡ length p.before
   pub keys : HasSettledBy system p stops_idle (timed_keys p.said) s.keys s.steps s.is_idle
-  pub typing : s.typing ≡ typing
+  pub typing : s.typing ≡ end
 
 -- each session in order, after those before it
 abbrev pub AreSettled : Disk → (stops_idle : Bool) → Option TypedSession → List SessionConfig

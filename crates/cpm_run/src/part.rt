@@ -1,5 +1,5 @@
 //! What there is to play a session of a run by, before it is settled.
-ghost use Rattle.std.specs.Prelude.{◌≡◌, Some, IfOk, IfSome, length, map, option_map};
+ghost use Rattle.std.specs.Prelude.{◌≡◌, Some, IfOk, IfSome, map, option_map};
 ghost use Rattle.cpm_batch.specs.Inputs.{IsOpened, start_view, timed_keys};
 ghost use Rattle.cpm_play.specs.Cued.{key_count};
 ghost use Rattle.cpm_script.specs.Cues.{all_said, cue_text};
@@ -149,15 +149,12 @@ fn steps_at(typed: &Option<(usize, TypedPlay)>, place: usize, steps: u64) -> u64
     }
 }
 
-/// Why no more was typed at the session that comes after these, where one typed at it.
-pub(crate) fn typing_after(
-    typed: &Option<(usize, TypedPlay)>,
-    settled: &[SettledInput<'_>],
-) -> Option<PlayEnd>
-    ensures { result ≡ typing_at (typed_view typed.now) (length (map settled_view settled.now)) }
+/// Why no more was typed at the session at a place, where one typed at it.
+pub(crate) fn typing_at(typed: &Option<(usize, TypedPlay)>, place: usize) -> Option<PlayEnd>
+    ensures { result ≡ typing_at (typed_view typed.now) place }
 {
     match typed {
-        Some((typed_at, play)) if *typed_at == settled.len() => Some(play.end),
+        Some((typed_at, play)) if *typed_at == place => Some(play.end),
         _ => None,
     }
 }

@@ -3,7 +3,8 @@
 ghost use Rattle.std.specs.Prelude.{◌≡◌, ◌++◌, [], drop, IfErr, IfOk, map};
 ghost use Rattle.cpm_batch.specs.Inputs.{IsOpened, given, start_view, timed_keys};
 ghost use Rattle.cpm_script.specs.Cues.{all_said};
-ghost use Rattle.cpm_run.specs.Settled.{AreSettled, HasPlayedKeys, HasSettledBy, IsSettled, opened_by, part_of, said_at, settled_view, starts_of, typed_view, typing_at};
+ghost use Rattle.cpm_run.specs.Settled.{AreSettled, HasPlayedKeys, HasSettledBy, IsSettled, opened_by, part_of, said_at, settled_view, starts_of};
+ghost use Rattle.cpm_run.specs.Settled.{typed_view, typing_at};
 ghost use Rattle.cpm_run.specs.Settling.{AreFitInputs, AreReady, AreSound, AreSoundKeys, IsFitInput, IsFitPart, IsOpenable, IsPartReady, IsPartRefusal};
 ghost use Rattle.cpm_run.specs.Settling.{IsSessionReady, IsSettlingRefusal, IsSoundAfter, part_view};
 ghost use Rattle.std.specs.Prelude.{Some, ◌+◌, false, length, nat_le, true};
@@ -13,7 +14,7 @@ ghost use Rattle.cpm_script.specs.Script.{most_keys};
 use crate::alone::{after_keys, machine_of};
 use crate::error::RunError;
 use crate::options::{RunOptions, has_replays};
-use crate::part::{Part, key_count, part_of, timed_keys, typing_after};
+use crate::part::{Part, key_count, part_of, timed_keys, typing_at};
 use crate::settled::SettledInput;
 use crate::watcher::{RunStage, RunWatcher};
 use cpm_batch::Input;
@@ -171,7 +172,8 @@ fn settle_session<'a, T: RunWatcher>(
     requires ready { IsSessionReady options (typed_view typed.now) (said_at (typed_view typed.now) (length settled.now) (all_said input.cues))
         (opened_by (starts_of (map settled_view settled.now)) (start_view input.start)) }
     ensures settled { IfOk result (λ s. IsSettled system.now options.entry.stops_idle
-        (typing_at (typed_view typed.now) (length (map settled_view settled.now))) (part_of (typed_view typed.now) config.now.sessions.items (map settled_view settled.now) (given input.entry)) (given input.entry) (settled_view s)) }
+        (typing_at (typed_view typed.now) (length settled.now))
+        (part_of (typed_view typed.now) config.now.sessions.items (map settled_view settled.now) (given input.entry)) (given input.entry) (settled_view s)) }
     ensures sound { IfOk result (λ s. IsSoundAfter system.now (map settled_view settled.now) (settled_view s)) }
     ensures refusal { IfErr result (IsPartRefusal options.entry (typed_view typed.now)
         (part_of (typed_view typed.now) config.now.sessions.items (map settled_view settled.now) (given input.entry)) (given input.entry)) }
@@ -182,12 +184,13 @@ fn settle_session<'a, T: RunWatcher>(
         cues,
     } = input;
     let part = part_of(alloc, config, typed, settled, session, &start, cues)?;
+    let place = settled.len();
     let before = part.before.len();
     if is_limited(options, typed) && !is_few(before, key_count(part.cues.as_slice())) {
         return Err(RunError::TooManyKeys(shown(session.name.as_str())));
     }
     let stops_idle = options.stops_idle;
-    let (live, is_idle) = settle_part(alloc, system, settled.len(), part, stops_idle, watcher)?;
+    let (live, is_idle) = settle_part(alloc, system, place, part, stops_idle, watcher)?;
     Ok(SettledInput {
         session,
         start,
@@ -195,7 +198,7 @@ fn settle_session<'a, T: RunWatcher>(
         before,
         steps: live.steps,
         is_idle,
-        typing: typing_after(typed, settled),
+        typing: typing_at(typed, place),
     })
 }
 

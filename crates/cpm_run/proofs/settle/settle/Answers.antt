@@ -5,7 +5,7 @@ use Rattle.std.proofs.lemmas.Result.{err_from_is_err_and}
 use Rattle.cpm_batch.specs.Inputs.{given}
 use Rattle.cpm_run.specs.Settled.{settled_view, typed_view}
 use Rattle.cpm_run.specs.declared.error.RunError.TheVariants as refusal
-use Rattle.cpm_run.proofs.SettleLemmas.{all_settled, first_settled, next_ready, next_refused, pushed_view, settled_more, settled_next}
+use Rattle.cpm_run.proofs.SettleLemmas.{all_settled, first_settled, next_ready, next_refused, next_settled, pushed_view, settled_more, settled_next}
 use Rattle.cpm_run.proofs.settle.settle.Goals as goal
 
 pub loop-input-init : goal.loop-input-init
@@ -53,7 +53,9 @@ loop-input-preserved g c =
     let next = settled_next c.args.system.now c.args.options.stops_idle (typed_view c.args.typed.now) c.args.config.now.sessions.items (map given c.args.inputs.items) (into_iter_items l.rest) (into_iter_items c.next.new.self) c.in-Some.input l.settled.items c.as_slice-before.result.now
     c.in-Some.ensures.cases.0 c.as_slice-before.ensures.value l.invariant in
     settled_more c.args.system.now c.args.options.stops_idle (typed_view c.args.typed.now) c.args.config.now.sessions.items (map given c.args.inputs.items) (map given (into_iter_items c.next.new.self)) (given c.in-Some.input)
-    (map settled_view c.as_slice-before.result.now) (map settled_view c.push.new.self.items) (settled_view c.in_ok-next.next) next c.in_ok-next.ensures.settled c.in_ok-next.ensures.sound
+    (map settled_view c.as_slice-before.result.now) (map settled_view c.push.new.self.items) (settled_view c.in_ok-next.next) next
+    (next_settled c.args.system.now c.args.options.stops_idle (typed_view c.args.typed.now) c.as_slice-before.result.now _ (given c.in-Some.input) (settled_view c.in_ok-next.next) c.in_ok-next.ensures.settled)
+    c.in_ok-next.ensures.sound
     (pushed_view l.settled.items c.as_slice-before.result.now c.push.new.self.items c.in_ok-next.next c.as_slice-before.ensures.value c.in_ok-push.ensures.items)
 
 pub returns-in_err-push-clause-refusal : goal.returns-in_err-push-clause-refusal

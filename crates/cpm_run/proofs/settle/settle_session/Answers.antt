@@ -48,6 +48,6 @@ returns-clause-sound g c =
       before = c.len-before.result;
       steps = c.in_ok-live.live.steps;
       is_idle = c.in_ok-live.is_idle;
-      typing = c.typing_after.result;
+      typing = c.typing_at.result;
     })
     c.in_ok-part.ensures.part c.requires.sound c.requires.fit.parent refl long c.in_ok-live.ensures.sound

@@ -1,0 +1,4 @@
+//! Sessions that are saved: their bytes, and sessions from bytes.
+#![tactic(auto)]
+
+pub mod laws;
