@@ -20,8 +20,9 @@ Options:
   --z80       run on the Z80; it is the 8080 unless this is given
   --steps N   stop after N steps. N is a number from 0 to 18446744073709551615.
               A step is an instruction, or a part of a system call. Without
-              --steps there is a limit of 1,000,000 steps with --keys or
-              --replay, but none with --keyboard, --out-disk or --out-folder
+              --steps there is a limit with --keys or --replay, of 1,000,000
+              steps from the last key on that comes by its count, but none with
+              --keyboard, --out-disk, --out-folder, --list or --record
   --keys SCRIPT
               press the keys of SCRIPT, which is written as for com
   --replay RECORDING
@@ -50,7 +51,7 @@ Options:
   --progress  report on standard error how much of the steps is done. It goes
               only with --keys or --replay, and not with --keyboard
   --pace N    let N thousand steps pass in a second at most; N is a number from
-              1 to 18446744073709551615
+              1 to 18446744073709551615. An 8080 of 2 MHz did 300 to 500
   --stop-idle
               end where CP/M waits for a key and no key will come
   --raw       send control bytes of a program to a terminal as they are;

@@ -50,8 +50,9 @@ Options:
   --z80       run it on the Z80; it is the 8080 unless this is given
   --steps N   stop after N steps. N is a number from 0 to 18446744073709551615.
               A step is an instruction, or a part of a system call. Without
-              --steps there is a limit of 1,000,000 steps, but none with
-              --keyboard, --out-disk or --out-folder
+              --steps there is a limit of 1,000,000 steps from the last key on
+              that comes by its count, but none with --keyboard, --out-disk,
+              --out-folder, --list or --record
   --keys SCRIPT
               press the keys of SCRIPT. A line of it is empty, a comment that
               begins with '#', or says when keys come: 'N KEYS' after N steps,
@@ -90,7 +91,7 @@ Options:
               file SCRIPT, which --replay takes; one of these must be given
   --progress  report on standard error how much of the steps is done
   --pace N    let N thousand steps pass in a second at most; N is a number from
-              1 to 18446744073709551615
+              1 to 18446744073709551615. An 8080 of 2 MHz did 300 to 500
   --stop-idle
               end where the program waits for a key and no key will come
   --raw       send control bytes of the program to a terminal as they are;
@@ -196,7 +197,8 @@ Options:
               refuse outputs whose names are not plain names of files in the
               current folder
   --pace N    let N thousand steps pass in a second at most while one types; N
-              is a number from 1 to 18446744073709551615
+              is a number from 1 to 18446744073709551615. An 8080 of 2 MHz did
+              300 to 500
   --replay NAME=FILE
               press the keys of the recording FILE in the session NAME, in place
               of its script; given again, in other sessions

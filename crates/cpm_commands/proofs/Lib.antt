@@ -1,3 +1,4 @@
+pub mod CountLemmas
 pub mod DiskLemmas
 pub mod DriveLemmas
 pub mod GetLemmas

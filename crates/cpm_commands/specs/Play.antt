@@ -1,6 +1,6 @@
 -- What the commands `com` and `boot` do. All of it is own.
 use Rattle.std.specs.Prelude.{◌≡◌, ◌⊎◌, ◌^◌, ◌-◌, ◌==◌, ◌&&◌, ◌||◌, not, is_some, unwrap_or, if◌then◌else◌, ℕ, Bool, true, false, List, []}
-use Rattle.std.specs.Prelude.{◌++◌, length, map, option_map, Option, Some, None, Ok}
+use Rattle.std.specs.Prelude.{◌++◌, ◌+◌, min, length, map, option_map, Option, Some, None, Ok}
 use Rattle.cpm_command_line.specs.declared.task.PlayTask.{PlayTask}
 use Rattle.cpm_disk_commands.specs.declared.damage.NamedFile.{NamedFile}
 use Rattle.cpm_geom.specs.Disk.{Disk}
@@ -20,7 +20,7 @@ use Rattle.cpm_play.specs.declared.live.PlayEnd.{PlayEnd}
 use Rattle.cpm_play.specs.declared.live.PlayEnd.TheVariants.{Steps}
 use Rattle.cpm_run.specs.Settled.{AreUntouched, Streams, play_streams}
 use Rattle.cpm_run.specs.declared.ending.Ending.{Ending}
-use Rattle.cpm_script.specs.Cues.{cue_text, cues}
+use Rattle.cpm_script.specs.Cues.{cue_text, cues, last_cue_count}
 use Rattle.cpm_script.specs.declared.cue.Cue.{Cue}
 use Rattle.cpm_store.specs.Files.{StoreName}
 use Rattle.cpm_store.specs.Log.{StoreAccess, Gave, Missed}
@@ -59,12 +59,13 @@ writes_disks task = not (length task.outs.items == 0) || not (length task.out_fo
 abbrev pub writes_files : PlayTask → Bool
 writes_files task = writes_disks task || is_some task.list || is_some task.record
 
--- how many steps it has at most where nobody says: there is no limit where a person ends it, and where files are written
-abbrev pub unasked_steps : (is_live writes : Bool) → ℕ
-unasked_steps is_live writes = if is_live || writes then 2 ^ 64 - 1 else 1000000
+-- how many steps it has at most where nobody says: there is no limit where a person ends it, and where files are written; else they count from the last key
+-- with a count, so that all such keys come
+abbrev pub unasked_steps : (is_live writes : Bool) → (last : ℕ) → ℕ
+unasked_steps is_live writes last = if is_live || writes then 2 ^ 64 - 1 else min (last + 1000000) (2 ^ 64 - 1)
 
-abbrev pub steps_asked : PlayTask → ℕ
-steps_asked task = unwrap_or task.steps (unasked_steps task.is_live (writes_files task))
+abbrev pub steps_asked : PlayTask → List Cue → ℕ
+steps_asked task said = unwrap_or task.steps (unasked_steps task.is_live (writes_files task) (last_cue_count 0 (map cue_text said)))
 
 -- its keys are those of its script, and then those that are typed where that is asked
 abbrev pub source_of : PlayTask → List Cue → Source → Type 0
@@ -229,7 +230,7 @@ pub record HasPlayedMachine {F : Type 0} (acts : ReadActs F) (task : PlayTask) (
   pub reads : IsPlayRead acts task places old new g said
   pub source : Source
   pub source_is : source_of task said source
-  pub played : IsPlayedBy source (system_disk g) (machine_of g) (steps_asked task) play io
+  pub played : IsPlayedBy source (system_disk g) (machine_of g) (steps_asked task said) play io
 
 -- how far it came that was not played
 pub data IsPlayStopped {F : Type 0} (acts : ReadActs F) (task : PlayTask) (io : Streams) (old new : F) (e : HostError) : Type 0 where
@@ -253,7 +254,7 @@ pub data IsPlayStopped {F : Type 0} (acts : ReadActs F) (task : PlayTask) (io : 
       → IsPlayStopped acts task io old new e
   -- it was not played to its end
   NotPlayed : (places : List DrivePlace) (g : ProgramInput) (said : List Cue) (source : Source) → IsPlayRead acts task places old new g said
-      → source_of task said source → IsProgramPlayRefusal source g (steps_asked task) io e → IsPlayStopped acts task io old new e
+      → source_of task said source → IsProgramPlayRefusal source g (steps_asked task said) io e → IsPlayStopped acts task io old new e
 
 -- the folders, each with its drive as the machine began with it
 abbrev pub task_starts : PlayTask → ProgramInput → List (StoreName × Option Disk)

@@ -23,11 +23,14 @@ typing_word (Some (Typing InputEnd)) = codes " input-end"
 typing_word (Some (Typing Signal)) = codes " signal"
 typing_word end = []
 
+-- the words for how a session stopped
+abbrev pub stop_words : SessionStop → List ℕ
+stop_words stop = waiting_word stop.is_idle ++ typing_word stop.typing
+
 -- the line of a session: its name, its end, its steps, the bytes of its console, whether it stopped where it waits, and why no more was typed at it
 abbrev pub report_line : ReportEntry → SessionStop → List ℕ
 report_line r stop =
-    r.name ++ codes " " ++ end_word r.ending.ended ++ codes " " ++ decimal r.ending.count ++ codes " " ++ decimal r.bytes ++ waiting_word stop.is_idle
-    ++ typing_word stop.typing ++ codes "\n"
+    r.name ++ codes " " ++ end_word r.ending.ended ++ codes " " ++ decimal r.ending.count ++ codes " " ++ decimal r.bytes ++ stop_words stop ++ codes "\n"
 
 -- a line for each session, in their order
 abbrev pub report_text : List (SessionReport × SessionStop) → List ℕ

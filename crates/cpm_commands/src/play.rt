@@ -1,5 +1,5 @@
 //! The commands `com` and `boot`: a machine is played.
-ghost use Rattle.std.specs.Prelude.{◌≡◌, ◌&&◌, IfErr, IfOk};
+ghost use Rattle.std.specs.Prelude.{◌≡◌, ◌&&◌, ◌∷◌, [], IfErr, IfOk, map};
 ghost use Rattle.cpm_commands.specs.Drives.{HasToldLeftOut};
 ghost use Rattle.cpm_commands.specs.Messages.{HasToldEnd};
 ghost use Rattle.cpm_commands.specs.Plan.{plan_view};
@@ -9,6 +9,7 @@ ghost use Rattle.cpm_commands.specs.Record.{HasEndedRecord};
 ghost use Rattle.cpm_machine.specs.Step.{is_running};
 ghost use Rattle.cpm_play.specs.Output.{output_state};
 ghost use Rattle.cpm_run.specs.Settled.{play_streams, streams};
+ghost use Rattle.cpm_script.specs.Cues.{cue_text, last_cue_count};
 
 use crate::begin::{read_keys, read_start, tail_if_any};
 use crate::drives::{DrivePlace, add_places, find_places, tell_left_out};
@@ -26,7 +27,7 @@ use cpm_host::{
 use std::alloc::{AllocError, Global};
 use std::io::Write;
 
-/// How many steps a program has at most where nobody says.
+/// How many steps a program has at most where nobody says, behind its last key that has a count.
 const STEPS: u64 = 1_000_000;
 
 /// The files that are read and written, where the drives come from these places.
@@ -84,14 +85,36 @@ fn writes_files(task: &PlayTask<'_>) -> bool
     writes_disks(task) || task.list.is_some() || task.record.is_some()
 }
 
-/// How many steps it has at most. Where a person ends it, or files are written, there is no limit that nobody asked for.
-fn steps_asked(task: &PlayTask<'_>) -> u64
-    ensures { result ≡ steps_asked task.now }
+/// The count of a key, where it has one; and else this one.
+fn count_after(last: u64, cue: &Cue) -> u64
+    ensures { result ≡ last_cue_count last (cue_text cue.now ∷ []) }
+{
+    match cue {
+        Cue::Key(key) => key.count,
+        Cue::Wait(_) | Cue::Press(_) => last,
+    }
+}
+
+/// The count of the last key that has one; 0 where none has.
+fn last_count(cues: &[Cue]) -> u64
+    ensures { result ≡ last_cue_count 0 (map cue_text cues.now) }
+{
+    let mut last = 0;
+    for cue in cues {
+        last = count_after(last, cue);
+    }
+    last
+}
+
+/// How many steps it has at most. Where a person ends it, or files are written, there is no limit that nobody asked for; and else all keys come that have
+/// counts.
+fn steps_asked(task: &PlayTask<'_>, cues: &[Cue]) -> u64
+    ensures { result ≡ steps_asked task.now cues.now }
 {
     let unasked = if task.is_live || writes_files(task) {
         u64::MAX
     } else {
-        STEPS
+        last_count(cues).saturating_add(STEPS)
     };
     task.steps.unwrap_or(unasked)
 }
@@ -228,7 +251,7 @@ fn play_machine<F: CommandFiles, P: Typist, W: Write, L: Write, R: Write, T: Run
     let play = run_program(
         alloc,
         start,
-        steps_asked(task),
+        steps_asked(task, cues.as_slice()),
         source,
         typist,
         out,

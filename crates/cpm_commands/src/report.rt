@@ -1,13 +1,13 @@
 //! What is printed of a run.
-ghost use Rattle.std.specs.Prelude.{◌≡◌, ◌⊎◌, ◌∷◌, [], IfErr, IfOk, OnOk, string_bytes, zip};
+ghost use Rattle.std.specs.Prelude.{◌≡◌, ◌⊎◌, ◌∷◌, [], Some, IfErr, IfOk, OnOk, string_bytes, zip};
 ghost use Rattle.std.specs.Io.KnownBytes.{Appends};
-ghost use Rattle.cpm_commands.specs.Report.{report_line, report_text, typing_word, waiting_word, IsReported, IsUnprinted};
+ghost use Rattle.cpm_commands.specs.Report.{report_line, report_text, stop_words, typing_word, waiting_word, IsReported, IsUnprinted};
 ghost use Rattle.cpm_run.specs.Run.{report_view};
 
 use cpm_host::{HostError, PlayEnd, Report, SessionReport, SessionStop, TypingEnd, end_word};
 use std::alloc::{AllocError, Global};
-use std::io;
 use std::io::Write;
+use std::{fmt, io};
 
 /// A writer that knows whether what it got last ended a line.
 pub trait LineWriter: Write {
@@ -36,6 +36,20 @@ pub(crate) fn typing_word(end: Option<PlayEnd>) -> &'static str
     }
 }
 
+/// The words for how a session stopped: whether it was to stop where it waits for a key, and did, and why no more was typed at it.
+#[derive(Drop)]
+struct StopWords(SessionStop);
+
+impl fmt::Display for StopWords {
+    ghost output = { λ words. Some (stop_words words.0) };
+
+    fn fmt<W: fmt::Write>(&self, f: &mut fmt::Formatter<W>) -> fmt::Result {
+        let waiting = waiting_word(self.0.is_idle);
+        let typing = typing_word(self.0.typing);
+        write!(f, "{waiting}{typing}")
+    }
+}
+
 /// The line of a session.
 fn line_of(alloc: Global, session: &SessionReport, stop: SessionStop) -> Result<String, AllocError>
     ensures { IfOk result (λ line. string_bytes line ≡ report_line (report_view session.now) stop) }
@@ -43,9 +57,8 @@ fn line_of(alloc: Global, session: &SessionReport, stop: SessionStop) -> Result<
     let name = session.name.as_str();
     let word = end_word(session.ending.ended);
     let (count, bytes) = (session.ending.count, session.bytes);
-    let waiting = waiting_word(stop.is_idle);
-    let typing = typing_word(stop.typing);
-    format!(in alloc; "{name} {word} {count} {bytes}{waiting}{typing}\n")
+    let words = StopWords(stop);
+    format!(in alloc; "{name} {word} {count} {bytes}{words}\n")
 }
 
 /// Writes a text, and all of what was written before it.

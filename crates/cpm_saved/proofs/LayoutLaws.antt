@@ -7,7 +7,7 @@ use Rattle.std.specs.List.{All}
 use Rattle.std.proofs.lemmas.Bool.Decides.{nat_tests}
 use Rattle.std.proofs.lemmas.List.{drop_at, take_at}
 use Rattle.std.proofs.lemmas.Nat.{from_le_bytes-to_le_bytes_2, from_le_bytes-to_le_bytes_8}
-use Rattle.cpm_saved.specs.Layout.{Below, Both, Either, Fixed, IfAny, IsOf, Layout, Long, Maybe, Read, Run, Times, Word, as_long, as_word, coded, coded_all, decoded, first_bytes, meaning, read_times, run_within, then_read}
+use Rattle.cpm_saved.specs.Layout.{Below, Both, Either, Fixed, IfAny, IsOf, Layout, Long, Maybe, Read, Run, Times, Word, long_read, word_read, coded, coded_all, decoded, first_bytes, laid_out, read_times, run_within, then_read}
 use Rattle.cpm_saved.specs.Laws.{ReadValuesAreWritten, ValuesAreRead}
 
 -- ---- what is written is read
@@ -20,14 +20,14 @@ first_at xs rest n long =
     ap (λ (b : Bool). if b then Some (take n (xs ++ rest), drop n (xs ++ rest)) else None) test
     ∙ ap (λ (ys : List ℕ). Some (ys, drop n (xs ++ rest))) (take_at xs rest n long) ∙ ap (λ (ys : List ℕ). Some (xs, ys)) (drop_at xs rest n long)
 
-word_at : (n : ℕ) (rest : List ℕ) → n < 2 ^ 16 → option_map as_word (first_bytes 2 (to_le_bytes w16 n ++ rest)) ≡ Some (n, rest)
+word_at : (n : ℕ) (rest : List ℕ) → n < 2 ^ 16 → option_map word_read (first_bytes 2 (to_le_bytes w16 n ++ rest)) ≡ Some (n, rest)
 word_at n rest small =
-    ap (option_map as_word) (first_at (to_le_bytes w16 n) rest 2 refl)
+    ap (option_map word_read) (first_at (to_le_bytes w16 n) rest 2 refl)
     ∙ ap (λ (m : ℕ). Some (m, rest)) (from_le_bytes-to_le_bytes_2 n small)
 
-long_at : (n : ℕ) (rest : List ℕ) → n < 2 ^ 64 → option_map as_long (first_bytes 8 (to_le_bytes w64 n ++ rest)) ≡ Some (n, rest)
+long_at : (n : ℕ) (rest : List ℕ) → n < 2 ^ 64 → option_map long_read (first_bytes 8 (to_le_bytes w64 n ++ rest)) ≡ Some (n, rest)
 long_at n rest small =
-    ap (option_map as_long) (first_at (to_le_bytes w64 n) rest 8 refl)
+    ap (option_map long_read) (first_at (to_le_bytes w64 n) rest 8 refl)
     ∙ ap (λ (m : ℕ). Some (m, rest)) (from_le_bytes-to_le_bytes_8 n small)
 
 run_at : (most : ℕ) (bytes rest : List ℕ) → length bytes ≤ most → length bytes < 2 ^ 16 → decoded (Run most) ((to_le_bytes w16 (length bytes) ++ bytes) ++ rest) ≡ Some (bytes, rest)
@@ -62,9 +62,9 @@ values_read (Run most) bytes rest of = run_at most bytes rest of.0 of.1
 values_read (Both f g) v rest of =
     ap (λ (bytes : List ℕ). option_and_then (then_read (decoded g)) (decoded f bytes)) (append_assoc (coded f v.0) (coded g v.1) rest)
     ∙ ap (option_and_then (then_read (decoded g))) (values_read f v.0 (coded g v.1 ++ rest) of.0)
-    ∙ ap (option_map (λ (q : meaning g × List ℕ). ((v.0, q.0), q.1))) (values_read g v.1 rest of.1)
+    ∙ ap (option_map (λ (q : laid_out g × List ℕ). ((v.0, q.0), q.1))) (values_read g v.1 rest of.1)
 values_read (Maybe f) None rest of = refl
-values_read (Maybe f) (Some v) rest of = ap (option_map (λ (p : meaning f × List ℕ). (Some p.0, p.1))) (values_read f v rest of)
-values_read (Either f g) (inl v) rest of = ap (option_map (λ (p : meaning f × List ℕ). (inl p.0, p.1))) (values_read f v rest of)
-values_read (Either f g) (inr v) rest of = ap (option_map (λ (p : meaning g × List ℕ). (inr p.0, p.1))) (values_read g v rest of)
+values_read (Maybe f) (Some v) rest of = ap (option_map (λ (p : laid_out f × List ℕ). (Some p.0, p.1))) (values_read f v rest of)
+values_read (Either f g) (inl v) rest of = ap (option_map (λ (p : laid_out f × List ℕ). (inl p.0, p.1))) (values_read f v rest of)
+values_read (Either f g) (inr v) rest of = ap (option_map (λ (p : laid_out g × List ℕ). (inr p.0, p.1))) (values_read g v rest of)
 values_read (Times count f) vs rest of = times_at (decoded f) (coded f) (IsOf f) (values_read f) count vs rest of.0 of.1

@@ -25,16 +25,16 @@ pub data Layout : Type 0 where
   Times : (count : ℕ) → Layout → Layout
 
 -- what a layout lays out
-abbrev pub meaning : Layout → Type 0
-meaning (Below limit) = ℕ
-meaning Word = ℕ
-meaning Long = ℕ
-meaning (Fixed count) = List ℕ
-meaning (Run most) = List ℕ
-meaning (Both f g) = meaning f × meaning g
-meaning (Maybe f) = Option (meaning f)
-meaning (Either f g) = meaning f ⊎ meaning g
-meaning (Times count f) = List (meaning f)
+abbrev pub laid_out : Layout → Type 0
+laid_out (Below limit) = ℕ
+laid_out Word = ℕ
+laid_out Long = ℕ
+laid_out (Fixed count) = List ℕ
+laid_out (Run most) = List ℕ
+laid_out (Both f g) = laid_out f × laid_out g
+laid_out (Maybe f) = Option (laid_out f)
+laid_out (Either f g) = laid_out f ⊎ laid_out g
+laid_out (Times count f) = List (laid_out f)
 
 -- what holds of a value, if there is one, and of one of two
 abbrev pub IfAny : {A : Type 0} → (A → Type 0) → Option A → Type 0
@@ -45,8 +45,8 @@ abbrev pub OfEither : {A B : Type 0} → (A → Type 0) → (B → Type 0) → A
 OfEither {A} {B} left right (inl v) = left v
 OfEither {A} {B} left right (inr v) = right v
 
--- a value that can be laid out so
-abbrev pub IsOf : (f : Layout) → meaning f → Type 0
+-- a value that can be laid_out out so
+abbrev pub IsOf : (f : Layout) → laid_out f → Type 0
 IsOf (Below limit) n = n < limit
 IsOf Word n = n < 2 ^ 16
 IsOf Long n = n < 2 ^ 64
@@ -72,7 +72,7 @@ coded_all {A} code [] = []
 coded_all {A} code (v ∷ vs) = code v ++ coded_all code vs
 
 -- the bytes of a value
-abbrev pub coded : (f : Layout) → meaning f → List ℕ
+abbrev pub coded : (f : Layout) → laid_out f → List ℕ
 coded (Below limit) n = n ∷ []
 coded Word n = to_le_bytes w16 n
 coded Long n = to_le_bytes w64 n
@@ -98,11 +98,11 @@ abbrev pub first_bytes : ℕ → List ℕ → Read (List ℕ)
 first_bytes count bytes = if nat_le count (length bytes) then Some (take count bytes, drop count bytes) else None
 
 -- they are a number, the lowest byte first
-abbrev pub as_word : List ℕ × List ℕ → ℕ × List ℕ
-as_word p = (from_le_bytes w16 p.0, p.1)
+abbrev pub word_read : List ℕ × List ℕ → ℕ × List ℕ
+word_read p = (from_le_bytes w16 p.0, p.1)
 
-abbrev pub as_long : List ℕ × List ℕ → ℕ × List ℕ
-as_long p = (from_le_bytes w64 p.0, p.1)
+abbrev pub long_read : List ℕ × List ℕ → ℕ × List ℕ
+long_read p = (from_le_bytes w64 p.0, p.1)
 
 abbrev pub run_within : ℕ → ℕ × List ℕ → Read (List ℕ)
 run_within most p = if nat_le p.0 most then first_bytes p.0 p.1 else None
@@ -121,12 +121,12 @@ read_times {A} (suc count) read bytes =
     option_and_then (λ p. option_map (λ q. (p.0 ∷ q.0, q.1)) (read_times count read p.1)) (read bytes)
 
 -- the value with which bytes begin, if they begin with one
-abbrev pub decoded : (f : Layout) → List ℕ → Read (meaning f)
+abbrev pub decoded : (f : Layout) → List ℕ → Read (laid_out f)
 decoded (Below limit) bytes = first_below limit bytes
-decoded Word bytes = option_map as_word (first_bytes 2 bytes)
-decoded Long bytes = option_map as_long (first_bytes 8 bytes)
+decoded Word bytes = option_map word_read (first_bytes 2 bytes)
+decoded Long bytes = option_map long_read (first_bytes 8 bytes)
 decoded (Fixed count) bytes = first_bytes count bytes
-decoded (Run most) bytes = option_and_then (run_within most) (option_map as_word (first_bytes 2 bytes))
+decoded (Run most) bytes = option_and_then (run_within most) (option_map word_read (first_bytes 2 bytes))
 decoded (Both f g) bytes = option_and_then (then_read (decoded g)) (decoded f bytes)
 decoded (Maybe f) bytes = by_mark (λ rest. Some (None, rest)) (λ rest. option_map (λ p. (Some p.0, p.1)) (decoded f rest)) bytes
 decoded (Either f g) bytes =

@@ -21,7 +21,7 @@ pub enum LineFault {
     #[error("a text in quotes with a space after it is wanted")]
     NoText,
     /// With the keys of this line there are more than 4,096.
-    #[error("a script has at most 4096 keys")]
+    #[error("a script has at most 4096 keys; a recording, by '--replay', may have more")]
     TooManyKeys,
     /// The count is below that at which the session is forked.
     #[error("the count is below that at which the session is forked")]

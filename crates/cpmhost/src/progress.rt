@@ -145,6 +145,15 @@ impl<'a, R: LockableFiles> Teller<'a, R> {
         }
     }
 
+    /// Tells a person that the disks at which one typed are written nowhere.
+    pub fn tell_dropped_disks(&mut self) {
+        if self.is_read() {
+            self.tell(
+                &"hint: its disks are dropped; --out-disk IMAGE or --out-folder FOLDER keeps them",
+            );
+        }
+    }
+
     /// Ends the line of a session that was typed at.
     fn end_typing(&self) {
         if self.terminals.is_output_terminal && !self.is_at_line_start.get() {

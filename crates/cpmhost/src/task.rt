@@ -17,6 +17,7 @@ use crate::terminal::{TerminalTypist, TypingOutput};
 use crate::typing::Terminals;
 use cpm_host::{HostError, KeyReader, RunTask, Task, Typist};
 use std::cell::Cell;
+use std::io;
 use std::io::{BufReader, BufWriter};
 
 /// Does a task, and gives the exit status.
@@ -38,7 +39,8 @@ pub fn do_task(
     record.finish(files.end(done))
 }
 
-/// Does it by the keys of a terminal, until a file of this name comes. (It is a function of its own, so that others need no room for the typist.)
+/// Does it by the keys of a terminal, until a file of this name comes. Where standard output can't be written, that is refused once all else is done. (It is
+/// a function of its own, so that others need no room for the typist.)
 #[inline(never)]
 fn do_at_terminal<'a, R: LockableFiles + StandardInput>(
     rt: &'a R,
@@ -51,10 +53,23 @@ fn do_at_terminal<'a, R: LockableFiles + StandardInput>(
 ) -> Result<u8, HostError>
     requires { HasUsers task.now }
 {
-    let is_gone = Cell::new(false);
-    let mut typist = TerminalTypist::new(rt, end, &is_gone, pace_of(task));
-    let lost = terminals.is_output_terminal.then_some(&is_gone);
-    do_over(rt, task, terminals, lost, files, record, keys, &mut typist)
+    let lost = Cell::new(None);
+    let mut typist = TerminalTypist::new(rt, end, &lost, pace_of(task));
+    let done = do_over(
+        rt,
+        task,
+        terminals,
+        Some(&lost),
+        files,
+        record,
+        keys,
+        &mut typist,
+    )?;
+    match lost.get() {
+        // (a terminal that is gone is nobody's any more)
+        Some(reason) if !terminals.is_output_terminal => Err(HostError::OutputUnwritable(reason)),
+        _ => Ok(done),
+    }
 }
 
 /// Does it by the keys of standard input, which is read where one is wanted.
@@ -74,13 +89,13 @@ fn do_by_reads<'a, R: LockableFiles + StandardInput>(
     do_over(rt, task, terminals, None, files, record, keys, &mut typist)
 }
 
-/// Does it over these files, with the standard streams, and by the keys of this typist. Where standard output may be lost, it is noted there that it is.
+/// Does it over these files, with the standard streams, and by the keys of this typist. Where standard output may be lost, it is noted there why.
 #[inline(never)]
 fn do_over<'a, R: LockableFiles + StandardInput, P: Typist>(
     rt: &'a R,
     task: &Task<'_>,
     terminals: Terminals<'_>,
-    lost: Option<&Cell<bool>>,
+    lost: Option<&Cell<Option<io::Error>>>,
     files: &mut MachineFiles<'a, R>,
     record: &mut Record<'_, R>,
     keys: &Cell<usize>,
@@ -119,6 +134,9 @@ fn do_over<'a, R: LockableFiles + StandardInput, P: Typist>(
     teller.end_all();
     if has_shown_escape.get() && takes_raw(task) {
         teller.tell_shown_escape();
+    }
+    if done.is_ok() && drops_disks(task) {
+        teller.tell_dropped_disks();
     }
     done
 }
@@ -167,6 +185,17 @@ fn record_of<'a>(task: &'a Task<'_>) -> Option<&'a str> {
 /// Whether a task has the option that control bytes of a program go to a terminal as they are.
 fn takes_raw(task: &Task<'_>) -> bool {
     matches!(task, Task::Com(_) | Task::Boot(_) | Task::Run(_))
+}
+
+/// Whether one types at disks that are written nowhere. (The blank one of a program that has no other is hardly missed.)
+fn drops_disks(task: &Task<'_>) -> bool {
+    match task {
+        Task::Com(task) | Task::Boot(task) => {
+            let has_disks = task.file.is_none() || !task.drives.is_empty();
+            task.is_live && has_disks && task.outs.is_empty() && task.out_folders.is_empty()
+        }
+        _ => false,
+    }
 }
 
 /// Whether control bytes of a program go to a terminal as they are.

@@ -15,6 +15,17 @@ const MOST_SLEEP: u64 = 20_000;
 /// How many microseconds a machine may make up for that it had no time.
 const MOST_CREDIT: u64 = 100_000;
 
+/// How long a turn of a machine takes at most where keys are looked for between turns, how long one that is to be shorter takes then, and how short one is
+/// behind which others are longer, in microseconds.
+const LONG_TURN: u64 = 4_000;
+
+const GOOD_TURN: u64 = 3_000;
+
+const SHORT_TURN: u64 = 2_000;
+
+/// How many steps such a turn has at most.
+const MOST_STEPS: u64 = 100_000;
+
 /// The time of a clock that doesn't go back, in microseconds.
 pub fn micros(clock: &impl Clock) -> u64 {
     match clock.monotonic() {
@@ -98,5 +109,49 @@ impl Tempo {
         if let Some((from, first)) = self.from {
             self.from = Some((from.saturating_add(time), first));
         }
+    }
+}
+
+/// How many steps a turn of a machine has, so that keys are looked for every few milliseconds of the clock, whatever its steps take.
+#[derive(Clone, Copy, Debug, Drop)]
+pub struct TurnLength {
+    steps: u64,
+    /// When the last turn began, and at which count.
+    began: u64,
+    count: u64,
+}
+
+impl TurnLength {
+    /// That of the first turn.
+    pub fn new() -> TurnLength {
+        TurnLength {
+            steps: MOST_STEPS,
+            began: 0,
+            count: 0,
+        }
+    }
+
+    /// How many steps a turn has at most.
+    pub fn most_steps(&self) -> u64
+        ensures { 0 < result }
+    {
+        self.steps.max(1)
+    }
+
+    /// Sees that a machine has executed so many steps by now. Behind a turn that took long others are shorter, and behind a whole one that took little longer.
+    pub fn see(&mut self, now: u64, count: u64) {
+        let executed = count.saturating_sub(self.count);
+        let took = now.saturating_sub(self.began);
+        if took > LONG_TURN {
+            self.steps = executed.saturating_mul(GOOD_TURN) / took.max(1);
+        } else if took < SHORT_TURN && executed >= self.steps {
+            self.steps = self.steps.saturating_mul(2).clamp(1, MOST_STEPS);
+        }
+        self.count = count;
+    }
+
+    /// Sees that the next turn begins now.
+    pub fn begin(&mut self, now: u64) {
+        self.began = now;
     }
 }

@@ -4,7 +4,7 @@ ghost use Rattle.std.specs.Prelude.{◌≡◌, ◌<◌, IfSome, None, false};
 
 use crate::held::LockableFiles;
 use crate::patient::StandardInput;
-use crate::tempo::{Tempo, micros, sleep};
+use crate::tempo::{Tempo, TurnLength, micros, sleep};
 use cpm_host::{Heard, KeyNeed, TypingEnd, Typist};
 use std::alloc::Global;
 use std::cell::Cell;
@@ -165,9 +165,10 @@ pub struct TerminalTypist<'a, R: LockableFiles + StandardInput> {
     rt: &'a R,
     typed: TypedKeys,
     tempo: Tempo,
+    turns: TurnLength,
     end: &'a str,
-    /// Whether a terminal is gone to which the program's text goes.
-    is_output_gone: &'a Cell<bool>,
+    /// Why the program's text can't be written any more.
+    lost: &'a Cell<Option<io::Error>>,
     /// When that was looked for last, if it was.
     looked: Option<u64>,
     /// Whether it has come.
@@ -177,19 +178,20 @@ pub struct TerminalTypist<'a, R: LockableFiles + StandardInput> {
 }
 
 impl<'a, R: LockableFiles + StandardInput> TerminalTypist<'a, R> {
-    /// One who types at standard input until a file of a name comes.
+    /// One who types at standard input until a file of a name comes, or the program's text can't be written any more.
     pub fn new(
         rt: &'a R,
         end: &'a str,
-        is_output_gone: &'a Cell<bool>,
+        lost: &'a Cell<Option<io::Error>>,
         pace: Option<u64>,
     ) -> TerminalTypist<'a, R> {
         TerminalTypist {
             rt,
             typed: TypedKeys::new(rt.alloc()),
             tempo: Tempo::new(pace),
+            turns: TurnLength::new(),
             end,
-            is_output_gone,
+            lost,
             looked: None,
             is_ended: false,
             has_broken_in: false,
@@ -201,9 +203,11 @@ impl<'a, R: LockableFiles + StandardInput> TerminalTypist<'a, R> {
         ensures { self.new.has_broken_in ≡ self.old.has_broken_in }
     {
         let mut now = micros(self.rt);
+        self.turns.see(now, count);
         if !is_wanted {
             now = self.tempo.keep(self.rt, now, count);
         }
+        self.turns.begin(now);
         self.look(now);
         self.typed.read(self.rt, now);
         now
@@ -213,7 +217,7 @@ impl<'a, R: LockableFiles + StandardInput> TerminalTypist<'a, R> {
     fn look(&mut self, now: u64)
         ensures { self.new.has_broken_in ≡ self.old.has_broken_in }
     {
-        self.is_ended = self.is_ended || self.is_output_gone.get();
+        self.is_ended = self.is_ended || self.lost.get().is_some();
         if let Some(looked) = self.looked
             && now.saturating_sub(looked) < LOOK_PAUSE
         {
@@ -240,6 +244,7 @@ impl<'a, R: LockableFiles + StandardInput> TerminalTypist<'a, R> {
         }
         let then = sleep(self.rt, KEY_PAUSE);
         self.tempo.leave_out(then.saturating_sub(now));
+        self.turns.begin(then);
         self.typed.read(self.rt, then);
         self.typed.next(then)
     }
@@ -262,7 +267,7 @@ impl<R: LockableFiles + StandardInput> Typist for TerminalTypist<'_, R> {
     }
 
     fn most_steps(&self) -> u64 {
-        self.tempo.most_steps()
+        self.tempo.most_steps().min(self.turns.most_steps())
     }
 
     // (keys that come meanwhile are kept, so that they come when the script has ended)
@@ -293,30 +298,31 @@ impl<R: LockableFiles + StandardInput> Typist for TerminalTypist<'_, R> {
     }
 }
 
-/// A writer of a program's text. Where that goes to the terminal of one who types, and that is gone, the text is dropped and this is noted.
+/// A writer of a program's text. Where one types and it can't be written, it is dropped from there on, and noted why: so typing ends, and what is to be kept of
+/// it can be written.
 #[derive(Drop)]
 pub struct TypingOutput<'a, W: Write + Drop> {
     writer: W,
-    is_gone: Option<&'a Cell<bool>>,
+    lost: Option<&'a Cell<Option<io::Error>>>,
 }
 
 impl<'a, W: Write + Drop> TypingOutput<'a, W> {
-    pub fn new(writer: W, is_gone: Option<&'a Cell<bool>>) -> TypingOutput<'a, W> {
-        TypingOutput { writer, is_gone }
+    pub fn new(writer: W, lost: Option<&'a Cell<Option<io::Error>>>) -> TypingOutput<'a, W> {
+        TypingOutput { writer, lost }
     }
 }
 
 impl<W: Write + Drop> Write for TypingOutput<'_, W> {
     fn write(&mut self, buf: &[u8]) -> io::Result<usize> {
-        let Some(is_gone) = self.is_gone else {
+        let Some(lost) = self.lost else {
             return self.writer.write(buf);
         };
-        if is_gone.get() {
+        if lost.get().is_some() {
             return Ok(buf.len());
         }
         match self.writer.write(buf) {
             Err(error) if error.kind() != ErrorKind::Interrupted => {
-                is_gone.set(true);
+                lost.set(Some(error));
                 Ok(buf.len())
             }
             answer => answer,

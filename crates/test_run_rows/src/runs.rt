@@ -37,7 +37,7 @@ impl Scene for Runs {
             heard: TypingOutcome::before(alloc, &[])?,
             report: Report {
                 sessions: Vec::new(alloc),
-                idle: Vec::new(alloc),
+                stops: Vec::new(alloc),
             },
             status: 0,
         })

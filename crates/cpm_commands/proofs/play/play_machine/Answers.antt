@@ -1,4 +1,4 @@
-use Rattle.std.proofs.Common.{◌∙◌, List, None, Some, map, refl, rules, subst, ℕ}
+use Rattle.std.proofs.Common.{◌∙◌, List, None, Some, ap, map, refl, rules, subst, ℕ}
 use Rattle.std.proofs.lemmas.Result.{err_from_is_err_and}
 use Rattle.cpm_host.specs.Program.{IsPlayedBy, IsProgramPlayRefusal, machine_of, program_given, system_disk}
 use Rattle.cpm_play.specs.Output.{output_state}
@@ -7,7 +7,7 @@ use Rattle.cpm_script.specs.declared.cue.Cue.{Cue}
 use Rattle.cpm_commands.specs.Drives.{AreAllLeftOutTold, ArePlacesFound, HasToldLeftOut}
 use Rattle.cpm_commands.specs.OutFolder.{folder_starts_of}
 use Rattle.cpm_commands.specs.Plan.{Plan}
-use Rattle.cpm_commands.specs.Play.{IsPlayPrepared, IsPlayRead, IsStartRead, IsStartRefused, ReadActs, plan_of_play, source_of}
+use Rattle.cpm_commands.specs.Play.{IsPlayPrepared, IsPlayRead, IsStartRead, IsStartRefused, ReadActs, plan_of_play, source_of, steps_asked}
 use Rattle.cpm_commands.specs.Play.IsPlayStopped.{NoKeys, NoRoom, NoStart, NotPlayed, NotSeen}
 use Rattle.cpm_commands.specs.declared.drives.DrivePlace.{DrivePlace}
 use Rattle.cpm_commands.proofs.play.play_machine.Goals as goal
@@ -144,7 +144,7 @@ returns-in_err-play-clause-refusal g c =
     (output_state (g.W.Write.contents c.args.out.now) (g.L.Write.contents c.args.list.now)) (output_state (g.W.Write.contents c.run_program.new.out) (g.L.Write.contents c.run_program.new.list))
     (g.R.Write.contents c.args.record.now) (g.R.Write.contents c.run_program.new.record) in
     rw (p.1, p.2) (NotPlayed places given said source reads source_is
-    (subst (λ (n : ℕ). IsProgramPlayRefusal source given n io c.in_err-play.field-0.0) c.steps_asked.ensures c.in_err-play.ensures.refusal))
+    (subst (λ (n : ℕ). IsProgramPlayRefusal source given n io c.in_err-play.field-0.0) (c.steps_asked.ensures ∙ ap (steps_asked task) c.as_slice-6.ensures.value) c.in_err-play.ensures.refusal))
 
 pub returns-clause-played : goal.returns-clause-played
 returns-clause-played g c =
@@ -190,7 +190,8 @@ returns-clause-played g c =
         reads = reads;
         source = source;
         source_is = source_is;
-        played = subst (λ (n : ℕ). IsPlayedBy source (system_disk given) (machine_of given) n c.in_ok-play.play io) c.steps_asked.ensures c.in_ok-play.ensures.played;
+        played = subst (λ (n : ℕ). IsPlayedBy source (system_disk given) (machine_of given) n c.in_ok-play.play io) (c.steps_asked.ensures ∙ ap (steps_asked task) c.as_slice-6.ensures.value)
+            c.in_ok-play.ensures.played;
       };
       starts = c.in_ok-starts.ensures ∙ (λ i. folder_starts_of (map (λ n. n.now) (c.deref-2.ensures.value i)) (c.as_slice-5.ensures.value i));
     }
