@@ -9,8 +9,16 @@ use std::slice::Iter;
 const MOST: usize = 4_210_688;
 
 /// The bytes that words stand for. An item is a byte of two digits, a text in quotes with the escapes `\r`, `\n`, `\t`, `\\` and
-/// `\xHH`, or `rising`, the bytes 0 to 250 over and over. A number and `*` before an item repeat it.
+/// `\xHH`, or `rising`, the bytes 0 to 250 over and over. A number and `*` before an item repeat it. No word stands for no bytes: those are `""`.
 pub fn bytes_of(alloc: Global, words: &[Word<'_>]) -> Result<Vec<u8>, RowFault> {
+    if words.is_empty() {
+        return Err(RowFault::Words);
+    }
+    bytes_if_any(alloc, words)
+}
+
+/// The bytes that words stand for, where there may be none.
+pub fn bytes_if_any(alloc: Global, words: &[Word<'_>]) -> Result<Vec<u8>, RowFault> {
     let mut bytes = Vec::new(alloc);
     add_words(&mut bytes, words)?;
     Ok(bytes)
@@ -36,10 +44,12 @@ fn add_word(
     word: Word<'_>,
 ) -> Result<Option<usize>, RowFault> {
     match times_of(word)? {
+        // (a number repeats no other one)
+        Some(_) if times.is_some() => Err(RowFault::Bytes),
         Some((count, rest)) if rest.text.is_empty() => Ok(Some(count)),
         Some((count, rest)) => {
             add_items(bytes, count, rest)?;
-            Ok(times)
+            Ok(None)
         }
         None => {
             add_items(bytes, times.unwrap_or(1), word)?;

@@ -12,9 +12,9 @@ mod scene;
 mod word;
 
 pub use answer::RowAnswer;
-pub use bytes::{bytes_of, write_bytes};
+pub use bytes::{bytes_if_any, bytes_of, write_bytes};
 pub use fault::RowFault;
 pub use line::RowLine;
 pub use runner::{Tally, run_rows};
 pub use scene::Scene;
-pub use word::{Word, address, byte, count, number};
+pub use word::{Word, address, byte, count, memory_length, number};

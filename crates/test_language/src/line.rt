@@ -138,6 +138,17 @@ impl<'a> RowLine<'a> {
         }
     }
 
+    /// Whether it asks, and gives nothing: neither a text nor one of these words. One that gives nothing and expects nothing has too few words.
+    pub fn asks(&self, words: &[Word<'_>]) -> Result<bool, RowFault> {
+        if self.is_given_text() || !words.is_empty() {
+            return Ok(false);
+        }
+        match self.wanted {
+            Expectation::Nothing => Err(RowFault::Words),
+            Expectation::Words(_) | Expectation::Text => Ok(true),
+        }
+    }
+
     /// The bytes of what is given: the text between the marks after the line, or those that words of it stand for.
     pub fn given(&self, alloc: Global, words: &[Word<'_>]) -> Result<Vec<u8>, RowFault> {
         if self.is_given_text() {
@@ -150,10 +161,13 @@ impl<'a> RowLine<'a> {
     }
 }
 
+/// How often a line is done at most.
+const MOST_TIMES: u64 = 1_000_000;
+
 /// How often a line is done that begins with this word, where it is a number above 0 and `*`.
 fn times_of(word: Word<'_>) -> Option<u64> {
     let times = word.text.strip_suffix('*')?.parse::<u64>().ok()?;
-    if word.is_quoted || times == 0 {
+    if word.is_quoted || times == 0 || times > MOST_TIMES {
         return None;
     }
     Some(times)

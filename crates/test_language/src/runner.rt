@@ -81,6 +81,9 @@ impl<'a, S: Scene> RowRunner<'a, S> {
             Ok(())
         } else if text.starts_with("  ") {
             self.begin_line(number, text)
+        } else if text.starts_with(' ') || text.starts_with('\t') {
+            let told = "a line of a row begins with two spaces, and the name of one with none";
+            self.report.fail(number, "", told)
         } else {
             self.begin_row(number, text)
         }

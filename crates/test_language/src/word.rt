@@ -66,6 +66,15 @@ pub fn count(word: Word<'_>) -> Result<usize, RowFault> {
     word.text.parse::<usize>().map_err(|_| RowFault::Number)
 }
 
+/// A number of bytes of a memory, 65,536 at most.
+pub fn memory_length(word: Word<'_>) -> Result<usize, RowFault> {
+    let length = count(word)?;
+    if length > 0x1_0000 {
+        return Err(RowFault::Number);
+    }
+    Ok(length)
+}
+
 /// The bytes that so many pairs of hexadecimal digits are.
 fn digits<const N: usize>(word: Word<'_>) -> Result<[u8; N], RowFault> {
     let mut bytes = [0; N];

@@ -11,7 +11,10 @@ use cpm_machine::{Machine, OpenError, Opening, Tail};
 use cpm_play::PlayEnd;
 use std::alloc::{AllocError, Global};
 use test_images::Images;
-use test_language::{RowAnswer, RowFault, RowLine, Scene, Word, address, bytes_of, count, number};
+use test_language::{
+    RowAnswer, RowFault, RowLine, Scene, Word, address, bytes_if_any, bytes_of, memory_length,
+    number,
+};
 
 /// What a machine is made of.
 #[derive(Drop)]
@@ -167,7 +170,7 @@ impl Machines {
         cpu: Cpu,
         bytes: &[Word<'_>],
     ) -> Result<RowAnswer, RowFault> {
-        self.program(alloc, bytes)?;
+        self.program = Some(bytes_if_any(alloc, bytes)?);
         let mut drives = Vec::new(alloc);
         drives.push(Image::blank(alloc, Format::Ibm3740)?)?;
         self.make(alloc, cpu, 256, drives)
@@ -299,7 +302,7 @@ impl Machines {
             ("step", []) => RowAnswer::truth(alloc, machine.step(system)),
             ("look", [name]) => field(alloc, &machine.look(), *name),
             ("peek", [at]) => RowAnswer::byte(alloc, machine.peek(address(*at)?)),
-            ("peek", [at, length]) => peek(alloc, machine, address(*at)?, count(*length)?),
+            ("peek", [at, length]) => peek(alloc, machine, address(*at)?, memory_length(*length)?),
             ("take", _) => take(alloc, machine, &mut self.shown, arguments),
             ("list", _) => take_list(alloc, machine, &mut self.shown, arguments),
             _ => Err(RowFault::Unknown),

@@ -8,7 +8,7 @@ use cpm_flags::{Alternate, Cpu, Flags, Regs, pack, unpack};
 use cpm_memory::{FlatMemory, Memory, has_room, set_byte};
 use std::alloc::{AllocError, Global};
 use test_language::{
-    RowAnswer, RowFault, RowLine, Scene, Word, address, byte, bytes_of, count, number,
+    RowAnswer, RowFault, RowLine, Scene, Word, address, byte, bytes_of, memory_length, number,
 };
 
 /// No flag set.
@@ -246,7 +246,7 @@ impl Trial {
     fn peek(&self, alloc: Global, arguments: &[Word<'_>]) -> Result<RowAnswer, RowFault> {
         match arguments {
             [at] => bytes_at(alloc, &self.memory, address(*at)?, 1),
-            [at, length] => bytes_at(alloc, &self.memory, address(*at)?, count(*length)?),
+            [at, length] => bytes_at(alloc, &self.memory, address(*at)?, memory_length(*length)?),
             _ => Err(RowFault::Words),
         }
     }

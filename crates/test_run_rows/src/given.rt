@@ -69,11 +69,10 @@ impl Programs {
         line: &RowLine<'_>,
     ) -> Result<RowAnswer, RowFault> {
         let arguments = line.arguments();
-        let given = line.given(alloc, arguments)?;
-        if arguments.is_empty() && given.is_empty() {
+        if line.asks(arguments)? {
             return RowAnswer::bytes(alloc, self.listing.as_slice());
         }
-        self.listing = given;
+        self.listing = line.given(alloc, arguments)?;
         Ok(RowAnswer::Done)
     }
 

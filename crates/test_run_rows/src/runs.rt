@@ -159,13 +159,13 @@ impl Runs {
         let [name, words @ ..] = line.arguments() else {
             return Err(RowFault::Words);
         };
-        let given = bytes_given(alloc, &self.images, line, words)?;
-        if words.is_empty() && given.is_empty() {
+        if line.asks(words)? {
             return match self.store.file(name.text) {
                 Some(bytes) => RowAnswer::bytes(alloc, bytes),
                 None => RowAnswer::words(alloc, "none"),
             };
         }
+        let given = bytes_given(alloc, &self.images, line, words)?;
         match self.store.write(name.text, given.as_slice()) {
             Ok(()) => Ok(RowAnswer::Done),
             Err(error) => RowAnswer::refused(alloc, error),
