@@ -54,8 +54,7 @@ first_written n bytes xs rest e = by_test (nat_le n (length bytes)) refl e
         let two : List ℕ × List ℕ = (xs, rest) in
         let p : one ≡ two = some_same one two e in
         let first : take n bytes ≡ xs = ap (λ (q : List ℕ × List ℕ). q.0) p in
-        let second : drop n bytes ≡ rest = ap (λ (q : List ℕ × List ℕ). q.1) p in
-        (
+        let second : drop n bytes ≡ rest = ap (λ (q : List ℕ × List ℕ). q.1) p in (
           sym (take-append-drop n bytes) ∙ ap (λ (ys : List ℕ). ys ++ drop n bytes) first ∙ ap (λ (ys : List ℕ). xs ++ ys) second,
           ap (λ (ys : List ℕ). length ys) (sym first) ∙ length-take-le n bytes within,
         )
@@ -72,8 +71,7 @@ word_written bytes rest n all e =
     let same : to_le_bytes w16 n ≡ p.0 = le_bytes_2 p.0 n w.1 small value in
     let sum : n ≡ get_or p.0 0 0 + get_or p.0 1 0 * 256 = value in
     let a = small 0 in
-    let b = small 1 in
-    (
+    let b = small 1 in (
       w.0 ∙ ap (λ (ys : List ℕ). ys ++ p.1) (sym same) ∙ ap (λ (ys : List ℕ). to_le_bytes w16 n ++ ys) behind,
       omega (arith, sum, a, b),
     )
@@ -88,7 +86,7 @@ long_written bytes rest n all e =
     let small = below_256 p.0 (front_bytes bytes p.0 p.1 w.0 all) in
     let same : to_le_bytes w64 n ≡ p.0 = le_bytes_8 p.0 n w.1 small value in
     let sum : n ≡ get_or p.0 0 0 + get_or p.0 1 0 * 0x100 + get_or p.0 2 0 * 0x10000 + get_or p.0 3 0 * 0x1000000 + get_or p.0 4 0 * 0x100000000
-        + get_or p.0 5 0 * 0x10000000000 + get_or p.0 6 0 * 0x1000000000000 + get_or p.0 7 0 * 0x100000000000000 = value in
+    + get_or p.0 5 0 * 0x10000000000 + get_or p.0 6 0 * 0x1000000000000 + get_or p.0 7 0 * 0x100000000000000 = value in
     let a = small 0 in
     let b = small 1 in
     let c = small 2 in
@@ -96,8 +94,7 @@ long_written bytes rest n all e =
     let e = small 4 in
     let f = small 5 in
     let g = small 6 in
-    let h = small 7 in
-    (
+    let h = small 7 in (
       w.0 ∙ ap (λ (ys : List ℕ). ys ++ p.1) (sym same) ∙ ap (λ (ys : List ℕ). to_le_bytes w64 n ++ ys) behind,
       omega (arith, sum, a, b, c, d, e, f, g, h),
     )
@@ -115,10 +112,9 @@ run_written most bytes xs rest all e =
     by_test p is small true test e =
         let w = first_written p.0 p.1 xs rest e in
         let long : length xs ≡ p.0 = w.1 in
-        let few : p.0 ≤ most = grind (arith, nat_tests) in
-        (
+        let few : p.0 ≤ most = grind (arith, nat_tests) in (
           is ∙ ap (λ (ys : List ℕ). to_le_bytes w16 p.0 ++ ys) w.0 ∙ ap (λ (n : ℕ). to_le_bytes w16 n ++ (xs ++ rest)) (sym long)
-          ∙ sym (append_assoc (to_le_bytes w16 (length xs)) xs rest),
+              ∙ sym (append_assoc (to_le_bytes w16 (length xs)) xs rest),
           omega (arith, long, few),
           omega (arith, long, small),
         )
@@ -165,7 +161,7 @@ times_written {A} read code of one (suc count) vs bytes rest all e =
     let long : length q.0 ≡ count = others.1 in
     subst (λ (ws : List A). (bytes ≡ coded_all code ws ++ rest) × (length ws ≡ suc count) × All of ws) joined (
       first.0 ∙ ap (λ (ys : List ℕ). code p.0 ++ ys) others.0 ∙ ap (λ (ys : List ℕ). code p.0 ++ (coded_all code q.0 ++ ys)) behind
-      ∙ sym (append_assoc (code p.0) (coded_all code q.0) rest),
+          ∙ sym (append_assoc (code p.0) (coded_all code q.0) rest),
       ap suc long,
       all_cons of p.0 q.0 first.1 others.2,
     )
@@ -199,7 +195,7 @@ read_written (Both f g) v bytes rest all e =
     let behind : q.1 ≡ rest = ap (λ (r : (laid_out f × laid_out g) × List ℕ). r.1) y.2 in
     subst (λ (w : laid_out f × laid_out g). (bytes ≡ (coded f w.0 ++ coded g w.1) ++ rest) × (IsOf f w.0 × IsOf g w.1)) pair (
       first.0 ∙ ap (λ (ys : List ℕ). coded f p.0 ++ ys) second.0 ∙ ap (λ (ys : List ℕ). coded f p.0 ++ (coded g q.0 ++ ys)) behind
-      ∙ sym (append_assoc (coded f p.0) (coded g q.0) rest),
+          ∙ sym (append_assoc (coded f p.0) (coded g q.0) rest),
       (first.1, second.1),
     )
 read_written (Maybe f) v [] rest all e = absurd (cc)
