@@ -82,8 +82,8 @@ def read(name):
 
 
 def text_of(name):
-    """The text of a file of the repository."""
-    with open(os.path.join(ROOT, name), encoding="utf-8") as file:
+    """The text of a file of the repository. (One of the faulty files of rows is no text.)"""
+    with open(os.path.join(ROOT, name), encoding="utf-8", errors="replace") as file:
         return file.read()
 
 

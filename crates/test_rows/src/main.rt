@@ -11,7 +11,7 @@ use std::env::Env;
 use std::io::ErrorKind;
 use std::process::ExitCode;
 use std::rt::Files;
-use std::{env, fs};
+use std::{env, fs, str};
 use test_allocations::make_calls;
 use test_bdos_rows::{Calls, Commands, Consoles, EditedLines};
 use test_disk_command_rows::{Batches, DiskCommands, Stores};
@@ -129,14 +129,40 @@ fn not_run(told: &mut String, why: &[&str]) -> Result<Tally, AllocError> {
     })
 }
 
+/// In which line of a file a byte stands.
+fn line_of(bytes: &[u8], place: usize) -> usize {
+    let before = bytes.iter().take(place);
+    before
+        .filter(|byte| **byte == b'\n')
+        .count()
+        .saturating_add(1)
+}
+
+/// Runs the rows of a file of these bytes.
+fn run_bytes(
+    alloc: Global,
+    name: &str,
+    bytes: &[u8],
+    told: &mut String,
+) -> Result<Tally, AllocError> {
+    match str::from_utf8(bytes) {
+        Ok(text) => run_text(alloc, name, text, told),
+        Err(error) => {
+            let line = line_of(bytes, error.valid_up_to());
+            let why = format!(in alloc; ":{line}: a byte is no part of a text\n")?;
+            not_run(told, &[name, why.as_str()])
+        }
+    }
+}
+
 /// Runs the rows of a file of this name.
 fn run_file(
     rt: &(impl Files + AllocGlobal),
     name: &str,
     told: &mut String,
 ) -> Result<Tally, AllocError> {
-    match fs::read_to_string(rt, name) {
-        Ok(text) => run_text(rt.alloc(), name, text.as_str(), told),
+    match fs::read(rt, name) {
+        Ok(bytes) => run_bytes(rt.alloc(), name, bytes.as_slice(), told),
         Err(error) => {
             let why = format!(in rt.alloc(); "{error}")?;
             not_run(told, &[name, ": ", why.as_str(), "\n"])
