@@ -45,7 +45,7 @@ abbrev pub OfEither : {A B : Type 0} → (A → Type 0) → (B → Type 0) → A
 OfEither {A} {B} left right (inl v) = left v
 OfEither {A} {B} left right (inr v) = right v
 
--- a value that can be laid_out out so
+-- a value that can be laid out so
 abbrev pub IsOf : (f : Layout) → laid_out f → Type 0
 IsOf (Below limit) n = n < limit
 IsOf Word n = n < 2 ^ 16
