@@ -55,6 +55,20 @@ fn ring_copy(
     Ok(copy)
 }
 
+/// A ring with room for this many bytes, and with these bytes.
+fn ring_of(
+    alloc: Global,
+    capacity: usize,
+    bytes: &[u8],
+) -> Result<HeapCircularBuffer<u8>, AllocError>
+    requires { length bytes.now ≤ capacity }
+    ensures { IfOk result (λ ring. (ring.items ≡ bytes.now) × (ring.capacity ≡ capacity)) }
+{
+    let mut ring = HeapCircularBuffer::with_capacity(alloc, capacity)?;
+    ring.fill_from_slice(bytes);
+    Ok(ring)
+}
+
 impl Console {
     /// A console on which nothing was done. All the memory that it ever takes is taken here; refused if there is none left.
     pub fn new(alloc: Global) -> Result<Self, AllocError>
@@ -69,6 +83,30 @@ impl Console {
             printer,
             column: 0,
             list_echo: false,
+        })
+    }
+
+    /// The console with these pending keys, these bytes that wait on each device, this column of the cursor, and the echo to the
+    /// list device on or off; refused if out of memory.
+    pub fn with_contents(
+        alloc: Global,
+        keys: &[u8],
+        screen: &[u8],
+        printer: &[u8],
+        column: u8,
+        list_echo: bool,
+    ) -> Result<Console, AllocError>
+        requires keys { length keys.now ≤ most_pending }
+        requires screen { length screen.now ≤ most_waiting }
+        requires printer { length printer.now ≤ most_waiting }
+        ensures { IfOk result (λ c. c ≡ record { keys = keys.now; screen = screen.now; printer = printer.now; column = column; list_echo = list_echo }) }
+    {
+        Ok(Console {
+            pending: ring_of(alloc, KEYS, keys)?,
+            screen: ring_of(alloc, RING, screen)?,
+            printer: ring_of(alloc, RING, printer)?,
+            column,
+            list_echo,
         })
     }
 
@@ -118,6 +156,27 @@ impl Console {
         ensures fits { result ≤ most_pending }
     {
         self.pending.len()
+    }
+
+    /// The pending keys in two parts, the first pressed first.
+    pub fn keys(&self) -> (&[u8], &[u8])
+        ensures value { result.0.now ++ result.1.now ≡ self.now.keys }
+        ensures fits { length self.now.keys ≤ most_pending }
+    {
+        let _within = self.pending.len();
+        self.pending.as_slices()
+    }
+
+    /// The bytes that wait on a device in two parts, the first put first.
+    pub fn waiting_on(&self, device: Device) -> (&[u8], &[u8])
+        ensures value { result.0.now ++ result.1.now ≡ waiting_on device self.now }
+        ensures fits { length (waiting_on device self.now) ≤ most_waiting }
+    {
+        let _within = (self.screen.len(), self.printer.len());
+        match device {
+            Device::Console => self.screen.as_slices(),
+            Device::List => self.printer.as_slices(),
+        }
     }
 
     /// How many console bytes wait to be taken.

@@ -96,18 +96,22 @@ impl Line {
         }
     }
 
+    /// The line of these characters, 255 at most, that began at a column and may have this many.
+    pub fn with_characters(start: u8, limit: u8, characters: &[u8]) -> Line
+        requires { length characters.now ≤ 255 }
+        ensures { result ≡ record { start = start; limit = limit; characters = characters.now } }
+    {
+        let mut line = Line::new(start, limit);
+        // There is room for them.
+        let _ = line.characters.try_extend_from_slice(characters);
+        line
+    }
+
     /// The same line.
     pub fn copied(&self) -> Self
         ensures { result ≡ self.now }
     {
-        let mut characters = ArrayVec::new();
-        // It holds as many characters as this one.
-        let _ = characters.try_extend_from_slice(self.characters.as_slice());
-        Line {
-            start: self.start,
-            limit: self.limit,
-            characters,
-        }
+        Line::with_characters(self.start, self.limit, self.characters())
     }
 
     /// The characters now in the line.

@@ -1,6 +1,6 @@
 -- The reserved blocks as the first so many tests of a table.
-use Rattle.std.proofs.Common.{ap, ◌≡◌, ◌⊎◌, ℕ, ◌<◌, ◌≤◌, Bool, true, false, not, List, length, get_or, take, sym, inl, inr, ◌∙◌, arith}
-use Rattle.std.proofs.lemmas.List.{get_or_past, get_or-take, length-take-le, get_or_default}
+use Rattle.std.proofs.Common.{ap, ◌≡◌, ◌⊎◌, ℕ, ◌<◌, ◌≤◌, Bool, true, false, not, eqb, List, length, map, get_or, take, sym, inl, inr, ◌∙◌, arith}
+use Rattle.std.proofs.lemmas.List.{ext_get_or, get_or_past, get_or-map, get_or-take, length-map, length-take-le, get_or_default}
 use Rattle.std.specs.List.{position_or_len}
 use Rattle.std.proofs.lemmas.List.Sums.{position_or_len_is, fails_before_first, passes_at_first}
 use Rattle.std.proofs.lemmas.Bool.{cases_lt}
@@ -39,3 +39,11 @@ none_within xs count last h out =
       ]
       | inr high ↦ inl (lowest_past xs count h high ∙ sym (length-take-le count xs h))
     ]
+
+-- the first tests of a table are those of marks
+pub marked : (blocks : List Bool) (marks : List ℕ) → length blocks ≡ 512 → length marks ≤ 512 → ((k : ℕ) → k < length marks → get_or blocks k false ≡ eqb (get_or marks k 0) 1) → take (length marks) blocks ≡ map (λ mark. eqb mark 1) marks
+marked blocks marks size fits at =
+    let count = length-take-le (length marks) blocks (omega arith) in
+    ext_get_or false (take (length marks) blocks) (map (λ mark. eqb mark 1) marks) (count ∙ sym (length-map marks (λ mark. eqb mark 1))) (λ k h.
+    let within : k < length marks = omega (arith, count) in
+    get_or-take (length marks) blocks k false within ∙ (at k within ∙ sym (get_or-map (λ mark. eqb mark 1) marks k 0 false within)))

@@ -1,6 +1,6 @@
 //! The reserved blocks of a drive.
 
-ghost use Rattle.std.specs.Prelude.{◌≡◌, ◌<◌, ◌≤◌, ◌+◌, ◌⊎◌, ◌==◌, ◌&&◌, ◌||◌, ℕ, length, replicate};
+ghost use Rattle.std.specs.Prelude.{◌≡◌, ◌<◌, ◌≤◌, ◌+◌, ◌⊎◌, ◌==◌, ◌&&◌, ◌||◌, ℕ, length, map, replicate, OnOk, if◌then◌else◌, ◌++◌};
 ghost use Rattle.std.specs.Prelude.{MatchResult, not, nat_lt, slice_set, slice_index_or, false, true};
 ghost use Rattle.std.specs.List.{list_any};
 ghost use Rattle.cpm_geom.specs.Geometry.{dpb_of};
@@ -14,6 +14,7 @@ use crate::directory::{DELETED, DirectoryError};
 use crate::lent::LentImage;
 use crate::pattern::is_named;
 use cpm_geom::{Dpb, Format};
+use std::alloc::AllocError;
 use std::marker::Model;
 
 /// The reserved blocks of a drive: for each of its block numbers whether it is reserved.
@@ -42,6 +43,41 @@ impl Reserved {
             blocks: Bits::none(),
             count: usize::from(format.dpb().last_block) + 1,
         }
+    }
+
+    /// The blocks of these marks, 512 at most: 1 for a reserved block, any other number for one that is free.
+    pub fn from_marks(marks: &[u8]) -> Reserved
+        requires { length marks.now ≤ 512 }
+        ensures { result ≡ map (λ mark. mark == 1) marks.now }
+    {
+        let mut blocks = Bits::none();
+        for (block, mark) in marks.iter().enumerate() {
+            if *mark == 1 {
+                blocks.insert(block);
+            }
+        }
+        Reserved {
+            blocks,
+            count: marks.len(),
+        }
+    }
+
+    /// Appends a mark for each block: 1 for a reserved block, 0 for a free one. Refused if out of memory.
+    pub fn append_marks(&self, out: &mut Vec<u8>) -> Result<(), AllocError>
+        ensures { OnOk result (out.new.items ≡ out.old.items ++ map (λ reserved. if reserved then 1 else 0) self.now) }
+    {
+        for block in 0..self.count {
+            out.push(u8::from(self.blocks.contains(block)))?;
+        }
+        Ok(())
+    }
+
+    /// How many blocks there are.
+    pub fn len(&self) -> usize
+        ensures value { result ≡ length self.now }
+        ensures fits { result ≤ 512 }
+    {
+        self.count
     }
 
     /// The same blocks.

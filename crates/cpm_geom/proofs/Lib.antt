@@ -1,3 +1,4 @@
 pub mod SectorLemmas
 pub mod GeometryLemmas
 pub mod RecordLemmas
+pub mod JoinedLemmas

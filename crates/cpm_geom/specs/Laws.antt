@@ -1,8 +1,9 @@
--- The laws of records, over all disks.
-use Rattle.std.specs.Prelude.{◌≡◌, ◌↔◌, ℕ, ◌<◌, ◌%◌, List, [], length, slice_index_or, slice_set}
+-- The laws of records, and of disks and their bytes, over all disks.
+use Rattle.std.specs.Prelude.{◌≡◌, ◌↔◌, ℕ, ◌<◌, ◌%◌, List, [], Some, length, slice_index_or, slice_set}
+use Rattle.std.specs.List.{concat}
 use Rattle.cpm_geom.specs.declared.format.Format.{Format}
-use Rattle.cpm_geom.specs.Geometry.{IsRecord, IsSector, record_index, sector_count, sector_index, track_of, sector_of, sectors_per_track}
-use Rattle.cpm_geom.specs.Disk.{Disk, IsDisk, record_count, records_of, sector_at, with_sector}
+use Rattle.cpm_geom.specs.Geometry.{format_of_length, IsRecord, IsSector, record_index, sector_count, sector_index, track_of, sector_of, sectors_per_track}
+use Rattle.cpm_geom.specs.Disk.{Disk, disk_of, IsDisk, record_count, records_of, sector_at, with_sector}
 
 -- sectors lie in the image, no two at one place
 pub record AreSectors (f : Format) : Type 0 where
@@ -25,3 +26,12 @@ pub record IsListOfRecords (d : Disk) : Type 0 where
 
 abbrev pub RecordsLaw : Type 0
 RecordsLaw = ((f : Format) → AreSectors f) × ((f : Format) → AreRecords f) × ((d : Disk) → IsListOfRecords d)
+
+-- a disk is that of its bytes, its sectors one after the other
+abbrev pub DisksAreTheirBytes : Type 0
+DisksAreTheirBytes = (f : Format) (d : Disk) → IsDisk d → d.format ≡ f → disk_of f (concat d.sectors) ≡ d
+
+-- bytes of a format's length are those of their disk, and it is whole
+abbrev pub BytesAreTheirDisk : Type 0
+BytesAreTheirDisk =
+    (f : Format) (bytes : List ℕ) → format_of_length (length bytes) ≡ Some f → (concat (disk_of f bytes).sectors ≡ bytes) × IsDisk (disk_of f bytes)

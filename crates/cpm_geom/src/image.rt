@@ -84,6 +84,15 @@ impl Image {
         bytes
     }
 
+    /// The image's bytes: its sectors one after the other.
+    pub fn bytes(&self) -> &[u8]
+        ensures value { result.now ≡ concat self.now.sectors }
+        ensures length { format_of_length (length result.now) ≡ Some self.now.format }
+        ensures whole { IsDisk self.now }
+    {
+        &self.bytes
+    }
+
     /// The image's format.
     pub fn format(&self) -> Format
         ensures format { result ≡ self.now.format }

@@ -9,4 +9,4 @@ pub mod laws;
 pub use dpb::Dpb;
 pub use format::Format;
 pub use image::{GeomError, Image};
-pub use laws::records_lie_apart;
+pub use laws::{bytes_are_their_disk, disks_are_their_bytes, records_lie_apart};

@@ -9,3 +9,5 @@ pub mod WaitLaws
 pub mod WaitCalls
 pub mod StepBounds
 pub mod KeyLaws
+pub mod SavingSteps
+pub mod SavingLaws

@@ -13,3 +13,6 @@ pub mod Opening
 pub mod Calls
 pub mod MachineCalls
 pub mod Parts
+pub mod Saving
+pub mod SavingParts
+pub mod SavingLaws

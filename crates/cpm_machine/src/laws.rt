@@ -1,5 +1,6 @@
 //! Laws of machines, as contracts.
 
+ghost use Rattle.cpm_machine.specs.SavingLaws.{RestoredIsSaved, SavedIsRestored};
 ghost use Rattle.cpm_machine.specs.Laws.{Alone, AloneByAllCalls, BoundedSteps, Cutting, Greatest, GreatestToWait, GreatestUntil};
 ghost use Rattle.cpm_machine.specs.Laws.{KeysFromFront, KeysLeave, LateKeys, WaitingSteps, WaitsExactly};
 
@@ -64,4 +65,14 @@ pub fn waits_exactly()
 /// Keys that come later make no difference to the machine run alone.
 pub fn late_keys()
     ensures { LateKeys }
+{}
+
+/// What is restored of a machine's saving is the machine, for every machine whose bytes `Machine::save` gives.
+pub fn saved_is_restored()
+    ensures { SavedIsRestored }
+{}
+
+/// What is restored is just its saving: no other bytes are that machine with that digest.
+pub fn restored_is_saved()
+    ensures { RestoredIsSaved }
 {}

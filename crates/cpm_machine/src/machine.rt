@@ -1,6 +1,6 @@
 //! One machine with a memory of its own.
 
-ghost use Rattle.std.specs.Prelude.{◌≡◌, true, false, ◌++◌, ◌≤◌, length, take, drop, min, IfOk, IfErr, None, if◌then◌else◌};
+ghost use Rattle.std.specs.Prelude.{◌≡◌, true, false, ◌++◌, ◌≤◌, length, take, drop, min, Ok, IfOk, IfErr, None, if◌then◌else◌};
 ghost use Rattle.cpm_memory.specs.Contents.{byte_at};
 ghost use Rattle.cpm_drives.specs.Disks.{images_of};
 ghost use Rattle.cpm_machine.specs.MachineState.{program_loaded, opened_machine, opened_with, with_tail};
@@ -10,10 +10,12 @@ ghost use Rattle.cpm_machine.specs.Serve.{executed, why, look_of, taken, taken_l
 ghost use Rattle.cpm_machine.specs.Until.{executed_until, why_until};
 ghost use Rattle.cpm_machine.specs.ToWait.{executed_to_wait};
 ghost use Rattle.cpm_machine.specs.Parts.{AreNew};
+ghost use Rattle.cpm_machine.specs.Saving.{IsUnrestored, restored, bytes_of_saving, saving_with};
 ghost use Rattle.cpm_machine.specs.Opening.{opening_fault, program_fault, IsRefusal};
 
 use crate::opening::{OpenError, Opening};
 use crate::reply::{Closed, End, Granted, KeysFull, Look};
+use crate::saving::{self, SystemDigest};
 use crate::steps::{self, Runner};
 use crate::{to_wait, until};
 use cpm_bdos::Session;
@@ -24,6 +26,7 @@ use cpm_drives::EntryRooms;
 use cpm_geom::Image;
 use cpm_memory::layout::{COMMAND_PROCESSOR, PROGRAM, STACK};
 use cpm_memory::{FlatMemory, Memory, set_run, set_word};
+use cpm_saved::RestoreError;
 use std::alloc::{AllocError, Global};
 use std::marker::Model;
 
@@ -248,6 +251,24 @@ impl Machine {
         ensures { result ≡ byte_at self.now.memory address }
     {
         self.memory.get(address)
+    }
+
+    /// The bytes of the machine, with the digest of its system drive; refused if out of memory. What is restored of them is the machine.
+    pub fn save(&self, alloc: Global, digest: &SystemDigest) -> Result<Vec<u8>, AllocError>
+        ensures saved { IfOk result (λ bytes. bytes.items ≡ bytes_of_saving (saving_with digest.now self.now)) }
+        ensures restores { IfOk result (λ bytes. restored bytes.items ≡ Ok (saving_with digest.now self.now)) }
+    {
+        saving::save(alloc, digest, &self.runner, &self.memory)
+    }
+
+    /// The machine of the bytes of a saving, with the digest of its system drive. It is refused with the part that makes the bytes no
+    /// saving, and the place where that begins; then if out of memory.
+    pub fn restored(alloc: Global, bytes: &[u8]) -> Result<(SystemDigest, Machine), RestoreError>
+        ensures read { IfOk result (λ r. restored bytes.now ≡ Ok (saving_with r.0 r.1)) }
+        ensures refused { IfErr result (λ fault. IsUnrestored (restored bytes.now) fault) }
+    {
+        let (digest, runner, memory) = saving::restored(alloc, bytes)?;
+        Ok((digest, Machine { runner, memory }))
     }
 
     /// What is left of the machine. Bytes not taken are dropped.

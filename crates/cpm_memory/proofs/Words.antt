@@ -9,7 +9,7 @@ pub same_page : (address : ℕ) → address < 65536 → address % 256 ≢ 255 �
 same_page address fits ne = omega arith
 
 -- a mark that is set stays as it is
-marked : (ws : List Bool) (page : ℕ) → get_or ws page false ≡ true → set ws page true ≡ ws
+pub marked : (ws : List Bool) (page : ℕ) → get_or ws page false ≡ true → set ws page true ≡ ws
 marked ws page e = ap (set ws page) (sym e) ∙ set-get_or ws page false
 
 -- both bytes are stored, and no page is written anew

@@ -6,6 +6,7 @@ pub mod Layout
 pub mod DiskTables
 pub mod Opening
 pub mod Tabulated
+pub mod Unwritten
 pub mod Flat
 pub mod Frames
 pub mod Kept

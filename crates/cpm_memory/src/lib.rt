@@ -10,6 +10,7 @@ pub mod layout;
 pub mod memory;
 pub mod opening;
 pub mod pages;
+pub mod saved_pages;
 pub mod scratch;
 pub mod sharing;
 pub mod store;

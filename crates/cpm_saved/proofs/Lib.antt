@@ -1,2 +1,13 @@
+pub mod Appends
+pub mod ByteLaws
+pub mod DiskSteps
 pub mod LayoutLaws
+pub mod MaybeAppends
+pub mod MemoryLaws
+pub mod ModeLaws
+pub mod PartLaws
 pub mod ReadLaws
+pub mod ReadPages
+pub mod ReadSteps
+pub mod SessionLaws
+pub mod TimesLemmas

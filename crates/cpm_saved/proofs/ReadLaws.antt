@@ -1,246 +1,274 @@
 -- What is read by a layout is just what it writes.
-use Rattle.std.proofs.Common.{◌≡◌, ◌∙◌, ◌<◌, ◌≤◌, ◌+◌, ◌*◌, ◌^◌, ℕ, zero, suc, Bool, true, false, List, [], ◌∷◌, ◌++◌, Option, Some, None, length, inl, inr, ap, arith, refl, subst, sym}
-use Rattle.std.proofs.Common.{append_assoc, get_or, take, drop}
-use Rattle.std.specs.Prelude.{◌⊎◌, ◌==◌, nat_le, nat_lt, option_and_then, option_map, unwrap_or, if◌then◌else◌}
+use Rattle.std.proofs.Common.{◌≡◌, ◌∙◌, ◌<◌, ◌≤◌, ◌+◌, ◌*◌, ◌^◌, ℕ, zero, suc, Bool, true, false}
+use Rattle.std.proofs.Common.{List, [], ◌∷◌, ◌++◌, Some, None, Ok, Err, length, inl, inr, ap, arith, refl, subst, sym, append_assoc, get_or, take, drop}
+use Rattle.std.specs.Prelude.{◌⊎◌, ◌==◌, ◌&&◌, Option, nat_le, nat_lt, if◌then◌else◌}
 use Rattle.std.specs.Int.{from_le_bytes, to_le_bytes, w16, w64}
 use Rattle.std.specs.List.{All}
 use Rattle.std.proofs.lemmas.Bool.Decides.{nat_tests}
 use Rattle.std.proofs.lemmas.List.{drop_at, length-take-le, take-append-drop, take_at}
-use Rattle.std.proofs.lemmas.List.Elements.{All-drop, All-take}
+use Rattle.std.proofs.lemmas.List.Elements.{All-cons, All-drop, All-nil, All-take}
+use Rattle.std.proofs.lemmas.List.Sums.{AllPass-from_list_all}
 use Rattle.std.proofs.lemmas.Nat.{le_bytes_2, le_bytes_8}
-use Rattle.cpm_saved.specs.Layout.{Below, Both, Either, Fixed, IsOf, Layout, Long, Maybe, Read, Run, Times, Word, long_read, word_read, by_mark, coded, coded_all, decoded, first_bytes, laid_out, read_times, run_within, then_read}
 use Rattle.cpm_saved.specs.Laws.{ReadValuesAreWritten}
+use Rattle.cpm_saved.specs.Layout.{Among, AreBelow, Below, Both, Either, IsOf, Layout, Long, Maybe, Read, Rest, Run, Times, Within}
+use Rattle.cpm_saved.specs.Layout.{are_below, as_read, by_mark, coded, coded_all, damaged, decoded}
+use Rattle.cpm_saved.specs.Layout.{first_byte, first_bytes, first_mark, front_byte, first_two_bytes, if_it, laid_out, pair_read, read_times, rest_at, then_read}
+use Rattle.cpm_saved.specs.declared.part.SavingPart.{SavingPart}
 
--- ---- options
+-- the bytes of a rest are just those of a value, and what is behind them
+abbrev IsWritten : (f : Layout) → laid_out f → Rest → Rest → Type 0
+IsWritten f v rest behind = (rest.bytes ≡ coded f v ++ behind.bytes) × IsOf f v
 
-map_some : {A B : Type 0} → (f : A → B) (o : Option A) (b : B) → option_map f o ≡ Some b → (a : A) × (o ≡ Some a) × (f a ≡ b)
-map_some {A} {B} f None b e = absurd (cc)
-map_some {A} {B} f (Some a) b e = (a, refl, cc)
+-- ---- what was read
 
-then_some : {A B : Type 0} → (f : A → Option B) (o : Option A) (b : B) → option_and_then f o ≡ Some b → (a : A) × (o ≡ Some a) × (f a ≡ Some b)
-then_some {A} {B} f None b e = absurd (cc)
-then_some {A} {B} f (Some a) b e = (a, refl, e)
+as_ok : {A B : Type 0} → (make : A → B) (read : Read A) (b : B) (behind : Rest)
+    → as_read make read ≡ Ok (b, behind) → (a : A) × (read ≡ Ok (a, behind)) × (make a ≡ b)
+as_ok {A} {B} make (Err damage) b behind e = absurd (cc)
+as_ok {A} {B} make (Ok p) b behind e =
+    let one : B × Rest = (make p.0, p.1) in
+    let two : B × Rest = (b, behind) in
+    let q : one ≡ two = cc in
+    let rest : p.1 ≡ behind = ap (λ (r : B × Rest). r.1) q in
+    (p.0, ap (λ (r : Rest). Ok (p.0, r)) rest, ap (λ (r : B × Rest). r.0) q)
 
-some_same : {A : Type 0} → (a b : A) → Some a ≡ Some b → a ≡ b
-some_same {A} a b e = ap (λ (o : Option A). unwrap_or o a) e
+then_ok : {A B : Type 0} → (next : A × Rest → Read B) (read : Read A) (q : B × Rest)
+    → then_read next read ≡ Ok q → (p : A × Rest) × (read ≡ Ok p) × (next p ≡ Ok q)
+then_ok {A} {B} next (Err damage) q e = absurd (cc)
+then_ok {A} {B} next (Ok p) q e = (p, refl, e)
+
+if_true : {A : Type 0} → (read : Read A) (field : SavingPart) (rest : Rest) (p : A × Rest) (test : Bool)
+    → if◌then◌else◌ {A = Read A} test read (damaged field rest) ≡ Ok p → (read ≡ Ok p) × (test ≡ true)
+if_true {A} read field rest p true e = (e, refl)
+if_true {A} read field rest p false e = absurd (cc)
+
+if_ok : {A : Type 0} → (test : A → Bool) (field : SavingPart) (rest : Rest) (read : Read A) (p : A × Rest)
+    → if_it test field rest read ≡ Ok p → (read ≡ Ok p) × (test p.0 ≡ true)
+if_ok {A} test field rest (Err damage) p e = absurd (cc)
+if_ok {A} test field rest (Ok q) p e =
+    let w = if_true (Ok q) field rest p (test q.0) e in
+    let same : q ≡ p = let is : Ok q ≡ Ok p = w.0 in cc in
+    (w.0, ap (λ (r : A × Rest). test r.0) (sym same) ∙ w.1)
 
 -- ---- bytes
 
-abbrev AreBytes : List ℕ → Type 0
-AreBytes bytes = All (λ (b : ℕ). b < 256) bytes
-
-front_bytes : (bytes xs rest : List ℕ) → bytes ≡ xs ++ rest → AreBytes bytes → AreBytes xs
+front_bytes : (bytes xs rest : List ℕ) → bytes ≡ xs ++ rest → AreBelow 256 bytes → AreBelow 256 xs
 front_bytes bytes xs rest is all =
-    subst AreBytes (take_at xs rest (length xs) refl) (All-take (λ (b : ℕ). b < 256) (length xs) (xs ++ rest) (subst AreBytes is all))
+    subst (AreBelow 256) (take_at xs rest (length xs) refl) (All-take (λ (b : ℕ). b < 256) (length xs) (xs ++ rest) (subst (AreBelow 256) is all))
 
-back_bytes : (bytes xs rest : List ℕ) → bytes ≡ xs ++ rest → AreBytes bytes → AreBytes rest
+back_bytes : (bytes xs rest : List ℕ) → bytes ≡ xs ++ rest → AreBelow 256 bytes → AreBelow 256 rest
 back_bytes bytes xs rest is all =
-    subst AreBytes (drop_at xs rest (length xs) refl) (All-drop (λ (b : ℕ). b < 256) (length xs) (xs ++ rest) (subst AreBytes is all))
+    subst (AreBelow 256) (drop_at xs rest (length xs) refl) (All-drop (λ (b : ℕ). b < 256) (length xs) (xs ++ rest) (subst (AreBelow 256) is all))
 
-below_256 : (bytes : List ℕ) → AreBytes bytes → (i : ℕ) → get_or bytes i 0 < 256
+below_256 : (bytes : List ℕ) → AreBelow 256 bytes → (i : ℕ) → get_or bytes i 0 < 256
 below_256 [] all i = omega arith
 below_256 (b ∷ bs) all zero = all 0 0 (omega arith)
 below_256 (b ∷ bs) all (suc i) = below_256 bs (λ (k : ℕ) (d : ℕ) within. all (suc k) d (omega (arith, within))) i
 
+from_test : (limit : ℕ) (bytes : List ℕ) → are_below limit bytes ≡ true → AreBelow limit bytes
+from_test limit bytes e k d within =
+    let test : nat_lt (get_or bytes k d) limit ≡ true = AllPass-from_list_all (λ (b : ℕ). nat_lt b limit) bytes e k d within in
+    grind (arith, nat_tests)
+
 -- ---- what is read is written
 
-first_written : (n : ℕ) (bytes xs rest : List ℕ) → first_bytes n bytes ≡ Some (xs, rest) → (bytes ≡ xs ++ rest) × (length xs ≡ n)
-first_written n bytes xs rest e = by_test (nat_le n (length bytes)) refl e
-  where
-    by_test : (t : Bool) → nat_le n (length bytes) ≡ t → if◌then◌else◌ {A = Read (List ℕ)} t (Some (take n bytes, drop n bytes)) None ≡ Some (xs, rest) → (bytes ≡ xs ++ rest) × (length xs ≡ n)
-    by_test true test e =
-        let within : n ≤ length bytes = grind (arith, nat_tests) in
-        let one : List ℕ × List ℕ = (take n bytes, drop n bytes) in
-        let two : List ℕ × List ℕ = (xs, rest) in
-        let p : one ≡ two = some_same one two e in
-        let first : take n bytes ≡ xs = ap (λ (q : List ℕ × List ℕ). q.0) p in
-        let second : drop n bytes ≡ rest = ap (λ (q : List ℕ × List ℕ). q.1) p in (
-          sym (take-append-drop n bytes) ∙ ap (λ (ys : List ℕ). ys ++ drop n bytes) first ∙ ap (λ (ys : List ℕ). xs ++ ys) second,
-          ap (λ (ys : List ℕ). length ys) (sym first) ∙ length-take-le n bytes within,
-        )
-    by_test false test e = absurd (cc)
-
-word_written : (bytes rest : List ℕ) (n : ℕ) → AreBytes bytes → option_map word_read (first_bytes 2 bytes) ≡ Some (n, rest) → (bytes ≡ to_le_bytes w16 n ++ rest) × (n < 2 ^ 16)
-word_written bytes rest n all e =
-    let x = map_some word_read (first_bytes 2 bytes) (n, rest) e in
-    let p = x.0 in
-    let w = first_written 2 bytes p.0 p.1 x.1 in
-    let value : n ≡ from_le_bytes w16 p.0 = sym (ap (λ (q : ℕ × List ℕ). q.0) x.2) in
-    let behind : p.1 ≡ rest = ap (λ (q : ℕ × List ℕ). q.1) x.2 in
-    let small = below_256 p.0 (front_bytes bytes p.0 p.1 w.0 all) in
-    let same : to_le_bytes w16 n ≡ p.0 = le_bytes_2 p.0 n w.1 small value in
-    let sum : n ≡ get_or p.0 0 0 + get_or p.0 1 0 * 256 = value in
-    let a = small 0 in
-    let b = small 1 in (
-      w.0 ∙ ap (λ (ys : List ℕ). ys ++ p.1) (sym same) ∙ ap (λ (ys : List ℕ). to_le_bytes w16 n ++ ys) behind,
-      omega (arith, sum, a, b),
+first_written : (field : SavingPart) (n : ℕ) (rest : Rest) (xs : List ℕ) (behind : Rest)
+    → first_bytes field n rest ≡ Ok (xs, behind) → (rest.bytes ≡ xs ++ behind.bytes) × (length xs ≡ n)
+first_written field n rest xs behind e =
+    let one : List ℕ × Rest = (take n rest.bytes, rest_at (rest.at + n) (drop n rest.bytes)) in
+    let two : List ℕ × Rest = (xs, behind) in
+    let w = if_true {A = List ℕ} (Ok one) field rest two (nat_le n (length rest.bytes)) e in
+    let is : Ok one ≡ Ok two = w.0 in
+    let test : nat_le n (length rest.bytes) ≡ true = w.1 in
+    let within : n ≤ length rest.bytes = grind (arith, nat_tests) in
+    let p : one ≡ two = cc in
+    let first : take n rest.bytes ≡ xs = ap (λ (q : List ℕ × Rest). q.0) p in
+    let second : drop n rest.bytes ≡ behind.bytes = ap (λ (q : List ℕ × Rest). q.1.bytes) p in (
+      sym (take-append-drop n rest.bytes) ∙ ap (λ (ys : List ℕ). ys ++ drop n rest.bytes) first ∙ ap (λ (ys : List ℕ). xs ++ ys) second,
+      ap (λ (ys : List ℕ). length ys) (sym first) ∙ length-take-le n rest.bytes within,
     )
 
-long_written : (bytes rest : List ℕ) (n : ℕ) → AreBytes bytes → option_map long_read (first_bytes 8 bytes) ≡ Some (n, rest) → (bytes ≡ to_le_bytes w64 n ++ rest) × (n < 2 ^ 64)
-long_written bytes rest n all e =
-    let x = map_some long_read (first_bytes 8 bytes) (n, rest) e in
-    let p = x.0 in
-    let w = first_written 8 bytes p.0 p.1 x.1 in
-    let value : n ≡ from_le_bytes w64 p.0 = sym (ap (λ (q : ℕ × List ℕ). q.0) x.2) in
-    let behind : p.1 ≡ rest = ap (λ (q : ℕ × List ℕ). q.1) x.2 in
-    let small = below_256 p.0 (front_bytes bytes p.0 p.1 w.0 all) in
-    let same : to_le_bytes w64 n ≡ p.0 = le_bytes_8 p.0 n w.1 small value in
-    let sum : n ≡ get_or p.0 0 0 + get_or p.0 1 0 * 0x100 + get_or p.0 2 0 * 0x10000 + get_or p.0 3 0 * 0x1000000 + get_or p.0 4 0 * 0x100000000
-    + get_or p.0 5 0 * 0x10000000000 + get_or p.0 6 0 * 0x1000000000000 + get_or p.0 7 0 * 0x100000000000000 = value in
+one_byte : (xs : List ℕ) → length xs ≡ 1 → xs ≡ front_byte xs ∷ []
+one_byte [] long = absurd (omega (arith, long))
+one_byte (b ∷ []) long = refl
+one_byte (b ∷ c ∷ bs) long = absurd (omega (arith, long))
+
+byte_written : (field : SavingPart) (rest : Rest) (b : ℕ) (behind : Rest) → first_byte field rest ≡ Ok (b, behind) → rest.bytes ≡ b ∷ behind.bytes
+byte_written field rest b behind e =
+    let x = as_ok front_byte (first_bytes field 1 rest) b behind e in
+    let w = first_written field 1 rest x.0 behind x.1 in
+    w.0 ∙ ap (λ (ys : List ℕ). ys ++ behind.bytes) (one_byte x.0 w.1) ∙ ap (λ (c : ℕ). c ∷ behind.bytes) x.2
+
+below_written : (field : SavingPart) (limit : ℕ) (rest : Rest) (b : ℕ) (behind : Rest) → decoded (Below field limit) rest ≡ Ok (b, behind)
+    → IsWritten (Below field limit) b rest behind
+below_written field limit rest b behind e =
+    let x = if_ok (λ (c : ℕ). nat_lt c limit) field rest (first_byte field rest) (b, behind) e in
+    let test : nat_lt b limit ≡ true = x.1 in
+    let low : b < limit = grind (arith, nat_tests) in
+    (byte_written field rest b behind x.0, low)
+
+word_written : (field : SavingPart) (rest : Rest) (n : ℕ) (behind : Rest) → AreBelow 256 rest.bytes
+    → first_two_bytes field rest ≡ Ok (n, behind) → (rest.bytes ≡ to_le_bytes w16 n ++ behind.bytes) × (n < 2 ^ 16)
+word_written field rest n behind all e =
+    let x = as_ok (from_le_bytes w16) (first_bytes field 2 rest) n behind e in
+    let bytes = x.0 in
+    let w = first_written field 2 rest bytes behind x.1 in
+    let value : n ≡ from_le_bytes w16 bytes = sym x.2 in
+    let small = below_256 bytes (front_bytes rest.bytes bytes behind.bytes w.0 all) in
+    let same : to_le_bytes w16 n ≡ bytes = le_bytes_2 bytes n w.1 small value in
+    let sum : n ≡ get_or bytes 0 0 + get_or bytes 1 0 * 256 = value in
     let a = small 0 in
     let b = small 1 in
-    let c = small 2 in
-    let d = small 3 in
-    let e = small 4 in
-    let f = small 5 in
-    let g = small 6 in
-    let h = small 7 in (
-      w.0 ∙ ap (λ (ys : List ℕ). ys ++ p.1) (sym same) ∙ ap (λ (ys : List ℕ). to_le_bytes w64 n ++ ys) behind,
-      omega (arith, sum, a, b, c, d, e, f, g, h),
+    (w.0 ∙ ap (λ (ys : List ℕ). ys ++ behind.bytes) (sym same), omega (arith, sum, a, b))
+
+long_written : (field : SavingPart) (rest : Rest) (n : ℕ) (behind : Rest) → AreBelow 256 rest.bytes
+    → decoded (Long field) rest ≡ Ok (n, behind) → IsWritten (Long field) n rest behind
+long_written field rest n behind all e =
+    let x = as_ok (from_le_bytes w64) (first_bytes field 8 rest) n behind e in
+    let bytes = x.0 in
+    let w = first_written field 8 rest bytes behind x.1 in
+    let value : n ≡ from_le_bytes w64 bytes = sym x.2 in
+    let small = below_256 bytes (front_bytes rest.bytes bytes behind.bytes w.0 all) in
+    let same : to_le_bytes w64 n ≡ bytes = le_bytes_8 bytes n w.1 small value in
+    let sum : n ≡ get_or bytes 0 0 + get_or bytes 1 0 * 0x100 + get_or bytes 2 0 * 0x10000 + get_or bytes 3 0 * 0x1000000 + get_or bytes 4 0 * 0x100000000
+    + get_or bytes 5 0 * 0x10000000000 + get_or bytes 6 0 * 0x1000000000000 + get_or bytes 7 0 * 0x100000000000000 = value in
+    let b0 = small 0 in
+    let b1 = small 1 in
+    let b2 = small 2 in
+    let b3 = small 3 in
+    let b4 = small 4 in
+    let b5 = small 5 in
+    let b6 = small 6 in
+    let b7 = small 7 in
+    (w.0 ∙ ap (λ (ys : List ℕ). ys ++ behind.bytes) (sym same), omega (arith, sum, b0, b1, b2, b3, b4, b5, b6, b7))
+
+run_written : (field : SavingPart) (most limit : ℕ) (rest : Rest) (xs : List ℕ) (behind : Rest) → AreBelow 256 rest.bytes
+    → decoded (Run field most limit) rest ≡ Ok (xs, behind) → IsWritten (Run field most limit) xs rest behind
+run_written field most limit rest xs behind all e =
+    let counted = if_it (λ (n : ℕ). nat_le n most) field rest (first_two_bytes field rest) in
+    let next = λ (p : ℕ × Rest). first_bytes field p.0 p.1 in
+    let x = if_ok (are_below limit) field rest (then_read next counted) (xs, behind) e in
+    let y = then_ok next counted (xs, behind) x.0 in
+    let p = y.0 in
+    let z = if_ok (λ (n : ℕ). nat_le n most) field rest (first_two_bytes field rest) p y.1 in
+    let count = word_written field rest p.0 p.1 all z.0 in
+    let w = first_written field p.0 p.1 xs behind y.2 in
+    let long : length xs ≡ p.0 = w.1 in
+    let small : p.0 < 2 ^ 16 = count.1 in
+    let test : nat_le p.0 most ≡ true = z.1 in
+    let few : p.0 ≤ most = grind (arith, nat_tests) in (
+      count.0 ∙ ap (λ (ys : List ℕ). to_le_bytes w16 p.0 ++ ys) w.0 ∙ ap (λ (n : ℕ). to_le_bytes w16 n ++ (xs ++ behind.bytes)) (sym long)
+          ∙ sym (append_assoc (to_le_bytes w16 (length xs)) xs behind.bytes),
+      (omega (arith, long, few), omega (arith, long, small), from_test limit xs x.1),
     )
 
-run_written : (most : ℕ) (bytes xs rest : List ℕ) → AreBytes bytes → decoded (Run most) bytes ≡ Some (xs, rest)
-    → (bytes ≡ (to_le_bytes w16 (length xs) ++ xs) ++ rest) × (length xs ≤ most) × (length xs < 2 ^ 16)
-run_written most bytes xs rest all e =
-    let x = then_some (run_within most) (option_map word_read (first_bytes 2 bytes)) (xs, rest) e in
+-- by the mark
+marked : {A : Type 0} → (field : SavingPart) (zero_read one_read : Rest → Read A) (rest : Rest) (q : A × Rest)
+    → then_read (by_mark zero_read one_read) (first_mark field rest) ≡ Ok q
+    → (after : Rest) × (((rest.bytes ≡ 0 ∷ after.bytes) × (zero_read after ≡ Ok q)) ⊎ ((rest.bytes ≡ 1 ∷ after.bytes) × (one_read after ≡ Ok q)))
+marked {A} field zero_read one_read rest q e =
+    let x = then_ok (by_mark zero_read one_read) (first_mark field rest) q e in
     let p = x.0 in
-    let w = word_written bytes p.1 p.0 all x.1 in
-    by_test p w.0 w.1 (nat_le p.0 most) refl x.2
+    let w = below_written field 2 rest p.0 p.1 x.1 in
+    (p.1, by_zero p.0 p.1 w.0 w.1 (p.0 == 0) refl x.2)
   where
-    by_test : (p : ℕ × List ℕ) → bytes ≡ to_le_bytes w16 p.0 ++ p.1 → p.0 < 2 ^ 16 → (t : Bool) → nat_le p.0 most ≡ t → (if t then first_bytes p.0 p.1 else None) ≡ Some (xs, rest)
-        → (bytes ≡ (to_le_bytes w16 (length xs) ++ xs) ++ rest) × (length xs ≤ most) × (length xs < 2 ^ 16)
-    by_test p is small true test e =
-        let w = first_written p.0 p.1 xs rest e in
-        let long : length xs ≡ p.0 = w.1 in
-        let few : p.0 ≤ most = grind (arith, nat_tests) in (
-          is ∙ ap (λ (ys : List ℕ). to_le_bytes w16 p.0 ++ ys) w.0 ∙ ap (λ (n : ℕ). to_le_bytes w16 n ++ (xs ++ rest)) (sym long)
-              ∙ sym (append_assoc (to_le_bytes w16 (length xs)) xs rest),
-          omega (arith, long, few),
-          omega (arith, long, small),
-        )
-    by_test p is small false test e = absurd (cc)
+    by_zero : (b : ℕ) (after : Rest) → rest.bytes ≡ b ∷ after.bytes → b < 2 → (t : Bool) → (b == 0) ≡ t
+        → if◌then◌else◌ {A = Read A} t (zero_read after) (one_read after) ≡ Ok q
+        → ((rest.bytes ≡ 0 ∷ after.bytes) × (zero_read after ≡ Ok q)) ⊎ ((rest.bytes ≡ 1 ∷ after.bytes) × (one_read after ≡ Ok q))
+    by_zero b after is low true test e = let mark : b ≡ 0 = grind (arith, nat_tests) in inl (is ∙ ap (λ (c : ℕ). c ∷ after.bytes) mark, e)
+    by_zero b after is low false test e = let mark : b ≡ 1 = grind (arith, nat_tests) in inr (is ∙ ap (λ (c : ℕ). c ∷ after.bytes) mark, e)
 
--- by the first byte
-marked : {A : Type 0} → (zero_read one_read : List ℕ → Read A) (b : ℕ) (bs : List ℕ) (r : A × List ℕ) → by_mark zero_read one_read (b ∷ bs) ≡ Some r
-    → ((b ≡ 0) × (zero_read bs ≡ Some r)) ⊎ ((b ≡ 1) × (one_read bs ≡ Some r))
-marked {A} zero_read one_read b bs r e = by_zero (b == 0) refl e
-  where
-    by_one : (t : Bool) → (b == 1) ≡ t → (if t then one_read bs else None) ≡ Some r → ((b ≡ 0) × (zero_read bs ≡ Some r)) ⊎ ((b ≡ 1) × (one_read bs ≡ Some r))
-    by_one true test e = let is : b ≡ 1 = grind (arith, nat_tests) in inr (is, e)
-    by_one false test e = absurd (cc)
-
-    by_zero : (t : Bool) → (b == 0) ≡ t → (if t then zero_read bs else (if b == 1 then one_read bs else None)) ≡ Some r → ((b ≡ 0) × (zero_read bs ≡ Some r)) ⊎ ((b ≡ 1) × (one_read bs ≡ Some r))
-    by_zero true test e = let is : b ≡ 0 = grind (arith, nat_tests) in inl (is, e)
-    by_zero false test e = by_one (b == 1) refl e
-
-all_cons : {A : Type 0} → (of : A → Type 0) (v : A) (vs : List A) → of v → All of vs → All of (v ∷ vs)
-all_cons {A} of v vs one all zero d within = one
-all_cons {A} of v vs one all (suc k) d within = all k d (omega (arith, within))
-
-times_written : {A : Type 0} → (read : List ℕ → Read A) (code : A → List ℕ) (of : A → Type 0)
-    → ((v : A) (bytes rest : List ℕ) → AreBytes bytes → read bytes ≡ Some (v, rest) → (bytes ≡ code v ++ rest) × of v)
-    → (count : ℕ) (vs : List A) (bytes rest : List ℕ) → AreBytes bytes → read_times count read bytes ≡ Some (vs, rest)
-    → (bytes ≡ coded_all code vs ++ rest) × (length vs ≡ count) × All of vs
-times_written {A} read code of law zero vs bytes rest all e =
-    let one : List A × List ℕ = ([], bytes) in
-    let two : List A × List ℕ = (vs, rest) in
-    let p : one ≡ two = some_same one two e in
-    let none : [] ≡ vs = ap (λ (q : List A × List ℕ). q.0) p in
-    let same : bytes ≡ rest = ap (λ (q : List A × List ℕ). q.1) p in
-    subst (λ (ws : List A). (bytes ≡ coded_all code ws ++ rest) × (length ws ≡ 0) × All of ws) none (same, refl, λ (k : ℕ) (d : A) within. absurd (omega (arith, within)))
-times_written {A} read code of one (suc count) vs bytes rest all e =
-    let both = λ (p : A × List ℕ). option_map (λ (q : List A × List ℕ). (p.0 ∷ q.0, q.1)) (read_times count read p.1) in
-    let x = then_some both (read bytes) (vs, rest) e in
-    let p = x.0 in
-    let first = one p.0 bytes p.1 all x.1 in
-    let y = map_some (λ (q : List A × List ℕ). (p.0 ∷ q.0, q.1)) (read_times count read p.1) (vs, rest) x.2 in
-    let q = y.0 in
-    let others = times_written read code of one count q.0 p.1 q.1 (back_bytes bytes (code p.0) p.1 first.0 all) y.1 in
-    let joined : p.0 ∷ q.0 ≡ vs = ap (λ (r : List A × List ℕ). r.0) y.2 in
-    let behind : q.1 ≡ rest = ap (λ (r : List A × List ℕ). r.1) y.2 in
-    let long : length q.0 ≡ count = others.1 in
-    subst (λ (ws : List A). (bytes ≡ coded_all code ws ++ rest) × (length ws ≡ suc count) × All of ws) joined (
-      first.0 ∙ ap (λ (ys : List ℕ). code p.0 ++ ys) others.0 ∙ ap (λ (ys : List ℕ). code p.0 ++ (coded_all code q.0 ++ ys)) behind
-          ∙ sym (append_assoc (code p.0) (coded_all code q.0) rest),
+times_written : {A : Type 0} → (read : Rest → Read A) (code : A → List ℕ) (of : A → Type 0)
+    → ((v : A) (rest behind : Rest) → AreBelow 256 rest.bytes → read rest ≡ Ok (v, behind) → (rest.bytes ≡ code v ++ behind.bytes) × of v)
+    → (count : ℕ) (vs : List A) (rest behind : Rest) → AreBelow 256 rest.bytes → read_times count read rest ≡ Ok (vs, behind)
+    → (rest.bytes ≡ coded_all code vs ++ behind.bytes) × (length vs ≡ count) × All of vs
+times_written {A} read code of one zero vs rest behind all e =
+    let left : List A × Rest = ([], rest) in
+    let right : List A × Rest = (vs, behind) in
+    let p : left ≡ right = cc in
+    let none : [] ≡ vs = ap (λ (q : List A × Rest). q.0) p in
+    let same : rest.bytes ≡ behind.bytes = ap (λ (q : List A × Rest). q.1.bytes) p in
+    subst (λ (ws : List A). (rest.bytes ≡ coded_all code ws ++ behind.bytes) × (length ws ≡ 0) × All of ws) none (same, refl, All-nil of)
+times_written {A} read code of one (suc count) vs rest behind all e =
+    let x = then_ok (λ (p : A × Rest). as_read (λ (ws : List A). p.0 ∷ ws) (read_times count read p.1)) (read rest) (vs, behind) e in
+    let v = x.0.0 in
+    let after = x.0.1 in
+    let first = one v rest after all x.1 in
+    let y = as_ok (λ (ws : List A). v ∷ ws) (read_times count read after) vs behind x.2 in
+    let ws = y.0 in
+    let others = times_written read code of one count ws after behind (back_bytes rest.bytes (code v) after.bytes first.0 all) y.1 in
+    let long : length ws ≡ count = others.1 in
+    subst (λ (us : List A). (rest.bytes ≡ coded_all code us ++ behind.bytes) × (length us ≡ suc count) × All of us) y.2 (
+      first.0 ∙ ap (λ (ys : List ℕ). code v ++ ys) others.0 ∙ sym (append_assoc (code v) (coded_all code ws) behind.bytes),
       ap suc long,
-      all_cons of p.0 q.0 first.1 others.2,
+      All-cons of v ws first.1 others.2,
     )
 
-pub read_written : ReadValuesAreWritten
-read_written (Below limit) n [] rest all e = absurd (cc)
-read_written (Below limit) n (b ∷ bs) rest all e = by_test (nat_lt b limit) refl e
-  where
-    by_test : (t : Bool) → nat_lt b limit ≡ t → if◌then◌else◌ {A = Read ℕ} t (Some (b, bs)) None ≡ Some (n, rest) → (b ∷ bs ≡ n ∷ rest) × (n < limit)
-    by_test true test e =
-        let one : ℕ × List ℕ = (b, bs) in
-        let two : ℕ × List ℕ = (n, rest) in
-        let p : one ≡ two = some_same one two e in
-        let first : b ≡ n = ap (λ (q : ℕ × List ℕ). q.0) p in
-        let second : bs ≡ rest = ap (λ (q : ℕ × List ℕ). q.1) p in
-        let low : b < limit = grind (arith, nat_tests) in
-        (ap (λ (c : ℕ). c ∷ bs) first ∙ ap (λ (cs : List ℕ). n ∷ cs) second, omega (arith, first, low))
-    by_test false test e = absurd (cc)
-read_written Word n bytes rest all e = word_written bytes rest n all e
-read_written Long n bytes rest all e = long_written bytes rest n all e
-read_written (Fixed count) xs bytes rest all e = first_written count bytes xs rest e
-read_written (Run most) xs bytes rest all e = let w = run_written most bytes xs rest all e in (w.0, (w.1, w.2))
-read_written (Both f g) v bytes rest all e =
-    let x = then_some (then_read (decoded g)) (decoded f bytes) (v, rest) e in
-    let p = x.0 in
-    let first = read_written f p.0 bytes p.1 all x.1 in
-    let y = map_some (λ (q : laid_out g × List ℕ). ((p.0, q.0), q.1)) (decoded g p.1) (v, rest) x.2 in
-    let q = y.0 in
-    let second = read_written g q.0 p.1 q.1 (back_bytes bytes (coded f p.0) p.1 first.0 all) y.1 in
-    let pair : (p.0, q.0) ≡ v = ap (λ (r : (laid_out f × laid_out g) × List ℕ). r.0) y.2 in
-    let behind : q.1 ≡ rest = ap (λ (r : (laid_out f × laid_out g) × List ℕ). r.1) y.2 in
-    subst (λ (w : laid_out f × laid_out g). (bytes ≡ (coded f w.0 ++ coded g w.1) ++ rest) × (IsOf f w.0 × IsOf g w.1)) pair (
-      first.0 ∙ ap (λ (ys : List ℕ). coded f p.0 ++ ys) second.0 ∙ ap (λ (ys : List ℕ). coded f p.0 ++ (coded g q.0 ++ ys)) behind
-          ∙ sym (append_assoc (coded f p.0) (coded g q.0) rest),
+abbrev to_left : (f g : Layout) → laid_out f → laid_out f ⊎ laid_out g
+to_left f g v = inl v
+
+abbrev to_right : (f g : Layout) → laid_out g → laid_out f ⊎ laid_out g
+to_right f g v = inr v
+
+rest_written : (f : Layout) (v : laid_out f) (rest behind : Rest) → AreBelow 256 rest.bytes → decoded f rest ≡ Ok (v, behind) → IsWritten f v rest behind
+rest_written (Below field limit) n rest behind all e = below_written field limit rest n behind e
+rest_written (Within field least most) n rest behind all e =
+    let x = if_ok (λ (m : ℕ). nat_le least m && nat_le m most) field rest (first_two_bytes field rest) (n, behind) e in
+    let w = word_written field rest n behind all x.0 in
+    let test : (nat_le least n && nat_le n most) ≡ true = x.1 in
+    let low : least ≤ n = grind (arith, nat_tests) in
+    let high : n ≤ most = grind (arith, nat_tests) in
+    (w.0, (low, high, w.1))
+rest_written (Long field) n rest behind all e = long_written field rest n behind all e
+rest_written (Among field count test) xs rest behind all e =
+    let x = if_ok test field rest (first_bytes field count rest) (xs, behind) e in
+    let w = first_written field count rest xs behind x.0 in
+    (w.0, (w.1, x.1, front_bytes rest.bytes xs behind.bytes w.0 all))
+rest_written (Run field most limit) xs rest behind all e = run_written field most limit rest xs behind all e
+rest_written (Both f g) v rest behind all e =
+    let x = then_ok (pair_read {A = laid_out f} (decoded g)) (decoded f rest) (v, behind) e in
+    let a = x.0.0 in
+    let after = x.0.1 in
+    let first = rest_written f a rest after all x.1 in
+    let y = as_ok (λ (b : laid_out g). (a, b)) (decoded g after) v behind x.2 in
+    let b = y.0 in
+    let second = rest_written g b after behind (back_bytes rest.bytes (coded f a) after.bytes first.0 all) y.1 in
+    subst (λ (w : laid_out f × laid_out g). IsWritten (Both f g) w rest behind) y.2 (
+      first.0 ∙ ap (λ (ys : List ℕ). coded f a ++ ys) second.0 ∙ sym (append_assoc (coded f a) (coded g b) behind.bytes),
       (first.1, second.1),
     )
-read_written (Maybe f) v [] rest all e = absurd (cc)
-read_written (Maybe f) v (b ∷ bs) rest all e =
-    elim (marked (λ (xs : List ℕ). Some (None, xs)) (λ (xs : List ℕ). option_map (λ (p : laid_out f × List ℕ). (Some p.0, p.1)) (decoded f xs)) b bs (v, rest) e) [
+rest_written (Maybe field f) v rest behind all e =
+    let x = marked field (λ (r : Rest). Ok (None, r)) (λ (r : Rest). as_read (λ (w : laid_out f). Some w) (decoded f r)) rest (v, behind) e in
+    let after = x.0 in
+    elim x.1 as (λ _. IsWritten (Maybe field f) v rest behind) [
       | inl w ↦
-          let one : Option (laid_out f) × List ℕ = (None, bs) in
-          let two : Option (laid_out f) × List ℕ = (v, rest) in
-          let p : one ≡ two = some_same one two w.1 in
-          let none : None ≡ v = ap (λ (r : Option (laid_out f) × List ℕ). r.0) p in
-          let behind : bs ≡ rest = ap (λ (r : Option (laid_out f) × List ℕ). r.1) p in
-          subst (λ (o : Option (laid_out f)). (b ∷ bs ≡ coded (Maybe f) o ++ rest) × IsOf (Maybe f) o) none (ap (λ (c : ℕ). c ∷ bs) w.0 ∙ ap (λ (cs : List ℕ). 0 ∷ cs) behind, tt)
+          let left : Option (laid_out f) × Rest = (None, after) in
+          let right : Option (laid_out f) × Rest = (v, behind) in
+          let is : Ok left ≡ Ok right = w.1 in
+          let p : left ≡ right = cc in
+          let none : None ≡ v = ap (λ (q : Option (laid_out f) × Rest). q.0) p in
+          let same : after.bytes ≡ behind.bytes = ap (λ (q : Option (laid_out f) × Rest). q.1.bytes) p in
+          subst (λ (o : Option (laid_out f)). IsWritten (Maybe field f) o rest behind) none (w.0 ∙ ap (λ (ys : List ℕ). 0 ∷ ys) same, tt)
       | inr w ↦
-          let y = map_some (λ (p : laid_out f × List ℕ). (Some p.0, p.1)) (decoded f bs) (v, rest) w.1 in
-          let some : Some y.0.0 ≡ v = ap (λ (r : Option (laid_out f) × List ℕ). r.0) y.2 in
-          let behind : y.0.1 ≡ rest = ap (λ (r : Option (laid_out f) × List ℕ). r.1) y.2 in
-          let inner = read_written f y.0.0 bs y.0.1 (λ (k : ℕ) (d : ℕ) within. all (suc k) d (omega (arith, within))) y.1 in
-          subst (λ (o : Option (laid_out f)). (b ∷ bs ≡ coded (Maybe f) o ++ rest) × IsOf (Maybe f) o) some (
-            ap (λ (c : ℕ). c ∷ bs) w.0 ∙ ap (λ (cs : List ℕ). 1 ∷ cs) (inner.0 ∙ ap (λ (ys : List ℕ). coded f y.0.0 ++ ys) behind),
-            inner.1,
-          )
+          let y = as_ok (λ (u : laid_out f). Some u) (decoded f after) v behind w.1 in
+          let inner = rest_written f y.0 after behind (back_bytes rest.bytes (1 ∷ []) after.bytes w.0 all) y.1 in
+          subst (λ (o : Option (laid_out f)). IsWritten (Maybe field f) o rest behind) y.2 (w.0 ∙ ap (λ (ys : List ℕ). 1 ∷ ys) inner.0, inner.1)
     ]
-read_written (Either f g) v [] rest all e = absurd (cc)
-read_written (Either f g) v (b ∷ bs) rest all e =
-    let tail : AreBytes bs = λ (k : ℕ) (d : ℕ) within. all (suc k) d (omega (arith, within)) in
-    elim (marked (λ (xs : List ℕ). option_map (λ (p : laid_out f × List ℕ). (inl p.0, p.1)) (decoded f xs)) (λ (xs : List ℕ). option_map (λ (p : laid_out g × List ℕ). (inr p.0, p.1)) (decoded g xs)) b bs (v, rest) e) [
+rest_written (Either field f g) v rest behind all e =
+    let x = marked field (λ (r : Rest). as_read (to_left f g) (decoded f r)) (λ (r : Rest). as_read (to_right f g) (decoded g r)) rest (v, behind) e in
+    let after = x.0 in
+    elim x.1 as (λ _. IsWritten (Either field f g) v rest behind) [
       | inl w ↦
-          let y = map_some (λ (p : laid_out f × List ℕ). (inl p.0, p.1)) (decoded f bs) (v, rest) w.1 in
-          let some : inl y.0.0 ≡ v = ap (λ (r : (laid_out f ⊎ laid_out g) × List ℕ). r.0) y.2 in
-          let behind : y.0.1 ≡ rest = ap (λ (r : (laid_out f ⊎ laid_out g) × List ℕ). r.1) y.2 in
-          let inner = read_written f y.0.0 bs y.0.1 tail y.1 in
-          subst (λ (o : laid_out f ⊎ laid_out g). (b ∷ bs ≡ coded (Either f g) o ++ rest) × IsOf (Either f g) o) some (
-            ap (λ (c : ℕ). c ∷ bs) w.0 ∙ ap (λ (cs : List ℕ). 0 ∷ cs) (inner.0 ∙ ap (λ (ys : List ℕ). coded f y.0.0 ++ ys) behind),
-            inner.1,
-          )
+          let y = as_ok (to_left f g) (decoded f after) v behind w.1 in
+          let inner = rest_written f y.0 after behind (back_bytes rest.bytes (0 ∷ []) after.bytes w.0 all) y.1 in
+          subst (λ (o : laid_out f ⊎ laid_out g). IsWritten (Either field f g) o rest behind) y.2 (w.0 ∙ ap (λ (ys : List ℕ). 0 ∷ ys) inner.0, inner.1)
       | inr w ↦
-          let y = map_some (λ (p : laid_out g × List ℕ). (inr p.0, p.1)) (decoded g bs) (v, rest) w.1 in
-          let some : inr y.0.0 ≡ v = ap (λ (r : (laid_out f ⊎ laid_out g) × List ℕ). r.0) y.2 in
-          let behind : y.0.1 ≡ rest = ap (λ (r : (laid_out f ⊎ laid_out g) × List ℕ). r.1) y.2 in
-          let inner = read_written g y.0.0 bs y.0.1 tail y.1 in
-          subst (λ (o : laid_out f ⊎ laid_out g). (b ∷ bs ≡ coded (Either f g) o ++ rest) × IsOf (Either f g) o) some (
-            ap (λ (c : ℕ). c ∷ bs) w.0 ∙ ap (λ (cs : List ℕ). 1 ∷ cs) (inner.0 ∙ ap (λ (ys : List ℕ). coded g y.0.0 ++ ys) behind),
-            inner.1,
-          )
+          let y = as_ok (to_right f g) (decoded g after) v behind w.1 in
+          let inner = rest_written g y.0 after behind (back_bytes rest.bytes (1 ∷ []) after.bytes w.0 all) y.1 in
+          subst (λ (o : laid_out f ⊎ laid_out g). IsWritten (Either field f g) o rest behind) y.2 (w.0 ∙ ap (λ (ys : List ℕ). 1 ∷ ys) inner.0, inner.1)
     ]
-read_written (Times count f) vs bytes rest all e =
-    let w = times_written (decoded f) (coded f) (IsOf f) (λ (v : laid_out f) (bs rs : List ℕ). read_written f v bs rs) count vs bytes rest all e in
+rest_written (Times count f) vs rest behind all e =
+    let w = times_written (decoded f) (coded f) (IsOf f) (rest_written f) count vs rest behind all e in
     (w.0, (w.1, w.2))
+
+pub read_written : ReadValuesAreWritten
+read_written f v at end bytes rest all e = rest_written f v (rest_at at bytes) (rest_at end rest) all e

@@ -1,2 +1,9 @@
 pub mod Layout
 pub mod Laws
+pub mod Reading
+pub mod SavedConsole
+pub mod SavedDisks
+pub mod SavedMemory
+pub mod SavedMode
+pub mod SavedRegisters
+pub mod SavedSession

@@ -1,0 +1,14 @@
+pub mod Rows
+pub mod Receipts
+pub mod Vt100
+pub mod Cursors
+pub mod State
+pub mod Inside
+pub mod Motions
+pub mod Edits
+pub mod Modes
+pub mod Shown
+pub mod Laws
+pub mod Ansi
+pub mod Painting
+pub mod Keys
