@@ -1,7 +1,7 @@
 -- What is read and written was planned.
 use Rattle.std.specs.Prelude.{⊤, Vec, slice_get, slice_index_or}
 use Rattle.std.specs.List.{concat, flat_map, zip}
-use Rattle.std.proofs.Common.{◌≡◌, ◌∙◌, ◌&&◌, ◌==◌, ℕ, zero, suc, Bool, true, false, if◌then◌else◌, List, [], ◌∷◌, ◌++◌, ap, arith, drop, get_or, length, map, string_bytes, subst, sym}
+use Rattle.std.proofs.Common.{◌≡◌, ◌∙◌, ◌&&◌, ◌==◌, ℕ, zero, suc, Bool, true, false, if◌then◌else◌, List, [], ◌∷◌, ◌++◌, ap, arith, drop, get_or, length, map, refl, string_bytes, subst, sym}
 use Rattle.std.proofs.Common.{Option, is_some, Some, None, option_map, String, Global, All}
 use Rattle.std.proofs.lemmas.List.Elements.{All-append, All-cons, All-contains_itself, All-head, All-map, All-nil, All-tail}
 use Rattle.cpm_batch.specs.Inputs.{SessionInput, known_of}
@@ -20,7 +20,7 @@ use Rattle.cpm_geom.specs.Disk.{Disk}
 use Rattle.cpm_host.specs.declared.error.HostError.{HostError}
 use Rattle.cpm_machine.specs.MachineState.{MachineState}
 use Rattle.cpm_run.proofs.RunLemmas.{settled_sessions}
-use Rattle.cpm_run.specs.Run.{files_left, outputs_by, own_keys, record_of, record_outputs, run_of, session_output}
+use Rattle.cpm_run.specs.Run.{StoreActs, files_left, outputs_by, own_keys, record_of, record_outputs, run_of, session_output}
 use Rattle.cpm_run.specs.Settled.{SettledSession, Streams, streams}
 use Rattle.cpm_run.specs.declared.options.RecordFile.{RecordFile}
 use Rattle.cpm_run.specs.declared.report.Report.{Report}
@@ -230,21 +230,21 @@ module _ (plan : Plan) where
 
 -- ---- a run
 
-run_calls : {F : Type 0} (does : F → StoreAccess → F → Type 0) (tells_name : F → StoreName → Bool → Type 0) (task : RunTask) (config : Config) (replays : List Replay) (scripts : List (String Global)) (report : Report) (io : Streams) (old new : F)
-    → HasRunAll does tells_name task config replays scripts report io old new → LogLeadsBy does (All (IsAsPlanned (plan_by task config replays scripts))) old new
-run_calls does tells_name task config replays scripts report io old new h =
+run_calls : {F : Type 0} (store : StoreActs F) (tells_name : F → StoreName → Bool → Type 0) (task : RunTask) (config : Config) (replays : List Replay) (scripts : List (String Global)) (report : Report) (io : Streams) (old new : F)
+    → HasRunAll store tells_name task config replays scripts report io old new → LogLeadsBy store.does (All (IsAsPlanned (plan_by task config replays scripts))) old new
+run_calls store tells_name task config replays scripts report io old new h =
     let plan = plan_by task config replays scripts in
     let I = IsPlanned plan.inputs in
     let O = IsPlanned plan.outputs in
     let typed = option_map (λ n. n.now) task.keyboard in
-    let parts = h.accessed.parts in
-    let calls = h.accessed.calls in
-    let kind = calls.1 in
+    let parts = h.ran.parts in
+    let reading = h.ran.read.calls in
+    let writing = h.ran.wrote.calls in
     let ins = such_itself plan.inputs in
     let outs = such_itself plan.outputs in
-    let reads = subst (λ (rs : List Replay). AreRead config rs parts.system parts.inputs kind.first) h.asked.played_back kind.begins in
-    let read = all_read plan config replays parts.system parts.inputs kind.first reads ins.1.0 ins.1.1 in
-    let sessions = settled_sessions parts.system h.options.stops_idle parts.typed config.sessions.items [] parts.inputs parts.settled h.accessed.played.keys ∙ kind.begins.sessions in
+    let reads = subst (λ (rs : List Replay). AreRead config rs parts.system parts.inputs reading.0) h.asked.played_back reading.1 in
+    let read = all_read plan config replays parts.system parts.inputs reading.0 reads ins.1.0 ins.1.1 in
+    let sessions = settled_sessions parts.system h.options.stops_idle parts.typed config.sessions.items [] parts.inputs parts.settled h.ran.played.keys ∙ reading.1.sessions in
     let all = flat_map session_outputs config.sessions.items in
     let recorded_to = planned_if_any Plain (option_map (λ n. n.now) task.record) in
     let named = all_planned Script (map string_bytes scripts) in
@@ -253,13 +253,13 @@ run_calls does tells_name task config replays scripts report io old new h =
     let files = left_such O (run_of parts.system parts.settled) parts.settled outputs in
     let records = records_such O (is_some h.asked.kept) typed h.options.records.now parts.settled config.sessions.items scripts h.asked.records
     (such_right O recorded_to named (such_right O all (recorded_to ++ named) outs)) in
-    let written = all_written plan (outputs_by h.options parts) kind.rest kind.goes_on (files_joined O (files_of_all (files_left parts.system parts.settled)) _ files records) in
-    (calls.0, joined plan calls.0 kind.first kind.rest kind.order read written, calls.2)
+    let written = all_written plan (outputs_by h.options parts) writing.0 writing.1 (files_joined O (files_of_all (files_left parts.system parts.settled)) _ files records) in
+    (reading.0 ++ writing.0, joined plan (reading.0 ++ writing.0) reading.0 writing.0 refl read written, ran_more store.does reading.0 writing.0 old h.ran.between new reading.2 writing.2)
 
-pub runs_follow : {F : Type 0} (does : F → StoreAccess → F → Type 0) (sees_to : F → Plan → Option HostError → F → Type 0) (gives_names : F → Option HostError → F → Type 0)
+pub runs_follow : {F : Type 0} (store : StoreActs F) (sees_to : F → Plan → Option HostError → F → Type 0) (gives_names : F → Option HostError → F → Type 0)
     (tells_name : F → StoreName → Bool → Type 0) (ended : Option HostError → Type 0) (told : List SessionReport → Type 0)
-    → RunsFollowPlans does sees_to gives_names tells_name ended told
-runs_follow does sees_to gives_names tells_name ended told task old new unread left before printed unrecorded record_now h = (
+    → RunsFollowPlans store sees_to gives_names tells_name ended told
+runs_follow store sees_to gives_names tells_name ended told task old new unread left before printed unrecorded record_now h = (
   h.config,
   h.replays,
   h.scripts,
@@ -271,7 +271,7 @@ runs_follow does sees_to gives_names tells_name ended told task old new unread l
     seen = h.seen;
     ended = h.ran;
     sees = h.prepared.sees;
-    calls = run_calls does tells_name task h.config h.replays h.scripts h.report (streams unread left before h.shown unrecorded record_now) h.seen h.ran h.played;
+    calls = run_calls store tells_name task h.config h.replays h.scripts h.report (streams unread left before h.shown unrecorded record_now) h.seen h.ran h.played;
     named = h.named;
   },
 )

@@ -30,11 +30,11 @@ use Rattle.cpm_commands.specs.declared.plan.OutputNaming.TheVariants.{New, Repla
 -- ---- where files go
 
 -- into the current folder where nothing is said of it; else into the folder of the name, or to the file of it, as the machine says
-abbrev pub IsDestination : Option StoreName → Destination → Type 0
-IsDestination None Current = ⊤
-IsDestination (Some to) (Folder name) = name.now ≡ to
-IsDestination (Some to) (OneFile name) = name.now ≡ to
-IsDestination _ _ = ⊥
+abbrev pub IsDestination : (tells_folder : StoreName → Bool → Type 0) → Option StoreName → Destination → Type 0
+IsDestination tells_folder None Current = ⊤
+IsDestination tells_folder (Some to) (Folder name) = (name.now ≡ to) × tells_folder to true
+IsDestination tells_folder (Some to) (OneFile name) = (name.now ≡ to) × tells_folder to false
+IsDestination tells_folder _ _ = ⊥
 
 -- the path of a file of a disk: to the one file; or by its own name in small letters into a folder, after a slash, unless the folder is empty or ends in one
 abbrev pub path_of : Destination → FileName → StoreName
@@ -94,21 +94,25 @@ IsTakingStopped image disk to is_text (file ∷ files) e =
     ⊎ ((p : NamedBytes) × IsFileTaken disk to is_text file p × IsTakingStopped image disk to is_text files e)
 
 -- the files that patterns name were taken out of the disk
-pub record HasTakenNamed (disk : Disk) (texts : List StoreName) (user : ℕ) (how : GetOptions) (taken : List NamedBytes) : Type 0 where
+pub record HasTakenNamed (tells_folder : StoreName → Bool → Type 0) (disk : Disk) (texts : List StoreName) (user : ℕ) (how : GetOptions)
+    (taken : List NamedBytes) : Type 0 where
   pub named : List FileName
   pub to : Destination
   pub named_are : AreNamedOn disk texts user named
-  pub to_is : IsDestination (option_map (λ n. n.now) how.to) to
+  pub to_is : IsDestination tells_folder (option_map (λ n. n.now) how.to) to
   pub room : IsCrowded to named → ⊥
   pub each : AreFilesTaken disk to how.is_text named taken
 
 -- the patterns name none; or they are several, and go to one file; or they don't, and one can't be taken
-pub data IsTakingRefused (image : StoreName) (disk : Disk) (texts : List StoreName) (user : ℕ) (how : GetOptions) (e : HostError) : Type 0 where
-  Unnamed : IsUnnamedOn image disk texts user e → IsTakingRefused image disk texts user how e
-  Crowded : (named : List FileName) (to : Destination) → AreNamedOn disk texts user named → IsDestination (option_map (λ n. n.now) how.to) to
-      → IsCrowded to named → IsNoFolder to e → IsTakingRefused image disk texts user how e
-  Stopped : (named : List FileName) (to : Destination) → AreNamedOn disk texts user named → IsDestination (option_map (λ n. n.now) how.to) to
-      → (IsCrowded to named → ⊥) → IsTakingStopped image disk to how.is_text named e → IsTakingRefused image disk texts user how e
+pub data IsTakingRefused (tells_folder : StoreName → Bool → Type 0) (image : StoreName) (disk : Disk) (texts : List StoreName) (user : ℕ) (how : GetOptions)
+    (e : HostError) : Type 0 where
+  Unnamed : IsUnnamedOn image disk texts user e → IsTakingRefused tells_folder image disk texts user how e
+  Crowded : (named : List FileName) (to : Destination) → AreNamedOn disk texts user named
+      → IsDestination tells_folder (option_map (λ n. n.now) how.to) to → IsCrowded to named → IsNoFolder to e
+      → IsTakingRefused tells_folder image disk texts user how e
+  Stopped : (named : List FileName) (to : Destination) → AreNamedOn disk texts user named
+      → IsDestination tells_folder (option_map (λ n. n.now) how.to) to → (IsCrowded to named → ⊥)
+      → IsTakingStopped image disk to how.is_text named e → IsTakingRefused tells_folder image disk texts user how e
 
 -- ---- what becomes of them
 
@@ -139,12 +143,13 @@ paths_text taken = flat_map (λ p. path_line p.0) taken
 -- ---- the command
 
 -- The image was read, the files were taken out of it, and the image and their paths were seen to: they were refused so, or weren't.
-pub record IsPreparedGet {F : Type 0} (does : F → StoreAccess → F → Type 0) (sees_to : F → Plan → Option HostError → F → Type 0) (image : StoreName)
-    (texts : List StoreName) (user : ℕ) (how : GetOptions) (old new : F) (taken : List NamedBytes) (fault : Option HostError) : Type 0 where
+pub record IsPreparedGet {F : Type 0} (does : F → StoreAccess → F → Type 0) (sees_to : F → Plan → Option HostError → F → Type 0)
+    (tells_folder : F → StoreName → Bool → Type 0) (image : StoreName) (texts : List StoreName) (user : ℕ) (how : GetOptions) (old new : F)
+    (taken : List NamedBytes) (fault : Option HostError) : Type 0 where
   pub known : F
   pub disk : Disk
   pub read : IsDiskRead does image old known disk
-  pub took : HasTakenNamed disk texts user how taken
+  pub took : HasTakenNamed (tells_folder known) disk texts user how taken
   pub sees : sees_to known (plan_of_get image taken how.is_forced) fault new
 
 -- then the paths were printed where that was all that was asked, and nothing was written; else the files were written, and nothing was printed
@@ -159,26 +164,27 @@ IsGetUnended {F} {W} does gives_names true taken old new out out_now e = IsUnpri
 IsGetUnended {F} {W} does gives_names false taken old new out out_now e = AreUnwritten does gives_names taken old new e × (out_now ≡ out)
 
 pub record HasGot {F W : Type 0} (does : F → StoreAccess → F → Type 0) (sees_to : F → Plan → Option HostError → F → Type 0)
-    (gives_names : F → Option HostError → F → Type 0) (image : StoreName) (texts : List StoreName) (user : ℕ) (how : GetOptions) (old new : F)
-    (before printed : Option (List ℕ)) (out out_now : W) : Type 0 where
+    (gives_names : F → Option HostError → F → Type 0) (tells_folder : F → StoreName → Bool → Type 0) (image : StoreName) (texts : List StoreName) (user : ℕ)
+    (how : GetOptions) (old new : F) (before printed : Option (List ℕ)) (out out_now : W) : Type 0 where
   pub seen : F
   pub taken : List NamedBytes
-  pub prepared : IsPreparedGet does sees_to image texts user how old seen taken None
+  pub prepared : IsPreparedGet does sees_to tells_folder image texts user how old seen taken None
   pub ended : IsGetEnded does gives_names how.is_dry taken seen new before printed out out_now
 
 -- how far it came that was refused
 pub data IsGetRefused {F W : Type 0} (does : F → StoreAccess → F → Type 0) (sees_to : F → Plan → Option HostError → F → Type 0)
-    (gives_names : F → Option HostError → F → Type 0) (image : StoreName) (texts : List StoreName) (user : ℕ) (how : GetOptions) (old new : F)
-    (out out_now : W) (e : HostError) : Type 0 where
+    (gives_names : F → Option HostError → F → Type 0) (tells_folder : F → StoreName → Bool → Type 0) (image : StoreName) (texts : List StoreName) (user : ℕ)
+    (how : GetOptions) (old new : F) (out out_now : W) (e : HostError) : Type 0 where
   -- the image can't be read
-  Unread : IsDiskUnread does image old new e → out_now ≡ out → IsGetRefused does sees_to gives_names image texts user how old new out out_now e
+  Unread : IsDiskUnread does image old new e → out_now ≡ out → IsGetRefused does sees_to gives_names tells_folder image texts user how old new out out_now e
   -- not all files can be taken out of it, or memory was refused; nothing was written
-  Untaken : (disk : Disk) → IsDiskRead does image old new disk → (IsTakingRefused image disk texts user how e ⊎ (e ≡ OutOfMemory)) → out_now ≡ out
-      → IsGetRefused does sees_to gives_names image texts user how old new out out_now e
+  Untaken : (disk : Disk) → IsDiskRead does image old new disk
+      → (IsTakingRefused (tells_folder new) image disk texts user how e ⊎ (e ≡ OutOfMemory)) → out_now ≡ out
+      → IsGetRefused does sees_to gives_names tells_folder image texts user how old new out out_now e
   -- they can't be written where they are to go; nothing was written
-  Unseen : (taken : List NamedBytes) → IsPreparedGet does sees_to image texts user how old new taken (Some e) → out_now ≡ out
-      → IsGetRefused does sees_to gives_names image texts user how old new out out_now e
+  Unseen : (taken : List NamedBytes) → IsPreparedGet does sees_to tells_folder image texts user how old new taken (Some e) → out_now ≡ out
+      → IsGetRefused does sees_to gives_names tells_folder image texts user how old new out out_now e
   -- their paths can't be printed, or they can't be written, or can't have their names
-  Unended : (taken : List NamedBytes) (seen : F) → IsPreparedGet does sees_to image texts user how old seen taken None
+  Unended : (taken : List NamedBytes) (seen : F) → IsPreparedGet does sees_to tells_folder image texts user how old seen taken None
       → IsGetUnended does gives_names how.is_dry taken seen new out out_now e
-      → IsGetRefused does sees_to gives_names image texts user how old new out out_now e
+      → IsGetRefused does sees_to gives_names tells_folder image texts user how old new out out_now e

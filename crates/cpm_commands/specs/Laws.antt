@@ -10,6 +10,7 @@ use Rattle.cpm_geom.specs.Disk.{Disk}
 use Rattle.cpm_host.specs.declared.error.HostError.{HostError}
 use Rattle.cpm_play.specs.Typist.{TypingState}
 use Rattle.cpm_play.specs.declared.live.PlayEnd.{PlayEnd}
+use Rattle.cpm_run.specs.Run.{StoreActs}
 use Rattle.cpm_run.specs.Settled.{Streams}
 use Rattle.cpm_run.specs.declared.ending.Ending.{Ending}
 use Rattle.cpm_run.specs.declared.report.SessionReport.{SessionReport}
@@ -43,14 +44,14 @@ pub record FollowsPlan {F : Type 0} (does : F → StoreAccess → F → Type 0) 
   pub named : gives_names ended None new
 
 -- once a run has read its configuration, it follows its plan
-abbrev pub RunsFollowPlans : {F : Type 0} → (F → StoreAccess → F → Type 0) → (F → Plan → Option HostError → F → Type 0)
-    → (F → Option HostError → F → Type 0) → (F → StoreName → Bool → Type 0) → (Option HostError → Type 0) → (List SessionReport → Type 0) → Type 0
-RunsFollowPlans {F} does sees_to gives_names tells_name ended told =
+abbrev pub RunsFollowPlans : {F : Type 0} → StoreActs F → (F → Plan → Option HostError → F → Type 0) → (F → Option HostError → F → Type 0)
+    → (F → StoreName → Bool → Type 0) → (Option HostError → Type 0) → (List SessionReport → Type 0) → Type 0
+RunsFollowPlans {F} store sees_to gives_names tells_name ended told =
     (task : RunTask) (old new : F) (unread left : TypingState) (before printed unrecorded record_now : Option (List ℕ))
-    → HasRunSessions does sees_to gives_names tells_name ended told task old new unread left before printed unrecorded record_now
-    → (config : Config) × (replays : List Replay) × (scripts : List (String Global)) × (known : F) × IsConfigRead does task.config.now old known config
+    → HasRunSessions store sees_to gives_names tells_name ended told task old new unread left before printed unrecorded record_now
+    → (config : Config) × (replays : List Replay) × (scripts : List (String Global)) × (known : F) × IsConfigRead store.does task.config.now old known config
     × ArePlayedBack task config replays × AreScripts task config scripts
-    × FollowsPlan does sees_to gives_names (plan_by task config replays scripts) known new
+    × FollowsPlan store.does sees_to gives_names (plan_by task config replays scripts) known new
 
 -- a program that has run has read the files of its plan; and once it was played it has followed the plan of what it writes
 pub record FollowsTwoPlans {F : Type 0} (does : F → StoreAccess → F → Type 0) (sees_to : F → Plan → Option HostError → F → Type 0)

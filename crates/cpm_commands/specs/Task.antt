@@ -1,5 +1,5 @@
 -- What is done of what a command line asks for. All of it is own.
-use Rattle.std.specs.Prelude.{◌≡◌, ℕ, Bool, List, [], map, option_map, Option, Result, Ok, Err}
+use Rattle.std.specs.Prelude.{◌≡◌, ℕ, Bool, true, false, List, [], map, option_map, Option, Result, Ok, Err}
 use Rattle.std.specs.Io.KnownBytes.{Appends}
 use Rattle.cpm_command_line.specs.HelpWords.{text_of_page}
 use Rattle.cpm_command_line.specs.declared.task.DiskTask.{DiskTask}
@@ -10,10 +10,11 @@ use Rattle.cpm_command_line.specs.declared.task.Task.TheVariants.{Com, Boot, Asm
 use Rattle.cpm_disk_commands.specs.declared.damage.NamedFile.{NamedFile}
 use Rattle.cpm_host.specs.declared.error.HostError.{HostError}
 use Rattle.cpm_play.specs.declared.live.PlayEnd.{PlayEnd}
+use Rattle.cpm_run.specs.Run.{StoreActs}
 use Rattle.cpm_run.specs.Settled.{Streams}
 use Rattle.cpm_run.specs.declared.ending.Ending.{Ending}
 use Rattle.cpm_run.specs.declared.report.SessionReport.{SessionReport}
-use Rattle.cpm_store.specs.Files.{StoreName}
+use Rattle.cpm_store.specs.Files.{StoreFiles, StoreName}
 use Rattle.cpm_store.specs.Log.{StoreAccess}
 use Rattle.cpm_commands.specs.Asm.{HasAssembled, IsAsmRefused}
 use Rattle.cpm_commands.specs.Check.{HasChecked, IsCheckRefused}
@@ -33,6 +34,7 @@ use Rattle.cpm_commands.specs.declared.drives.DrivePlace.{DrivePlace}
 -- how its files go from state to state, and what they tell
 pub record FileActs (F : Type 0) : Type 1 where
   pub does : F → StoreAccess → F → Type 0
+  pub files : F → Option StoreFiles
   pub sees_to : F → Plan → Option HostError → F → Type 0
   pub gives_names : F → Option HostError → F → Type 0
   pub tells_name : F → StoreName → Bool → Type 0
@@ -46,6 +48,10 @@ pub record ToldActs : Type 1 where
   pub told_left_out : List DrivePlace → Type 0
   pub told_end : PlayTask → List (List ℕ × NamedFile) → Ending → (waits : Bool) → Option PlayEnd → (dropped : Bool) → Type 0
   pub told_illegal : List SessionReport → Type 0
+
+-- what they do as a store
+abbrev pub store_acts : {F : Type 0} → FileActs F → StoreActs F
+store_acts {F} acts = record { does = acts.does; files = acts.files }
 
 -- those by which a program is read
 abbrev pub reads_of : {F : Type 0} → FileActs F → ToldActs → ReadActs F
@@ -89,7 +95,7 @@ IsDiskTaskDone {F} {W} acts p (Put image files user is_text is_read_only is_syst
     (ArePut acts.does user (record { is_text = is_text; is_read_only = is_read_only; is_system = is_system }) [] (map (λ w. w.now) files.items)) p.old p.new
     × IsSilent p
 IsDiskTaskDone {F} {W} acts p (Get image names user is_text to is_forced is_dry) =
-    HasGot acts.does acts.sees_to acts.gives_names image.now (map (λ w. w.now) names.items) user
+    HasGot acts.does acts.sees_to acts.gives_names acts.tells_folder image.now (map (λ w. w.now) names.items) user
     (record { is_text = is_text; to = to; is_forced = is_forced; is_dry = is_dry }) p.old p.new p.io.before.console p.io.written.console p.out p.out_now
 IsDiskTaskDone {F} {W} acts p (Remove image names user) =
     HasChanged acts.does acts.sees_to acts.gives_names image.now (HasRemoved (map (λ w. w.now) names.items) user) p.old p.new × IsSilent p
@@ -105,12 +111,24 @@ IsPlainTaskDone {F} {W} acts told p (Asm source out list) =
 IsPlainTaskDone {F} {W} acts told p (Lines file cpu) = HasListed acts.does file.now cpu p.old p.new p.io.before.console p.io.written.console
 IsPlainTaskDone {F} {W} acts told p (Check image) = HasChecked acts.does image.now p.old p.new p.io.before.console p.io.written.console
 IsPlainTaskDone {F} {W} acts told p (Run task) =
-    HasRunSessions acts.does acts.sees_to acts.gives_names acts.tells_name told.ended told.told_illegal task p.old p.new
+    HasRunSessions (store_acts acts) acts.sees_to acts.gives_names acts.tells_name told.ended told.told_illegal task p.old p.new
     p.io.unread p.io.left p.io.before.console p.io.written.console p.io.unrecorded p.io.record_now
 IsPlainTaskDone {F} {W} acts told p (Debug file cpu list) =
     HasDebugged acts.does file.now cpu (option_map (λ n. n.now) list) p.old p.new p.unread p.io.before.console p.io.written.console
 IsPlainTaskDone {F} {W} acts told p (Disk task) = IsDiskTaskDone acts p task
 IsPlainTaskDone {F} {W} acts told p (Help page) = (p.new ≡ p.old) × Appends p.io.before.console p.io.written.console (text_of_page page)
+
+-- it plays programs: one may type at them, and is told of them
+abbrev pub plays_programs : Task → Bool
+plays_programs (Com task) = true
+plays_programs (Boot task) = true
+plays_programs (Run task) = true
+plays_programs _ = false
+
+-- it takes its orders from standard input
+abbrev pub reads_orders : Task → Bool
+reads_orders (Debug file cpu list) = true
+reads_orders _ = false
 
 -- The command that the words name, by their values, and no other; and the exit status.
 abbrev pub IsTaskDone : {F W : Type 0} → FileActs F → ToldActs → Passage F W → Task → (status : ℕ) → Type 0
@@ -133,7 +151,7 @@ IsDiskTaskRefused {F} {W} acts p (Put image files user is_text is_read_only is_s
     (map (λ w. w.now) files.items)) p.old p.new e
     × IsSilent p
 IsDiskTaskRefused {F} {W} acts p (Get image names user is_text to is_forced is_dry) e =
-    IsGetRefused acts.does acts.sees_to acts.gives_names image.now (map (λ w. w.now) names.items) user
+    IsGetRefused acts.does acts.sees_to acts.gives_names acts.tells_folder image.now (map (λ w. w.now) names.items) user
     (record { is_text = is_text; to = to; is_forced = is_forced; is_dry = is_dry }) p.old p.new p.out p.out_now e
 IsDiskTaskRefused {F} {W} acts p (Remove image names user) e =
     IsChangeRefused acts.does acts.sees_to acts.gives_names image.now (HasRemoved (map (λ w. w.now) names.items) user)
@@ -150,7 +168,7 @@ IsTaskRefused {F} {W} acts told p (Asm source out list) e =
 IsTaskRefused {F} {W} acts told p (Lines file cpu) e = IsListRefused acts.does file.now p.old p.new p.out p.out_now e
 IsTaskRefused {F} {W} acts told p (Check image) e = IsCheckRefused acts.does image.now p.old p.new p.out p.out_now e
 IsTaskRefused {F} {W} acts told p (Run task) e =
-    IsRunStopped acts.does acts.sees_to acts.gives_names acts.tells_name told.ended told.told_illegal task p.old p.new
+    IsRunStopped (store_acts acts) acts.sees_to acts.gives_names acts.tells_name told.ended told.told_illegal task p.old p.new
     p.io.unread p.io.left p.io.before.console p.io.written.console p.io.unrecorded p.io.record_now e
 IsTaskRefused {F} {W} acts told p (Debug file cpu list) e =
     IsDebugRefused acts.does file.now cpu (option_map (λ n. n.now) list) p.old p.new p.unread p.io.before.console p.io.written.console p.out p.out_now e

@@ -54,7 +54,7 @@ struct TakenFiles {
 
 /// Where files go, by the name that is given for it, if one is.
 fn destination_of<'a, F: CommandFiles>(to: Option<&'a str>, files: &F) -> Destination<'a>
-    ensures { IsDestination (option_map (λ n. n.now) to.entry) result }
+    ensures { IsDestination (F.tells_folder files.now) (option_map (λ n. n.now) to.entry) result }
 {
     match to {
         Some(name) if files.is_folder(name) => Destination::Folder(name),
@@ -148,9 +148,9 @@ fn take_named<F: CommandFiles>(
     files: &F,
 ) -> Result<TakenFiles, HostError>
     requires { user < 16 }
-    ensures taken { IfOk result (λ t. HasTakenNamed image.now (map (λ w. w.now) patterns.now) user how.entry
+    ensures taken { IfOk result (λ t. HasTakenNamed (F.tells_folder files.now) image.now (map (λ w. w.now) patterns.now) user how.entry
         (taken_outputs t.paths.items t.contents.items)) }
-    ensures refusal { IfErr result (λ e. IsTakingRefused name.now image.now (map (λ w. w.now) patterns.now) user how.entry e) }
+    ensures refusal { IfErr result (λ e. IsTakingRefused (F.tells_folder files.now) name.now image.now (map (λ w. w.now) patterns.now) user how.entry e) }
 {
     let named = files_named(alloc, image, name, patterns, user)?;
     let to = destination_of(how.to, files);
@@ -290,10 +290,10 @@ pub fn get_files<F: CommandFiles, W: Write>(
     out: &mut W,
 ) -> Result<(), HostError>
     requires { user < 16 }
-    ensures got { OnOk result (HasGot F.does F.sees_to F.gives_names name.now (map (λ w. w.now) patterns.now) user how.entry files.old files.new
-        (W.contents out.old) (W.contents out.new) out.old out.new) }
-    ensures refusal { IfErr result (λ e. IsGetRefused F.does F.sees_to F.gives_names name.now (map (λ w. w.now) patterns.now) user how.entry files.old files.new
-        out.old out.new e) }
+    ensures got { OnOk result (HasGot F.does F.sees_to F.gives_names F.tells_folder name.now (map (λ w. w.now) patterns.now) user how.entry
+        files.old files.new (W.contents out.old) (W.contents out.new) out.old out.new) }
+    ensures refusal { IfErr result (λ e. IsGetRefused F.does F.sees_to F.gives_names F.tells_folder name.now (map (λ w. w.now) patterns.now) user how.entry
+        files.old files.new out.old out.new e) }
 {
     let image = read_image(alloc, name, files)?;
     let TakenFiles { paths, contents } = take_named(

@@ -11,7 +11,7 @@ use crate::record::KeyRecord;
 
 /// A run that has read its configuration sees to the files of its plan; then it reads none but its inputs, and writes none but its outputs.
 pub fn runs_follow_plans<F: CommandFiles, R: KeyRecord, T: Messages>()
-    ensures { (typed : R) → (told : T) → RunsFollowPlans F.does F.sees_to F.gives_names F.tells_name
+    ensures { (typed : R) → (told : T) → RunsFollowPlans (record { does = F.does; files = F.files }) F.sees_to F.gives_names F.tells_name
         (HasEndedRecord R.ends R.contents (R.contents typed) typed) (λ sessions. HasToldIllegal T.tells sessions told) }
 {}
 

@@ -278,10 +278,12 @@ fn run_asked<'a, F: CommandFiles, P: Typist, W: Write, R: KeyRecord, T: Sessions
     record: &mut R,
     watcher: &mut T,
 ) -> Result<Report, HostError>
-    ensures ran { IfOk result (λ report. HasRunAll F.does F.tells_name task.now config.now replays.entry.now scripts.entry.now report
+    ensures ran { IfOk result (λ report. HasRunAll (record { does = F.does; files = F.files }) F.tells_name task.now config.now
+        replays.entry.now scripts.entry.now report
         (streams (P.typing typist.old) (P.typing typist.new) (W.contents out.old) (W.contents out.new) (R.contents «record».old) (R.contents «record».new))
         files.old files.new) }
-    ensures refusal { IfErr result (IsRunAllStopped F.does F.tells_name task.now config.now replays.entry.now scripts.entry.now
+    ensures refusal { IfErr result (IsRunAllStopped (record { does = F.does; files = F.files }) F.tells_name task.now config.now
+        replays.entry.now scripts.entry.now
         (streams (P.typing typist.old) (P.typing typist.new) (W.contents out.old) (W.contents out.new) (R.contents «record».old) (R.contents «record».new))
         files.old files.new) }
 {
@@ -312,10 +314,10 @@ fn run_all<F: CommandFiles, P: Typist, W: Write, R: KeyRecord, T: SessionsWatche
     record: &mut R,
     watcher: &mut T,
 ) -> Result<Report, HostError>
-    ensures ran { IfOk result (λ report. HasRunAll F.does F.tells_name task.now config.now replays.now scripts.now report
+    ensures ran { IfOk result (λ report. HasRunAll (record { does = F.does; files = F.files }) F.tells_name task.now config.now replays.now scripts.now report
         (streams (P.typing typist.old) (P.typing typist.new) (W.contents out.old) (W.contents out.new) (R.contents «record».old) (R.contents «record».new))
         files.old files.new) }
-    ensures refusal { IfErr result (IsRunAllStopped F.does F.tells_name task.now config.now replays.now scripts.now
+    ensures refusal { IfErr result (IsRunAllStopped (record { does = F.does; files = F.files }) F.tells_name task.now config.now replays.now scripts.now
         (streams (P.typing typist.old) (P.typing typist.new) (W.contents out.old) (W.contents out.new) (R.contents «record».old) (R.contents «record».new))
         files.old files.new) }
 {
@@ -341,11 +343,11 @@ pub fn run_sessions<
     record: &mut R,
     watcher: &mut T,
 ) -> Result<(), HostError>
-    ensures ran { OnOk result (HasRunSessions F.does F.sees_to F.gives_names F.tells_name
+    ensures ran { OnOk result (HasRunSessions (record { does = F.does; files = F.files }) F.sees_to F.gives_names F.tells_name
         (HasEndedRecord R.ends R.contents (R.contents «record».new) «record».new) (λ sessions. HasToldIllegal T.tells sessions watcher.new)
         task.now files.old files.new (P.typing typist.old) (P.typing typist.new) (W.contents out.old) (W.contents out.new)
         (R.contents «record».old) (R.contents «record».new)) }
-    ensures refusal { IfErr result (IsRunStopped F.does F.sees_to F.gives_names F.tells_name
+    ensures refusal { IfErr result (IsRunStopped (record { does = F.does; files = F.files }) F.sees_to F.gives_names F.tells_name
         (HasEndedRecord R.ends R.contents (R.contents «record».new) «record».new) (λ sessions. HasToldIllegal T.tells sessions watcher.new)
         task.now files.old files.new (P.typing typist.old) (P.typing typist.new) (W.contents out.old) (W.contents out.new)
         (R.contents «record».old) (R.contents «record».new)) }

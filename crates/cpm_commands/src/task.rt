@@ -1,5 +1,5 @@
 //! What a command line asks for, done.
-ghost use Rattle.std.specs.Prelude.{◌≡◌, IfErr, IfOk, None, OnOk};
+ghost use Rattle.std.specs.Prelude.{◌≡◌, false, IfErr, IfOk, None, OnOk};
 ghost use Rattle.std.specs.Io.KnownBytes.{Appends};
 ghost use Rattle.cpm_command_line.specs.DiskLine.{HasUser};
 ghost use Rattle.cpm_command_line.specs.Line.{HasUsers};
@@ -8,7 +8,7 @@ ghost use Rattle.cpm_commands.specs.Drives.{HasToldLeftOut};
 ghost use Rattle.cpm_commands.specs.Messages.{HasToldEnd, HasToldIllegal};
 ghost use Rattle.cpm_commands.specs.Record.{HasEndedRecord};
 ghost use Rattle.cpm_commands.specs.Report.{IsUnprinted};
-ghost use Rattle.cpm_commands.specs.Task.{IsDiskTaskDone, IsDiskTaskRefused, IsTaskDone, IsTaskRefused, with_status};
+ghost use Rattle.cpm_commands.specs.Task.{IsDiskTaskDone, IsDiskTaskRefused, IsTaskDone, IsTaskRefused, plays_programs, reads_orders, with_status};
 ghost use Rattle.cpm_play.specs.Typist.{nobody};
 ghost use Rattle.cpm_run.specs.Settled.{streams};
 
@@ -49,6 +49,7 @@ fn do_disk<F: CommandFiles, W: Write>(
     ensures done { OnOk result (IsDiskTaskDone
         (record {
           does = F.does;
+          files = F.files;
           sees_to = F.sees_to;
           gives_names = F.gives_names;
           tells_name = F.tells_name;
@@ -67,6 +68,7 @@ fn do_disk<F: CommandFiles, W: Write>(
     ensures refusal { IfErr result (IsDiskTaskRefused
         (record {
           does = F.does;
+          files = F.files;
           sees_to = F.sees_to;
           gives_names = F.gives_names;
           tells_name = F.tells_name;
@@ -161,6 +163,7 @@ pub fn do_task<
     ensures done { IfOk result (IsTaskDone
         (record {
           does = F.does;
+          files = F.files;
           sees_to = F.sees_to;
           gives_names = F.gives_names;
           tells_name = F.tells_name;
@@ -186,6 +189,7 @@ pub fn do_task<
     ensures refusal { IfErr result (IsTaskRefused
         (record {
           does = F.does;
+          files = F.files;
           sees_to = F.sees_to;
           gives_names = F.gives_names;
           tells_name = F.tells_name;
@@ -208,6 +212,9 @@ pub fn do_task<
               (R.contents «record».old) (R.contents «record».new);
           unread = I.remaining input.old;
         }) task.now) }
+    // The others leave the typist, the record of what is typed and the messages as they were, and but for the debugger standard input too.
+    ensures apart { plays_programs task.now ≡ false → (typist.new ≡ typist.old) × («record».new ≡ «record».old) × (watcher.new ≡ watcher.old) }
+    ensures unread { reads_orders task.now ≡ false → input.new ≡ input.old }
 {
     match task {
         Task::Com(task) => do_play_task(alloc, task, files, typist, out, record, watcher),

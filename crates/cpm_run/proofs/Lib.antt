@@ -1,5 +1,6 @@
 pub mod EndingLemmas
 pub mod FinishLemmas
+pub mod OpeningLemmas
 pub mod OrderLemmas
 pub mod PartLemmas
 pub mod PlayLemmas
@@ -12,5 +13,4 @@ pub mod ScriptLemmas
 pub mod SettleLemmas
 pub mod SlotLemmas
 pub mod StageLemmas
-pub mod TrialLemmas
 pub mod TypedLemmas

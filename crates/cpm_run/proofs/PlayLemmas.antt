@@ -24,8 +24,8 @@ use Rattle.cpm_config.specs.declared.config.SessionConfig.{SessionConfig}
 use Rattle.cpm_play.specs.declared.error.PlayError.TheVariants.{ForkRefused}
 use Rattle.cpm_slots.specs.declared.event.ForkError.{ForkError}
 use Rattle.cpm_slots.specs.declared.event.ForkError.TheVariants as fork
-use Rattle.cpm_run.specs.Playing.{AllEnded, ArePressable, HasEnded, HasPlayer, HasPlayerBy, HasSlot, HavePlayers, IsForkFor, IsForkPressable, IsForkRefused, IsForksRefusal, IsSessionsRefusal, IsPressableBy}
-use Rattle.cpm_run.specs.Run.{HasForkRoom, IsFirstRefused, IsForkAt, IsNamedRefusal, IsShortFor, IsShownAs, fork_of, fork_pages_in, forks_in, name_at, pages_by}
+use Rattle.cpm_run.specs.Playing.{AllEnded, ArePressable, HasEnded, HasPlayer, HasPlayerBy, HasSlot, HavePlayers, IsForkFor, IsForkPressable, IsForkRefused, IsForksRefusal, IsSessionsRefusal, IsPressableBy, IsRefusedAmong, IsRefusedByName}
+use Rattle.cpm_run.specs.Run.{HasForkRoom, IsForkAt, IsShortFor, IsShownAs, fork_of, fork_pages_in, forks_in, name_at, pages_by}
 use Rattle.cpm_run.specs.declared.error.RunError.{RunError}
 use Rattle.cpm_run.specs.declared.error.RunError.TheVariants as refusal
 use Rattle.cpm_run.specs.Settled.{SettledSession, opening_at, opening_of, start_by, starts_of}
@@ -260,11 +260,11 @@ fork_at slots starts place (Forks parent at) i fork there h = record { parent = 
 
 -- where forks are refused, once all that are opened are open
 pub fork_refused : (config : Config) (start now : Host) (is : List SettledSession) (ps : List Player) (e : RunError) → HavePlayers now.slots is ps
-    → ((whole : List StartInput) (fault : OpenError) (place : ℕ) → IsForkAt whole place → IsShortFor now (forks_in whole) (fork_pages_in whole) fault → IsFirstRefused whole start 0 (starts_of is) fault place)
+    → ((whole : List StartInput) (fault : OpenError) (place : ℕ) → IsForkAt whole place → IsShortFor now (forks_in whole) (fork_pages_in whole) fault → IsRefusedAmong whole start 0 (starts_of is) fault place)
     → IsForksRefusal config now ps e → IsSessionsRefusal config start (starts_of is) e
 fork_refused config start now is ps e all short r = by_error e r
   where
-    named : (fault : OpenError) (shown : List ℕ) → IsForkRefused config.sessions.items now ps fault shown → IsNamedRefusal config.sessions.items start (starts_of is) fault shown
+    named : (fault : OpenError) (shown : List ℕ) → IsForkRefused config.sessions.items now ps fault shown → IsRefusedByName config.sessions.items start (starts_of is) fault shown
     named fault shown r =
         let s = session_at now.slots is ps r.place (Waiting r.fork) all r.there in
         let room = subst (λ (n : ℕ). IsShortFor now (forks_in (starts_of is)) n fault) (pages_are now.slots is ps all)

@@ -22,10 +22,10 @@ use Rattle.cpm_play.specs.declared.player.Fork.{Fork}
 use Rattle.cpm_play.specs.declared.player.Player.{Player}
 use Rattle.cpm_play.specs.declared.player.Player.TheVariants.{Playing, Waiting}
 use Rattle.cpm_play.specs.declared.scripted_slot.ScriptedSlot.{ScriptedSlot}
-use Rattle.cpm_run.specs.Playing.{HasPlayer, HasPlayerBy, HasSlot, HavePlayers, IsForkFor, IsOpeningRefusal, IsPrepared, IsPreparedBy, IsSlotRefusal, IsStartRefusal, OpensSlot}
+use Rattle.cpm_run.specs.Playing.{HasPlayer, HasPlayerBy, HasSlot, HavePlayers, IsForkFor, IsOpeningRefusal, IsPrepared, IsPreparedBy, IsRefusedAmong, IsSlotRefusal, IsStartRefusal, OpensSlot}
 use Rattle.cpm_run.specs.declared.error.RunError.{RunError}
 use Rattle.cpm_run.specs.declared.error.RunError.TheVariants as refusal
-use Rattle.cpm_run.specs.Run.{AllAccepted, IsFirstRefused, IsOpening, IsShownAs, name_at}
+use Rattle.cpm_run.specs.Run.{AllAccepted, IsOpening, IsShownAs, name_at}
 use Rattle.cpm_store.specs.Files.{StoreName}
 use Rattle.cpm_run.specs.Settled.{SettledSession, settled_view, starts_of}
 
@@ -118,7 +118,7 @@ pub record IsPreparedTo (start now : Host) (all rest : List SettledSession) (ps 
   pub numbered : AllNumbered now.openings (ids_of ps)
   pub differ : AllDiffer ps
   pub system : now.system ≡ start.system
-  pub refused : (whole : List StartInput) (fault : OpenError) (place : ℕ) → IsFirstRefused whole now (length done) (starts_of rest) fault place → IsFirstRefused whole start 0 (starts_of all) fault place
+  pub refused : (whole : List StartInput) (fault : OpenError) (place : ℕ) → IsRefusedAmong whole now (length done) (starts_of rest) fault place → IsRefusedAmong whole start 0 (starts_of all) fault place
   pub accepted : (whole : List StartInput) → AllAccepted whole now (starts_of rest) → AllAccepted whole start (starts_of all)
 
 one_longer : (done : List SettledSession) (i : SettledSession) → length (done ++ i ∷ []) ≡ length done + 1
@@ -159,7 +159,7 @@ opened_more start now new all rest session cpu quota drives keys before steps id
       numbered = subst (λ (xs : List ℕ). AllNumbered (n + 1) xs) (sym ids) (numbered_more n (ids_of ps) h.numbered);
       differ = subst AreDifferent (sym ids) (differ_more n (ids_of ps) h.numbered h.differ);
       system = h.system;
-      refused = λ whole fault place f. h.refused whole fault place (o, is, inr (open_slot.accepted, subst (λ (n : ℕ). IsFirstRefused whole next n (starts_of rest) fault place) (one_longer h.done i) f));
+      refused = λ whole fault place f. h.refused whole fault place (o, is, inr (open_slot.accepted, subst (λ (n : ℕ). IsRefusedAmong whole next n (starts_of rest) fault place) (one_longer h.done i) f));
       accepted = λ whole more. h.accepted whole (o, is, open_slot.accepted, more);
     } in
     subst (λ (host : Host). IsPreparedTo start host all rest (ps ++ Playing p ∷ [])) (sym open_slot.host) made
@@ -179,7 +179,7 @@ forked_more start now new all rest session parent at keys before steps idle typi
       numbered = subst (λ (xs : List ℕ). AllNumbered now.openings xs) (sym ids) h.numbered;
       differ = subst AreDifferent (sym ids) h.differ;
       system = h.system;
-      refused = λ whole fault place f. h.refused whole fault place (subst (λ (n : ℕ). IsFirstRefused whole now n (starts_of rest) fault place) (one_longer h.done i) f);
+      refused = λ whole fault place f. h.refused whole fault place (subst (λ (n : ℕ). IsRefusedAmong whole now n (starts_of rest) fault place) (one_longer h.done i) f);
       accepted = h.accepted;
     } in
     subst (λ (host : Host). IsPreparedTo start host all rest (ps ++ Waiting fork ∷ [])) (sym same) made

@@ -1,12 +1,11 @@
--- The calls that a run has made of a store, and how it is refused.
+-- How a run is refused.
 use Rattle.std.proofs.Common.{◌≡◌, ◌∙◌, ◌≤◌, ◌<◌, ◌+◌, ⊎_elim, inl, inr, ap, refl, subst, sym, arith, None, Some, Option, ℕ, zero, suc, List, [], ◌∷◌, ◌++◌, length, map, get_or, slice_get, Bool, true, false}
 use Rattle.std.specs.Prelude.{IfSome, if◌then◌else◌, nat_lt, ◌||◌, chars, option_map}
 use Rattle.std.proofs.lemmas.Bool.Decides.{nat_tests}
 use Rattle.std.proofs.lemmas.Option.{slice_get-get_or, slice_get-map}
-use Rattle.cpm_batch.specs.Inputs.{AreInputs, Forks, ImageIn, IsReadRefusal, Need, ForkedScriptIn, Opens, RecordingIn, ScriptIn, SessionInput, StartInput, needs_of}
-use Rattle.cpm_batch.specs.Reads.{AreRead, StopsAtFault, StopsAtInput, StopsAtSession, StopsReading}
+use Rattle.cpm_batch.specs.Inputs.{Forks, IsReadRefusal, Opens, SessionInput, StartInput}
+use Rattle.cpm_batch.specs.Reads.{StopsReading}
 use Rattle.cpm_batch.specs.declared.error.ReadError.{ReadError}
-use Rattle.cpm_batch.specs.declared.source.Replay.{Replay}
 use Rattle.cpm_batch.specs.declared.error.ReadError.TheVariants as reading
 use Rattle.cpm_command_line.specs.Shown.{shown_of}
 use Rattle.cpm_config.specs.declared.config.Config.{Config}
@@ -19,15 +18,14 @@ use Rattle.cpm_machine.specs.declared.opening.OpenError.{OpenError}
 use Rattle.cpm_machine.specs.declared.opening.OpenError.TheVariants as opening
 use Rattle.cpm_machine.specs.declared.opening.Opening.{Opening}
 use Rattle.cpm_slots.specs.Host.{Host, lacks_slot, new_host, quotas_of, refusal_of, room_fault, with_added, with_opened}
-use Rattle.cpm_store.specs.Files.{StoreFiles, WhereTold}
-use Rattle.cpm_store.specs.Log.{StoreAccess, LogLeadsBy, StopsAfter}
+use Rattle.cpm_store.specs.Files.{WhereTold}
+use Rattle.cpm_store.specs.Log.{AreNoWrites, LogLeadsBy, StopsAfter}
 use Rattle.cpm_store.specs.Writes.{NamedBytes, StopsAt, named_output}
 use Rattle.cpm_store.specs.declared.writes.Output.{Output}
-use Rattle.cpm_store.proofs.LogLemmas.{ran_then}
-use Rattle.cpm_run.specs.Playing.{ArePressable, IsPressableBy, IsSessionsRefusal}
+use Rattle.cpm_run.specs.Playing.{ArePressable, IsPressableBy, IsRefusedAmong, IsRefusedByName, IsSessionsRefusal}
 use Rattle.cpm_run.specs.Refusals.{run_error_of_reading}
-use Rattle.cpm_run.specs.Refusing.{FailsAtWrite, IsOutputAt, IsPlaceRefusal, IsRefusedAfterReading, IsRunRefusal, IsSettleRefusal, IsStoppedRun, IsWriteRefusal, LeavesAll, StopsAfterReading, StopsWriting}
-use Rattle.cpm_run.specs.Run.{AllAccepted, AreParts, GivesItsKeysAgain, IsFirstRefused, IsNamedRefusal, IsOpening, RunParts, config_fault, outputs_by, starts_read}
+use Rattle.cpm_run.specs.Refusing.{FailsAtInput, IsOutputAt, IsPlaceRefusal, IsRunRefusal, IsRunnable, IsSettleRefusal, IsWriteRefusal, StopsAfterReading, StopsWriting}
+use Rattle.cpm_run.specs.Run.{AllAccepted, AreParts, GivesItsKeysAgain, HasReadInputs, HasWrittenOutputs, IsOpening, RunParts, StoreActs, config_fault, outputs_by, starts_read}
 use Rattle.cpm_run.specs.Settled.{AreSettled, AreUntouched, SettledSession, Streams, TypedSession, starts_of}
 use Rattle.cpm_run.specs.Settling.{AreBelow80h, AreSettledBy, AreSound}
 use Rattle.cpm_run.specs.declared.error.RunError.{RunError}
@@ -91,7 +89,7 @@ numbered h o none low =
     by_test : (n : ℕ) → lacks_slot h ≡ false → h.openings + 1 ≤ 18446744073709551615
     by_test n has = grind (arith, nat_tests)
 
-never_both : (all starts : List StartInput) (h : Host) (from : ℕ) (fault : OpenError) (place : ℕ) → h.openings ≤ 18446744073709551615 → AllAccepted all h starts → IsFirstRefused all h from starts fault place → ⊥
+never_both : (all starts : List StartInput) (h : Host) (from : ℕ) (fault : OpenError) (place : ℕ) → h.openings ≤ 18446744073709551615 → AllAccepted all h starts → IsRefusedAmong all h from starts fault place → ⊥
 never_both all [] h from opening.NoSlot place low room short =
     ⊎_elim (λ slots. let s = room.slots in omega (arith, s, slots)) (λ numbers. by_forks _ room.numbers numbers) short.1
   where
@@ -104,110 +102,71 @@ never_both all (Opens cpu quota drives ∷ starts) h from fault place low was is
     let same : refusal_of h was.0 ≡ refusal_of h isn.0 = refusal_is h cpu quota drives was.0 was.1 ∙ sym (refusal_is h cpu quota drives isn.0 isn.1) in
     let next : with_opened h isn.0 ≡ with_opened h was.0 = host_is h cpu quota drives isn.0 isn.1 ∙ sym (host_is h cpu quota drives was.0 was.1) in
     ⊎_elim (λ refused. let bad : None ≡ Some fault = sym was.2 ∙ (same ∙ refused.0) in cc)
-    (λ later. never_both all starts (with_opened h was.0) (from + 1) fault place (numbered h was.0 was.2 low) was.3 (subst (λ (x : Host). IsFirstRefused all x (from + 1) starts fault place) next later.1)) isn.2
+    (λ later. never_both all starts (with_opened h was.0) (from + 1) fault place (numbered h was.0 was.2 low) was.3 (subst (λ (x : Host). IsRefusedAmong all x (from + 1) starts fault place) next later.1)) isn.2
 never_both all (Forks parent at ∷ starts) h from fault place low was isn = never_both all starts h (from + 1) fault place low was isn
 
 -- ---- refusals
 
--- what is needed could not be read, or is not what it should be
-pub reading_refused : (config : Config) (options : RunOptions) (io : Streams) (old new : Option StoreFiles) (e : ReadError) → config_fault config ≡ None → IsReadRefusal old config options.replays.now e → LeavesAll io old new
-    → IsRunRefusal config options io old new (run_error_of_reading e)
-reading_refused config options io old new (reading.File name) faultless h same = (faultless, ⊎_elim (λ m. absurd (cc)) (λ f. f) h, same)
-reading_refused config options io old new (reading.Image name count) faultless h same = (faultless, ⊎_elim (λ m. absurd (cc)) (λ f. f) h, same)
-reading_refused config options io old new (reading.Script name line fault) faultless h same = (faultless, ⊎_elim (λ m. absurd (cc)) (λ f. f) h, same)
-reading_refused config options io old new reading.OutOfMemory faultless h same = (faultless, inl same)
-
 -- no session of that name can be typed at
-pub place_refused : (config : Config) (options : RunOptions) (io : Streams) (old new : Option StoreFiles) (e : RunError) → config_fault config ≡ None → IsPlaceRefusal config options e → LeavesAll io old new
-    → IsRunRefusal config options io old new e
-place_refused config options io old new (refusal.NoSession shown) faultless h same = (faultless, h, same)
-place_refused config options io old new (refusal.NotOpened shown) faultless h same = (faultless, h, same)
-place_refused config options io old new _ faultless h same = absurd h
+pub place_refused : {S : Type 0} (acts : StoreActs S) (config : Config) (options : RunOptions) (io : Streams) (s : S) (e : RunError) → config_fault config ≡ None → IsPlaceRefusal config options e
+    → AreUntouched io → IsRunRefusal acts config options io s s e
+place_refused acts config options io s (refusal.NoSession shown) faultless h untouched = (faultless, h, record { same = refl; untouched = untouched })
+place_refused acts config options io s (refusal.NotOpened shown) faultless h untouched = (faultless, h, record { same = refl; untouched = untouched })
+place_refused acts config options io s _ faultless h untouched = absurd h
 
-pub place_stopped : {S : Type 0} → (does : S → StoreAccess → S → Type 0) (config : Config) (options : RunOptions) (io : Streams) (s : S) (e : RunError) → IsPlaceRefusal config options e
-    → AreUntouched io → IsStoppedRun does config options io s s e
-place_stopped does config options io s (refusal.NoSession shown) h untouched = (refl, untouched)
-place_stopped does config options io s (refusal.NotOpened shown) h untouched = (refl, untouched)
-place_stopped does config options io s _ h untouched = absurd h
+-- what is needed could not be read, or is not what it should be
+module _ {S : Type 0} (acts : StoreActs S) (config : Config) (options : RunOptions) (io : Streams) (old new : S) where
+  fails : (e : ReadError) → (e ≡ reading.OutOfMemory → ⊥) → IsReadRefusal (acts.files old) config options.replays.now e → acts.files new ≡ acts.files old
+      → LogLeadsBy acts.does (StopsReading config options.replays.now e) old new → AreUntouched io → FailsAtInput acts config options io old new e
+  fails e other held same calls untouched = record {
+    held = ⊎_elim (λ m. absurd (other m)) (λ f. f) held;
+    same = same;
+    calls = (calls.0, ⊎_elim (λ m. absurd (other m.0)) (λ f. f) calls.1, calls.2);
+    untouched = untouched;
+  }
+
+  pub reading_refused : (e : ReadError) → IsRunnable config options → IsReadRefusal (acts.files old) config options.replays.now e → acts.files new ≡ acts.files old
+      → LogLeadsBy acts.does (StopsReading config options.replays.now e) old new → LogLeadsBy acts.does AreNoWrites old new → AreUntouched io
+      → IsRunRefusal acts config options io old new (run_error_of_reading e)
+  reading_refused (reading.File name) runnable held same calls unwritten untouched = (runnable, fails (reading.File name) (λ m. cc) held same calls untouched)
+  reading_refused (reading.Image name count) runnable held same calls unwritten untouched = (runnable, fails (reading.Image name count) (λ m. cc) held same calls untouched)
+  reading_refused (reading.Script name line fault) runnable held same calls unwritten untouched = (runnable, fails (reading.Script name line fault) (λ m. cc) held same calls untouched)
+  reading_refused reading.OutOfMemory runnable held same calls unwritten untouched = (runnable, inl (record { same = same; calls = unwritten; untouched = untouched }))
 
 -- settling is refused
-pub settle_refused : (config : Config) (options : RunOptions) (io : Streams) (system : Disk) (inputs : List SessionInput) (old new : Option StoreFiles) (e : RunError) → config_fault config ≡ None
-    → AreInputs old config options.replays.now system inputs → new ≡ old → IsSettleRefusal config options io system inputs e → IsRunRefusal config options io old new e
-settle_refused config options io system inputs old new e faultless read same r = by_error e r
+pub settle_refused : {S : Type 0} (acts : StoreActs S) (config : Config) (options : RunOptions) (io : Streams) (system : Disk) (inputs : List SessionInput) (old new : S) (e : RunError)
+    → IsRunnable config options → HasReadInputs acts config options system inputs old new → IsSettleRefusal config options io system inputs e → IsRunRefusal acts config options io old new e
+settle_refused {S} acts config options io system inputs old new e runnable read r = by_error e r
   where
-    after : (e : RunError) → IsSettleRefusal config options io system inputs e → IsRefusedAfterReading config options io old e
-    after e r = record { faultless = faultless; system = system; inputs = inputs; read = read; refused = r }
+    after : (e : RunError) → IsSettleRefusal config options io system inputs e → StopsAfterReading acts config options io old new e
+    after e r = record { system = system; inputs = inputs; read = read; refused = r }
 
-    by_error : (e : RunError) → IsSettleRefusal config options io system inputs e → IsRunRefusal config options io old new e
-    by_error (refusal.SessionRefused name fault) r = (after (refusal.SessionRefused name fault) r, same)
-    by_error (refusal.FramesExceeded name quotas frames) r = (after (refusal.FramesExceeded name quotas frames) r, same)
-    by_error (refusal.InputUnreadable reason) r = (after (refusal.InputUnreadable reason) r, same)
-    by_error (refusal.OutputUnwritable reason) r = (after (refusal.OutputUnwritable reason) r, same)
-    by_error (refusal.ListUnwritable reason) r = (after (refusal.ListUnwritable reason) r, same)
-    by_error (refusal.RecordUnwritable reason) r = (after (refusal.RecordUnwritable reason) r, same)
-    by_error (refusal.TooManyKeys shown) r = (after (refusal.TooManyKeys shown) r, same)
-    by_error refusal.OutOfMemory r = (faultless, inr (inl (after refusal.OutOfMemory r, same)))
+    by_error : (e : RunError) → IsSettleRefusal config options io system inputs e → IsRunRefusal acts config options io old new e
+    by_error (refusal.SessionRefused name fault) r = (runnable, after (refusal.SessionRefused name fault) r)
+    by_error (refusal.FramesExceeded name quotas frames) r = (runnable, after (refusal.FramesExceeded name quotas frames) r)
+    by_error (refusal.InputUnreadable reason) r = (runnable, after (refusal.InputUnreadable reason) r)
+    by_error (refusal.OutputUnwritable reason) r = (runnable, after (refusal.OutputUnwritable reason) r)
+    by_error (refusal.ListUnwritable reason) r = (runnable, after (refusal.ListUnwritable reason) r)
+    by_error (refusal.RecordUnwritable reason) r = (runnable, after (refusal.RecordUnwritable reason) r)
+    by_error (refusal.TooManyKeys shown) r = (runnable, after (refusal.TooManyKeys shown) r)
+    by_error refusal.OutOfMemory r = (runnable, inr (inl (after refusal.OutOfMemory r)))
     by_error _ r = absurd r
 
-pub settle_stopped : {S : Type 0} → (does : S → StoreAccess → S → Type 0) (config : Config) (options : RunOptions) (io : Streams) (system : Disk) (inputs : List SessionInput) (old new : S) (e : RunError)
-    → config_fault config ≡ None → LogLeadsBy does (AreRead config options.replays.now system inputs) old new → IsSettleRefusal config options io system inputs e
-    → IsStoppedRun does config options io old new e
-settle_stopped {S} does config options io system inputs old new e faultless calls r = by_error e r
-  where
-    after : (e : RunError) → IsSettleRefusal config options io system inputs e → StopsAfterReading does config options io old new e
-    after e r = record { faultless = faultless; system = system; inputs = inputs; calls = calls; refused = r }
-
-    by_error : (e : RunError) → IsSettleRefusal config options io system inputs e → IsStoppedRun does config options io old new e
-    by_error (refusal.SessionRefused name fault) r = after (refusal.SessionRefused name fault) r
-    by_error (refusal.FramesExceeded name quotas frames) r = after (refusal.FramesExceeded name quotas frames) r
-    by_error (refusal.InputUnreadable reason) r = after (refusal.InputUnreadable reason) r
-    by_error (refusal.OutputUnwritable reason) r = after (refusal.OutputUnwritable reason) r
-    by_error (refusal.ListUnwritable reason) r = after (refusal.ListUnwritable reason) r
-    by_error (refusal.RecordUnwritable reason) r = after (refusal.RecordUnwritable reason) r
-    by_error (refusal.TooManyKeys shown) r = after (refusal.TooManyKeys shown) r
-    by_error refusal.OutOfMemory r = inr (inl (after refusal.OutOfMemory r))
-    by_error _ r = absurd r
-
--- playing is refused: that is the same, since what was accepted isn't refused
+-- playing is refused: only for memory, since all were accepted
 pub play_settled : (config : Config) (options : RunOptions) (io : Streams) (system : Disk) (inputs : List SessionInput) (settled : List SettledSession) (e : RunError)
     → AreSettledBy config options io system inputs settled → IsSessionsRefusal config (new_host system config.frames) (starts_of settled) e → IsSettleRefusal config options io system inputs e
 play_settled config options io system inputs settled e h r =
     by_error e (subst (λ (bs : List StartInput). IsSessionsRefusal config (new_host system config.frames) bs e)
     (settled_starts system options.stops_idle h.typed config.sessions.items [] inputs settled h.keys) r)
   where
-    untouched : (fault : OpenError) (shown : List ℕ) → IsNamedRefusal config.sessions.items (new_host system config.frames) (starts_read inputs) fault shown → AreUntouched io
-    untouched fault shown isn =
-        ⊎_elim (λ was. absurd (never_both (starts_read inputs) (starts_read inputs) (new_host system config.frames) 0 fault isn.place (omega arith) was isn.first)) (λ same. same) h.judged
+    never : (fault : OpenError) (shown : List ℕ) → IsRefusedByName config.sessions.items (new_host system config.frames) (starts_read inputs) fault shown → ⊥
+    never fault shown isn = never_both (starts_read inputs) (starts_read inputs) (new_host system config.frames) 0 fault isn.place (omega arith) h.accepted isn.first
 
     by_error : (e : RunError) → IsSessionsRefusal config (new_host system config.frames) (starts_read inputs) e → IsSettleRefusal config options io system inputs e
-    by_error (refusal.SessionRefused name fault) r = (r.0, r.1, untouched fault name.bytes r.1)
-    by_error (refusal.FramesExceeded name quotas frames) r = (r.0, r.1, r.2, untouched opening.NoFrames name.bytes r.2)
-    by_error refusal.OutOfMemory r = inr (inr (record { judged = h.judged; typed = h.typed; heard = h.heard }))
+    by_error (refusal.SessionRefused name fault) r = absurd (never fault name.bytes r.1)
+    by_error (refusal.FramesExceeded name quotas frames) r = absurd (never opening.NoFrames name.bytes r.2)
+    by_error refusal.OutOfMemory r = inr (inr (record { accepted = h.accepted; typed = h.typed; heard = h.heard }))
     by_error _ r = absurd r
-
--- want of memory is no fault of a file
-none_for_memory : (ns : List Need) (log : List StoreAccess) → StopsAtFault ns reading.OutOfMemory log → ⊥
-none_for_memory [] log h = h
-none_for_memory (ImageIn name ∷ ns) log h = ⊎_elim (λ f. f) (λ t. none_for_memory ns t.rest t.goes_on) h
-none_for_memory (ScriptIn name ∷ ns) log h = ⊎_elim (λ f. f) (λ t. none_for_memory ns t.rest t.goes_on) h
-none_for_memory (ForkedScriptIn name at before ∷ ns) log h = ⊎_elim (λ f. f) (λ t. none_for_memory ns t.rest t.goes_on) h
-none_for_memory (RecordingIn name at ∷ ns) log h = ⊎_elim (λ f. f) (λ t. none_for_memory ns t.rest t.goes_on) h
-
-none_in_sessions : (replays : List Replay) (before : List SessionInput) (ss : List SessionConfig) (log : List StoreAccess) → StopsAtSession replays before ss reading.OutOfMemory log → ⊥
-none_in_sessions replays before [] log h = h
-none_in_sessions replays before (s ∷ ss) log h =
-    ⊎_elim (λ f. none_for_memory (needs_of replays before s) log f) (λ t. none_in_sessions replays (before ++ t.0 ∷ []) ss t.2.rest t.2.goes_on) h
-
-none_in_input : (config : Config) (replays : List Replay) (log : List StoreAccess) → StopsAtInput config replays reading.OutOfMemory log → ⊥
-none_in_input config replays log h = ⊎_elim (λ f. f) (λ t. none_in_sessions replays [] config.sessions.items t.rest t.goes_on) h
-
-module _ {S : Type 0} (does : S → StoreAccess → S → Type 0) (config : Config) (options : RunOptions) (io : Streams) (start end : S) where
-  -- where what is needed could not be read, or is not what it should be
-  pub reading_stopped : (e : ReadError) → AreUntouched io → LogLeadsBy does (StopsReading config options.replays.now e) start end → IsStoppedRun does config options io start end (run_error_of_reading e)
-  reading_stopped (reading.File name) untouched h = ((h.0, ⊎_elim (λ m. let is = m.0 in absurd (cc)) (λ f. f) h.1, h.2), untouched)
-  reading_stopped (reading.Image name count) untouched h = ((h.0, ⊎_elim (λ m. let is = m.0 in absurd (cc)) (λ f. f) h.1, h.2), untouched)
-  reading_stopped (reading.Script name line fault) untouched h = ((h.0, ⊎_elim (λ m. let is = m.0 in absurd (cc)) (λ f. f) h.1, h.2), untouched)
-  reading_stopped reading.OutOfMemory untouched h = inl ((h.0, ⊎_elim (λ m. m.1) (λ f. absurd (none_in_input config options.replays.now h.0 f)) h.1, h.2), untouched)
 
 -- ---- what was played
 
@@ -216,56 +175,40 @@ abbrev pub parts_by : (config : Config) (options : RunOptions) (io : Streams) (s
 parts_by config options io system inputs settled h = record { system = system; inputs = inputs; typed = h.typed; settled = settled }
 
 pub are_parts : (config : Config) (options : RunOptions) (io : Streams) (system : Disk) (inputs : List SessionInput) (settled : List SettledSession) (h : AreSettledBy config options io system inputs settled)
-    → AllAccepted (starts_of settled) (new_host system config.frames) (starts_of settled) → AreParts config options io (parts_by config options io system inputs settled h)
-are_parts config options io system inputs settled h accepted = record {
-  accepted = subst (λ (bs : List StartInput). AllAccepted bs (new_host system config.frames) bs) (settled_starts system options.stops_idle h.typed config.sessions.items [] inputs settled h.keys) accepted;
+    → AreParts config options io (parts_by config options io system inputs settled h)
+are_parts config options io system inputs settled h = record {
+  accepted = h.accepted;
   heard = h.heard;
   keys = h.keys;
 }
 
+-- all that is written, by the parts of the run
+pub written_as : {S : Type 0} (acts : StoreActs S) (ps qs : List NamedBytes) (old new : S) → ps ≡ qs → HasWrittenOutputs acts ps old new → HasWrittenOutputs acts qs old new
+written_as acts ps qs old new are h = subst (λ (rs : List NamedBytes). HasWrittenOutputs acts rs old new) are h
+
 -- where a write is refused
-pub write_refused : (config : Config) (options : RunOptions) (io : Streams) (parts : RunParts) (old new : Option StoreFiles) (ps : List NamedBytes) (place : ℕ) (e : RunError) → config_fault config ≡ None
-    → AreInputs old config options.replays.now parts.system parts.inputs → AreParts config options io parts → ps ≡ outputs_by options parts → IsWriteRefusal ps place e → WhereTold old new (StopsAt ps place) → IsRunRefusal config options io old new e
-write_refused config options io parts old new ps place e faultless read played are why stopped = by_error e why
+pub write_refused : {S : Type 0} (acts : StoreActs S) (config : Config) (options : RunOptions) (io : Streams) (parts : RunParts) (old between new : S) (ps : List NamedBytes) (place : ℕ) (e : RunError)
+    → IsRunnable config options → HasReadInputs acts config options parts.system parts.inputs old between → AreParts config options io parts → ps ≡ outputs_by options parts → IsWriteRefusal ps place e
+    → WhereTold (acts.files between) (acts.files new) (StopsAt ps place) → LogLeadsBy acts.does (StopsAfter ps place) between new → IsRunRefusal acts config options io old new e
+write_refused {S} acts config options io parts old between new ps place e runnable read played are why hold calls = by_error e why
   where
-    stops : (e : RunError) → IsWriteRefusal ps place e → StopsWriting config options io old new e
+    stops : (e : RunError) → IsWriteRefusal ps place e → StopsWriting acts config options io old new e
     stops e why = record {
       parts = parts;
+      between = between;
       read = read;
-      faultless = faultless;
       played = played;
       place = place;
-      stopped = subst (λ (qs : List NamedBytes). WhereTold old new (StopsAt qs place)) are stopped;
+      hold = subst (λ (qs : List NamedBytes). WhereTold (acts.files between) (acts.files new) (StopsAt qs place)) are hold;
+      calls = subst (λ (qs : List NamedBytes). LogLeadsBy acts.does (StopsAfter qs place) between new) are calls;
       why = subst (λ (qs : List NamedBytes). IsWriteRefusal qs place e) are why;
     }
 
-    by_error : (e : RunError) → IsWriteRefusal ps place e → IsRunRefusal config options io old new e
-    by_error (refusal.WriteFault name) why = stops (refusal.WriteFault name) why
-    by_error refusal.OutOfMemory why = (faultless, inr (inr (stops refusal.OutOfMemory why)))
+    by_error : (e : RunError) → IsWriteRefusal ps place e → IsRunRefusal acts config options io old new e
+    by_error (refusal.WriteFault name) why = (runnable, stops (refusal.WriteFault name) why)
+    by_error refusal.OutOfMemory why = (runnable, inr (inr (stops refusal.OutOfMemory why)))
     by_error _ why = absurd why
 
-pub write_stopped : {S : Type 0} → (does : S → StoreAccess → S → Type 0) (config : Config) (options : RunOptions) (io : Streams) (parts : RunParts) (start between end : S) (ps : List NamedBytes) (place : ℕ) (e : RunError)
-    → config_fault config ≡ None → AreParts config options io parts → ps ≡ outputs_by options parts → IsWriteRefusal ps place e → LogLeadsBy does (AreRead config options.replays.now parts.system parts.inputs) start between
-    → LogLeadsBy does (StopsAfter ps place) between end → IsStoppedRun does config options io start end e
-write_stopped {S} does config options io parts start between end ps place e faultless played are why reads writes = by_error e why
-  where
-    fails : (e : RunError) → IsWriteRefusal ps place e → FailsAtWrite does config options io start end e
-    fails e why = record {
-      parts = parts;
-      faultless = faultless;
-      played = played;
-      place = place;
-      calls = ran_then does (AreRead config options.replays.now parts.system parts.inputs) (StopsAfter (outputs_by options parts) place) start between end reads
-          (subst (λ (qs : List NamedBytes). LogLeadsBy does (StopsAfter qs place) between end) are writes);
-      why = subst (λ (qs : List NamedBytes). IsWriteRefusal qs place e) are why;
-    }
-
-    by_error : (e : RunError) → IsWriteRefusal ps place e → IsStoppedRun does config options io start end e
-    by_error (refusal.WriteFault name) why = fails (refusal.WriteFault name) why
-    by_error refusal.OutOfMemory why = inr (inr (fails refusal.OutOfMemory why))
-    by_error _ why = absurd why
-
--- all that is written, over the system drive of the run
 -- the output at a place, as it is named
 pub output_at : (outputs : List Output) (place : ℕ) (o : Output) (shown : List ℕ) → place < length outputs → o ≡ get_or outputs place o → shown ≡ shown_of (chars o.name.now) → IsOutputAt (map named_output outputs) place shown
 output_at outputs place o shown within is told = record {

@@ -31,8 +31,8 @@ use Rattle.cpm_run.specs.Playing.{IsForkPressable, IsPressableBy}
 use Rattle.cpm_run.specs.Run.{GivesItsKeysAgain, starts_read}
 use Rattle.cpm_run.specs.Settled.{AreSettled, HasPlayedKeys, IsSettled, SessionPart, SettledSession, TypedSession}
 use Rattle.cpm_run.specs.Settled.{before_in, forked_at, keys_if_settled, opened_by, opening_at, opening_of, part_of, said_at, settled_steps, settled_view, start_by, starts_of, steps_at, typing_at}
-use Rattle.cpm_run.specs.Settling.{AreBelow80h, AreCounts, AreFitInputs, AreOpenable, AreReady, AreSound, AreSoundKeys, HasParent, IsFitInput, IsFitPart, IsOpenable}
-use Rattle.cpm_run.specs.Settling.{IsPartReady, IsPartRefusal, IsSessionReady, IsSettlingRefusal, IsSoundAfter}
+use Rattle.cpm_run.specs.Settling.{AreBelow80h, AreCounts, AreFitInputs, AreOpenable, AreSound, AreSoundKeys, HasParent, IsFitInput, IsFitPart, IsOpenable}
+use Rattle.cpm_run.specs.Settling.{IsPartRefusal, IsSettlingRefusal, IsSoundAfter}
 use Rattle.cpm_run.specs.declared.settled.SettledInput.{SettledInput}
 use Rattle.cpm_run.specs.Refusing.{IsLimited}
 use Rattle.cpm_run.specs.declared.error.RunError.{RunError}
@@ -178,52 +178,6 @@ written_part system p cues now read own first last keys fresh fit same timed som
     ap timed_keys said ∙ ap (λ (cs : List Cue). timed_keys (map cue_text cs)) (sym same) ∙ sym timed ∙ ap (λ (o : Option (Vec Key Global)). option_map (λ (v : Vec Key Global). v.items) o) some in
     written_sound system p own.items keys fresh fit is (joined ∙ ap (λ (ks : List Key). ks ++ last) before ∙ ap (λ (ks : List Key). p.before ++ ks) are) (omega (arith, few, a, b))
     (subst (λ (o : Option (Vec Key Global)). IfSome o (λ (v : Vec Key Global). AreCounts v.items)) some counts)
-
--- ---- keys that aren't taken as they are written
-
-timed_by : (cues now : List Cue) (read : Option (Vec Key Global)) (own : Vec Key Global) → now ≡ cues → option_map (λ (v : Vec Key Global). v.items) read ≡ timed_keys (map cue_text now) → read ≡ Some own
-    → timed_keys (map cue_text cues) ≡ Some own.items
-timed_by cues now read own same timed some =
-    ap (λ (cs : List Cue). timed_keys (map cue_text cs)) (sym same) ∙ sym timed ∙ ap (λ (o : Option (Vec Key Global)). option_map (λ (v : Vec Key Global). v.items) o) some
-
--- there are too many of them, sessions stop idle, or not all have counts
-pub many_openable : (stops_idle : Bool) (before : List Key) (cues now : List Cue) (read : Option (Vec Key Global)) (own : Vec Key Global) (first last : ℕ) (few : Bool) (b : StartInput)
-    → IsPartReady stops_idle (length before) (map cue_text cues) (Some b) → now ≡ cues → option_map (λ (v : Vec Key Global). v.items) read ≡ timed_keys (map cue_text now) → read ≡ Some own → first ≡ length before
-    → last ≡ length own.items → few ≡ nat_le (first + last) most_keys → few ≡ false → IsOpenable b
-many_openable stops_idle before cues now read own first last few b ready same timed some as_before are test over =
-    ⊎_elim (λ written.
-    let said = timed_said (map cue_text cues) own.items (timed_by cues now read own same timed some) in
-    let n = ap cued_key_count said in
-    let m = counted-keys own.items in
-    let within = written.2 in
-    let all : first + last ≤ most_keys = omega (arith, n, m, as_before, are, within) in
-    let is : nat_le (first + last) most_keys ≡ false = sym test ∙ over in
-    absurd (let no : ⊥ = grind (arith, nat_tests) in no))
-    (λ openable. openable) ready
-
-pub idle_openable : (stops_idle : Bool) (before : ℕ) (said : List CueText) (b : StartInput) → IsPartReady stops_idle before said (Some b) → stops_idle ≡ true → IsOpenable b
-idle_openable stops_idle before said b ready idle =
-    ⊎_elim (λ written. let off = written.0 in absurd (let no : ⊥ = cc in no)) (λ openable. openable) ready
-
-pub waiting_openable : (stops_idle : Bool) (before : ℕ) (cues now : List Cue) (read : Option (Vec Key Global)) (b : StartInput) → IsPartReady stops_idle before (map cue_text cues) (Some b) → now ≡ cues
-    → option_map (λ (v : Vec Key Global). v.items) read ≡ timed_keys (map cue_text now) → ((own : Vec Key Global) → read ≡ Some own → ⊥) → IsOpenable b
-waiting_openable stops_idle before cues now None b ready same timed none =
-    ⊎_elim (λ written.
-    let some : IsSome (timed_keys (map cue_text cues)) = written.1 in
-    let is : timed_keys (map cue_text cues) ≡ None = ap (λ (cs : List Cue). timed_keys (map cue_text cs)) (sym same) ∙ sym timed in
-    let none : Option (List Key) = None in
-    let left : IsSome none = subst (λ (o : Option (List Key)). IsSome o) is some in
-    absurd (true≢false (sym left))) (λ openable. openable) ready
-waiting_openable stops_idle before cues now (Some own) b ready same timed none = absurd (none own refl)
-
--- whether there are few is known where keys are limited
-pub part_ready : (options : RunOptions) (typed : Option TypedSession) (place : ℕ) (said : List CueText) (p : SessionPart) (cues : List Cue) (opened : Option StartInput) (b : StartInput)
-    → p.said ≡ said_at typed place said → p.said ≡ map cue_text cues → opened ≡ Some b → (IsLimited options typed → length p.before + cued_key_count (map cue_text cues) ≤ most_keys)
-    → IsSessionReady options typed (said_at typed place said) opened → IsPartReady options.stops_idle (length p.before) (map cue_text cues) (Some b)
-part_ready options typed place said p cues opened b says same is few ready =
-    ⊎_elim (λ (plain : IsLimited options typed × (options.stops_idle ≡ false) × IsSome (timed_keys (said_at typed place said))).
-    inl (plain.1, subst (λ (cs : List CueText). IsSome (timed_keys cs)) (sym says ∙ same) plain.2, few plain.0))
-    (λ openable. inr (subst (λ (o : Option StartInput). IfSome o IsOpenable) is openable)) ready
 
 -- ---- a session after those before it
 
@@ -448,22 +402,14 @@ openable_there starts (Forks parent at) all own h =
     subst (λ (b : StartInput). IsOpened b → IsOpenable b) at_place (all parent h.0 (slice_get_within starts parent h.0 h.1)) in
     subst (λ (o : Option StartInput). IfSome o IsOpenable) (sym h.1) (good h.2)
 
-untyped : (typed : Option TypedSession) (place : ℕ) (said : List CueText) → typed ≡ None → IsSome (timed_keys said) → IsSome (timed_keys (said_at typed place said))
-untyped typed place said none timed = subst (λ (t : Option TypedSession). IsSome (timed_keys (said_at t place said))) (sym none) timed
-
-pub next_ready : (system : Disk) (options : RunOptions) (typed : Option TypedSession) (sessions : List SessionConfig) (all rest : List SessionInput) (i : SessionInput) (settled : List SettledSession) (place : ℕ)
-    → IsSettledTo system options.stops_idle typed sessions all (i ∷ rest) settled → AreReady options typed all
-    → IsSessionReady options typed (said_at typed place i.said) (opened_by (starts_of settled) i.start)
-next_ready system options typed sessions all rest i settled place h ready =
-    ⊎_elim (λ plain.
-    let timed = subst (λ (is : List SessionInput). All (λ (x : SessionInput). IsSome (timed_keys x.said)) is) (sym h.parts) plain.timed in
-    inl (plain.limited, plain.runs_on, untyped typed place i.said plain.limited.0 (all_there (λ (x : SessionInput). IsSome (timed_keys x.said)) h.done rest i timed)))
-    (λ openable.
+pub next_openable : (system : Disk) (stops_idle : Bool) (typed : Option TypedSession) (sessions : List SessionConfig) (all rest : List SessionInput) (i : SessionInput) (settled : List SettledSession)
+    → IsSettledTo system stops_idle typed sessions all (i ∷ rest) settled → AreOpenable (starts_read all) → IfSome (opened_by (starts_of settled) i.start) IsOpenable
+next_openable system stops_idle typed sessions all rest i settled h openable =
     let joined : starts_read all ≡ starts_read h.done ++ i.start ∷ starts_read rest = sym (ap starts_read h.parts) ∙ starts_joined h.done (i ∷ rest) in
     let good = subst AreOpenable joined openable in
     let own = all_there (λ (b : StartInput). IsOpened b → IsOpenable b) (starts_read h.done) (starts_read rest) i.start good in
     let before = all_before (λ (b : StartInput). IsOpened b → IsOpenable b) (starts_read h.done) (i.start ∷ starts_read rest) good in
-    inr (openable_there (starts_of settled) i.start (subst AreOpenable h.starts before) own h.fit.0.parent)) ready
+    openable_there (starts_of settled) i.start (subst AreOpenable h.starts before) own h.fit.0.parent
 
 -- ---- how settling is refused
 

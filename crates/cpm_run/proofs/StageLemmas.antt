@@ -24,64 +24,15 @@ use Rattle.cpm_script.specs.declared.script.Key.{Key}
 use Rattle.cpm_slots.specs.Host.{Host, new_host, room_fault, with_opened}
 use Rattle.cpm_play.specs.Typist.{TypingState}
 use Rattle.cpm_play.specs.declared.live.TypedPlay.{TypedPlay}
-use Rattle.cpm_run.specs.Playing.{IsSessionsRefusal}
+use Rattle.cpm_run.specs.Openings.{IsJudgedSo}
 use Rattle.cpm_run.specs.Refusing.{IsSettleRefusal}
 use Rattle.cpm_run.specs.Run.{AllAccepted, IsOpening, starts_read}
 use Rattle.cpm_run.specs.Settled.{AreUntouched, IsTypedAt, IsTypedIfAny, Streams, TypedSession, forked_at, streams, typed_view}
-use Rattle.cpm_run.specs.Settling.{AreFitInputs, AreFitStarts, AreOpenable, IsFitInput, IsOpenable, IsSettlingRefusal}
+use Rattle.cpm_run.specs.Settling.{AreFitInputs, AreOpenable, IsFitInput, IsOpenable, IsSettlingRefusal}
 use Rattle.cpm_run.specs.declared.error.RunError.{RunError}
 use Rattle.cpm_run.specs.declared.error.RunError.TheVariants as refusal
 use Rattle.cpm_run.specs.declared.options.RunOptions.{RunOptions}
 use Rattle.std.specs.Borrow.{Bor}
-
--- ---- scripts that wait
-
--- the session's script has a count for each key
-abbrev pub IsTimed : SessionInput → Type 0
-IsTimed i = IsSome (timed_keys i.said)
-
-known_with : (key : Key) (keys : Option (List Key)) → is_some (option_map (λ ks. key ∷ ks) keys) ≡ is_some keys
-known_with key None = refl
-known_with key (Some keys) = refl
-
--- a key with a count leaves it open whether the others have one
-pub key-left : (cs : List Cue) (i : ℕ) (x : Cue) (key : Key) → i < length cs → x ≡ get_or cs i x → x ≡ cue.Key key
-    → is_some (timed_keys (map cue_text (drop (i + 1) cs))) ≡ is_some (timed_keys (map cue_text (drop i cs)))
-key-left cs i x key within is this =
-    sym (ap (λ (rest : List Cue). is_some (timed_keys (map cue_text rest))) (drop_more cs i x within ∙ ap (λ (y : Cue). y ∷ drop (i + 1) cs) (sym is ∙ this))
-    ∙ known_with key (timed_keys (map cue_text (drop (i + 1) cs))))
-
-none-known : (x : Cue) (rest : List Cue) → ((key : Key) → x ≡ cue.Key key → ⊥) → is_some (timed_keys (cue_text x ∷ map cue_text rest)) ≡ false
-none-known (cue.Key key) rest other = absurd (other key refl)
-none-known (cue.Wait text) rest other = refl
-none-known (cue.Press byte) rest other = refl
-
--- anything else waits
-pub wait-found : (cs : List Cue) (i : ℕ) (x : Cue) → i < length cs → x ≡ get_or cs i x → ((key : Key) → x ≡ cue.Key key → ⊥) → is_some (timed_keys (map cue_text (drop i cs))) ≡ false
-wait-found cs i x within is other =
-    ap (λ (rest : List Cue). is_some (timed_keys (map cue_text rest))) (drop_more cs i x within ∙ ap (λ (y : Cue). y ∷ drop (i + 1) cs) (sym is)) ∙ none-known x (drop (i + 1) cs) other
-
--- none is left
-pub none-left : (cs : List Cue) (i : ℕ) → length cs ≤ i → is_some (timed_keys (map cue_text (drop i cs))) ≡ true
-none-left cs i past = at_drop_all (λ (rest : List Cue). is_some (timed_keys (map cue_text rest))) cs i past
-
-pub none-asked : {A : Type 0} (o : Option A) → is_some o ≡ false → o ≡ None
-none-asked None none = refl
-none-asked (Some x) none = absurd (cc)
-
--- one more session whose script has a count for each key
-pub timed-more : (is : List Input) (n : ℕ) (i : Input) (cs : List Cue) (waits : Bool) → n < length is → i ≡ get_or is n i → cs ≡ i.cues.items → waits ≡ not (is_some (timed_keys (map cue_text cs)))
-    → waits ≡ false → All IsTimed (map given (take n is)) → All IsTimed (map given (take (n + 1) is))
-timed-more is n i cs waits within is_at own test quiet all =
-    let said : is_some (timed_keys (map cue_text (get_or is n i).cues.items)) ≡ true =
-    by_test (is_some (timed_keys (map cue_text (get_or is n i).cues.items)))
-    (sym quiet ∙ test ∙ ap (λ (x : List Cue). not (is_some (timed_keys (map cue_text x)))) (own ∙ ap (λ (x : Input). x.cues.items) is_at)) in
-    All-same IsTimed (map given (take (n + 1) is)) (map given (take n is) ++ given (get_or is n i) ∷ []) (map_more given is n i within)
-    (All-push IsTimed (map given (take n is)) (given (get_or is n i)) all said)
-  where
-    by_test : (t : Bool) → false ≡ not t → t ≡ true
-    by_test true e = refl
-    by_test false e = absurd (cc)
 
 -- ---- openings
 
@@ -110,10 +61,6 @@ accepted_openable all h (Opens cpu quota drives ∷ bs) r =
 accepted_openable all h (Forks parent at ∷ bs) r = All-cons OpensIf (Forks parent at) bs (λ opened. absurd opened) (accepted_openable all h bs r)
 
 -- ---- sessions that are fit
-
-pub fit_starts : (typed : Option TypedSession) (starts : List StartInput) (is : List SessionInput) → AreFitInputs typed starts is → AreFitStarts starts (starts_read is)
-fit_starts typed starts [] fit = tt
-fit_starts typed starts (i ∷ is) fit = (fit.0.parent, fit_starts typed (starts ++ i.start ∷ []) is fit.1)
 
 -- what each of them says is below 80h
 pub ascii_inputs : (starts : List StartInput) (is : List SessionInput) → AreFitInputs None starts is → All (λ i. KeysAreAscii i.said) is
@@ -189,41 +136,30 @@ typed_fit system sessions (Some name) inputs io typed h fit =
 -- ---- refusals
 
 pub sessions_refused : (config : Config) (options : RunOptions) (io : Streams) (system : Disk) (inputs : List SessionInput) (e : RunError) → AreUntouched io
-    → IsSessionsRefusal config (new_host system config.frames) (starts_read inputs) e → IsSettleRefusal config options io system inputs e
+    → IsJudgedSo config (new_host system config.frames) (starts_read inputs) e → IsSettleRefusal config options io system inputs e
 sessions_refused config options io system inputs (refusal.SessionRefused name fault) untouched r = (r.0, r.1, untouched)
 sessions_refused config options io system inputs (refusal.FramesExceeded name quotas frames) untouched r = (r.0, r.1, r.2, untouched)
-sessions_refused config options io system inputs refusal.OutOfMemory untouched r = inl untouched
 sessions_refused config options io system inputs _ untouched r = absurd r
 
 pub settle_refused : (config : Config) (options : RunOptions) (io : Streams) (system : Disk) (inputs : List SessionInput) (typed : Option TypedSession) (e : RunError)
-    → AllAccepted (starts_read inputs) (new_host system config.frames) (starts_read inputs) ⊎ AreUntouched io
+    → AllAccepted (starts_read inputs) (new_host system config.frames) (starts_read inputs)
     → IsTypedIfAny system config.sessions.items (option_map (λ n. n.now) options.typed) inputs io typed
     → IsSettlingRefusal system options typed config.sessions.items inputs e → IsSettleRefusal config options io system inputs e
-settle_refused config options io system inputs typed (refusal.TooManyKeys shown) judged heard r =
+settle_refused config options io system inputs typed (refusal.TooManyKeys shown) accepted heard r =
     record {
-      judged = judged;
+      accepted = accepted;
       typed = typed;
       heard = heard;
       limited = r.refused.0;
       over = record { done = r.done; input = r.input; rest = r.rest; order = r.order; settled = r.settled; before = r.before; over = r.refused.1 };
     }
-settle_refused config options io system inputs typed refusal.OutOfMemory judged heard r = inr (inr (record { judged = judged; typed = typed; heard = heard }))
-settle_refused config options io system inputs typed _ judged heard r = absurd r.refused
+settle_refused config options io system inputs typed refusal.OutOfMemory accepted heard r = inr (inr (record { accepted = accepted; typed = typed; heard = heard }))
+settle_refused config options io system inputs typed _ accepted heard r = absurd r.refused
 
 pub settle_refused_as : (config : Config) (options : RunOptions) (io : Streams) (system : Disk) (inputs : List SessionInput) (typed heard : Option (ℕ × TypedPlay)) (e : RunError) → typed ≡ heard
-    → AllAccepted (starts_read inputs) (new_host system config.frames) (starts_read inputs) ⊎ AreUntouched io
+    → AllAccepted (starts_read inputs) (new_host system config.frames) (starts_read inputs)
     → IsTypedIfAny system config.sessions.items (option_map (λ n. n.now) options.typed) inputs io (typed_view heard)
     → IsSettlingRefusal system options (typed_view typed) config.sessions.items inputs e → IsSettleRefusal config options io system inputs e
-settle_refused_as config options io system inputs typed heard e same judged given r =
-    settle_refused config options io system inputs (typed_view heard) e judged given
+settle_refused_as config options io system inputs typed heard e same accepted given r =
+    settle_refused config options io system inputs (typed_view heard) e accepted given
     (subst (λ (t : Option (ℕ × TypedPlay)). IsSettlingRefusal system options (typed_view t) config.sessions.items inputs e) same r)
-
--- where nothing is to be typed, nothing was
-pub nothing_heard : (config : Config) (options : RunOptions) (io : Streams) (system : Disk) (inputs : List SessionInput) → options.typed ≡ None → AreUntouched io
-    → IsTypedIfAny system config.sessions.items (option_map (λ n. n.now) options.typed) inputs io None
-nothing_heard config options io system inputs none untouched =
-    subst (λ (o : Option (Bor (List ℕ))). IsTypedIfAny system config.sessions.items (option_map (λ n. n.now) o) inputs io None) (sym none) (refl, untouched)
-
--- what wasn't used
-pub none_touched : (unread : TypingState) (before unrecorded : Option (List ℕ)) → AreUntouched (streams unread unread before before unrecorded unrecorded)
-none_touched unread before unrecorded = record { unread = refl; unwritten = refl; unrecorded = refl }

@@ -24,10 +24,10 @@ use Rattle.cpm_script.specs.Laws.{KeysAreAscii}
 use Rattle.cpm_script.specs.declared.cue.Cue.{Cue}
 use Rattle.cpm_slots.specs.Host.{new_host}
 use Rattle.cpm_run.specs.Refusals.{run_error_of_live}
-use Rattle.cpm_run.specs.Refusing.{IsForkOrigin, IsForkedSession, IsSessionCut, IsSettleRefusal, IsTypingCut, IsTypingRefusal}
+use Rattle.cpm_run.specs.Refusing.{IsForkOrigin, IsForkedSession, IsSessionCut, IsSettleRefusal, IsTypedIn, IsTypedPlace, IsTypedPlaceOf, IsTypingCut, IsTypingRefusal}
 use Rattle.cpm_run.specs.Run.{AllAccepted, starts_read}
 use Rattle.cpm_run.specs.Settled.{IsTypedBy, IsTypedIfAny, Streams, most_steps, opening_of, typed_view}
-use Rattle.cpm_run.specs.Settling.{BeginsAsConfigured, IsOpenable, IsTypedIn, IsTypedPlace, IsTypedPlaceOf}
+use Rattle.cpm_run.specs.Settling.{BeginsAsConfigured, IsOpenable}
 use Rattle.cpm_run.specs.declared.error.RunError.{RunError}
 use Rattle.cpm_run.specs.declared.error.RunError.TheVariants as refusal
 use Rattle.cpm_run.specs.declared.options.RunOptions.{RunOptions}

@@ -1,4 +1,5 @@
 pub mod Ending
+pub mod Openings
 pub mod Playing
 pub mod Refusals
 pub mod Refusing

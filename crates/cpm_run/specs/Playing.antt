@@ -1,5 +1,5 @@
 -- Sessions of a configuration in the slots of a host. All of it is own.
-use Rattle.std.specs.Prelude.{⊤, ◌≡◌, ◌≢◌, ℕ, List, [], ◌∷◌, ◌++◌, ◌≤◌, length, map, slice_get, Option, Some, None, IfSome, string_bytes}
+use Rattle.std.specs.Prelude.{⊤, ◌≡◌, ◌≢◌, ◌+◌, ℕ, List, [], ◌∷◌, ◌++◌, ◌≤◌, length, map, slice_get, Option, Some, None, IfSome, string_bytes}
 use Rattle.cpm_batch.specs.Inputs.{Forks, IsOpened, Opens, StartInput}
 use Rattle.cpm_batch.specs.Outputs.{SessionOutput, left_by}
 use Rattle.cpm_batch.specs.declared.output.SessionFiles.{SessionFiles}
@@ -21,8 +21,8 @@ use Rattle.cpm_play.specs.declared.player.Fork.{Fork}
 use Rattle.cpm_play.specs.declared.player.Player.{Player}
 use Rattle.cpm_play.specs.declared.player.Player.TheVariants.{Playing, Waiting}
 use Rattle.cpm_play.specs.declared.scripted_slot.ScriptedSlot.{ScriptedSlot}
-use Rattle.cpm_run.specs.Run.{IsNamedRefusal, IsOpening, IsShortFor, IsShownAs, ReportEntry, files_left, name_at, pages_of_config, report_view}
-use Rattle.cpm_run.specs.Run.{reports_of, start_of}
+use Rattle.cpm_run.specs.Run.{IsForkAt, IsOpening, IsRefusedOr, IsShortFor, IsShownAs, ReportEntry, files_left, fork_pages_in, forks_in, name_at}
+use Rattle.cpm_run.specs.Run.{pages_of_config, report_view, reports_of, start_of}
 use Rattle.cpm_store.specs.Files.{StoreName}
 use Rattle.cpm_run.specs.Ending.{ending_of}
 use Rattle.cpm_run.specs.declared.ending.Ending.{Ending}
@@ -104,6 +104,18 @@ ArePressable system inputs = (place : ℕ) → IfSome (slice_get inputs place) (
 
 -- ---- refusals
 
+-- Of those that are opened one after another, the first of which stands at `from`, the first whose opening is refused is refused for this reason, and it
+-- stands at the place. Or all are accepted, the forks lack it, and one of those that are forked stands there: which, depends on turns.
+abbrev pub IsRefusedAmong : (all : List StartInput) → Host → (from : ℕ) → List StartInput → OpenError → (place : ℕ) → Type 0
+IsRefusedAmong all h from [] fault place = IsForkAt all place × IsShortFor h (forks_in all) (fork_pages_in all) fault
+IsRefusedAmong all h from (b ∷ bs) fault place = IsRefusedOr h b fault (place ≡ from) (λ next. IsRefusedAmong all next (from + 1) bs fault place)
+
+-- so it is with one of the sessions that begin so, and that one's name is shown
+pub record IsRefusedByName (sessions : List SessionConfig) (h : Host) (starts : List StartInput) (fault : OpenError) (shown : List ℕ) : Type 0 where
+  pub place : ℕ
+  pub first : IsRefusedAmong starts h 0 starts fault place
+  pub told : IsShownAs (name_at sessions place) shown
+
 -- how an opening of the session of this name is refused
 abbrev pub IsOpeningRefusal : Host → Opening → StoreName → RunError → Type 0
 IsOpeningRefusal h o name (refusal.SessionRefused shown fault) = (refusal_of h o ≡ Some fault) × IsShownAs name shown.bytes
@@ -117,7 +129,7 @@ IsStartRefusal h (Forks parent at) name e = ⊥
 
 -- how opening sessions one after another is refused
 abbrev pub IsSlotRefusal : List SessionConfig → Host → List StartInput → RunError → Type 0
-IsSlotRefusal sessions h starts (refusal.SessionRefused name fault) = IsNamedRefusal sessions h starts fault name.bytes
+IsSlotRefusal sessions h starts (refusal.SessionRefused name fault) = IsRefusedByName sessions h starts fault name.bytes
 IsSlotRefusal sessions h starts refusal.OutOfMemory = ⊤
 IsSlotRefusal sessions h starts _ = ⊥
 
@@ -141,9 +153,9 @@ IsForksRefusal config h players _ = ⊥
 -- how playing all sessions of a configuration is refused
 abbrev pub IsSessionsRefusal : Config → Host → List StartInput → RunError → Type 0
 IsSessionsRefusal config h starts (refusal.SessionRefused name fault) =
-    (fault ≢ NoFrames) × IsNamedRefusal config.sessions.items h starts fault name.bytes
+    (fault ≢ NoFrames) × IsRefusedByName config.sessions.items h starts fault name.bytes
 IsSessionsRefusal config h starts (refusal.FramesExceeded name quotas frames) =
-    (quotas ≡ pages_of_config config) × (frames ≡ config.frames) × IsNamedRefusal config.sessions.items h starts NoFrames name.bytes
+    (quotas ≡ pages_of_config config) × (frames ≡ config.frames) × IsRefusedByName config.sessions.items h starts NoFrames name.bytes
 IsSessionsRefusal config h starts refusal.OutOfMemory = ⊤
 IsSessionsRefusal config h starts _ = ⊥
 

@@ -1,10 +1,11 @@
 -- When a run is refused, and what it leaves then. All of it is own.
-use Rattle.std.specs.Prelude.{⊤, Bool, ◌≡◌, ◌≢◌, ◌⊎◌, ◌<◌, ◌+◌, ℕ, List, [], ◌∷◌, ◌++◌, length, map, slice_get}
+use Rattle.std.specs.Prelude.{⊤, Bool, true, ◌≡◌, ◌≢◌, ◌⊎◌, ◌<◌, ◌+◌, ℕ, List, [], ◌∷◌, ◌++◌, length, map, slice_get}
 use Rattle.std.specs.Prelude.{Option, Some, None, option_map, string_bytes}
-use Rattle.cpm_batch.specs.Inputs.{AreInputs, IsInputFault, IsOpened, SessionInput, StartInput}
-use Rattle.cpm_batch.specs.Reads.{AreRead, StopsAtInput}
+use Rattle.cpm_batch.specs.Inputs.{IsInputFault, IsOpened, SessionInput, StartInput}
+use Rattle.cpm_batch.specs.Reads.{StopsAtInput}
+use Rattle.cpm_batch.specs.declared.error.ReadError.{ReadError}
 use Rattle.cpm_batch.specs.declared.error.ReadError.TheVariants as reading
-use Rattle.cpm_config.specs.Rules.{place_of, session_view}
+use Rattle.cpm_config.specs.Rules.{is_opened, origin_view, place_of, session_view}
 use Rattle.cpm_config.specs.declared.config.Config.{Config}
 use Rattle.cpm_config.specs.declared.config.Origin.{Origin}
 use Rattle.cpm_config.specs.declared.config.Origin.TheVariants as origin
@@ -20,10 +21,11 @@ use Rattle.cpm_script.specs.Cues.{CueText, cue_text, cued_key_count}
 use Rattle.cpm_script.specs.declared.cue.Cue.{Cue}
 use Rattle.cpm_script.specs.Script.{most_keys}
 use Rattle.cpm_slots.specs.Host.{new_host}
-use Rattle.cpm_store.specs.Files.{StoreFiles, StoreName, WhereTold}
-use Rattle.cpm_store.specs.Log.{StoreAccess, AreNoWrites, LogLeadsBy, StopsAfter, Then}
+use Rattle.cpm_store.specs.Files.{StoreName, WhereTold}
+use Rattle.cpm_store.specs.Log.{AreNoWrites, LogLeadsBy, StopsAfter}
 use Rattle.cpm_store.specs.Writes.{NamedBytes, StopsAt}
-use Rattle.cpm_run.specs.Run.{AllAccepted, AreParts, IsNamedRefusal, IsShownAs, RunParts, config_fault, outputs_by, pages_of_config, starts_read}
+use Rattle.cpm_run.specs.Run.{AllAccepted, AreParts, HasReadInputs, IsNamedRefusal, IsShownAs, RunParts, StoreActs, config_fault, outputs_by}
+use Rattle.cpm_run.specs.Run.{pages_of_config, starts_read}
 use Rattle.cpm_run.specs.Settled.{AreSettled, AreUntouched, IsTypedIfAny, SessionPart, SettledSession, Streams, TypedSession, most_steps, opening_of, part_of}
 use Rattle.cpm_run.specs.declared.error.RunError.{RunError}
 use Rattle.cpm_run.specs.declared.error.RunError.TheVariants as refusal
@@ -58,6 +60,26 @@ abbrev pub IsPlaceRefusal : Config → RunOptions → RunError → Type 0
 IsPlaceRefusal config options (refusal.NoSession shown) = IsNoSession config options shown.bytes
 IsPlaceRefusal config options (refusal.NotOpened shown) = IsForkedSession config options shown.bytes
 IsPlaceRefusal config options _ = ⊥
+
+-- the place of the session that is to be typed at, where one is, which is opened
+pub record IsTypedIn (config : Config) (name : List ℕ) (place : ℕ) : Type 0 where
+  pub first : place_of name (map session_view config.sessions.items) ≡ Some place
+  pub session : SessionConfig
+  pub there : slice_get config.sessions.items place ≡ Some session
+  pub opened : is_opened (origin_view session.origin) ≡ true
+
+abbrev pub IsTypedPlaceOf : Config → Option (List ℕ) → Option ℕ → Type 0
+IsTypedPlaceOf config None place = place ≡ None
+IsTypedPlaceOf config (Some name) place = (n : ℕ) × (place ≡ Some n) × IsTypedIn config name n
+
+abbrev pub IsTypedPlace : Config → RunOptions → Option ℕ → Type 0
+IsTypedPlace config options place = IsTypedPlaceOf config (option_map (λ n. n.now) options.typed) place
+
+-- Nothing is refused before anything is read: the numbers at the top and the forks stand, and where one is to type, there is such a session, and it is opened.
+pub record IsRunnable (config : Config) (options : RunOptions) : Type 0 where
+  pub faultless : config_fault config ≡ None
+  pub place : Option ℕ
+  pub typable : IsTypedPlace config options place
 
 -- ---- while they are settled
 
@@ -110,17 +132,17 @@ pub record IsOverfullIn (system : Disk) (stops_idle : Bool) (typed : Option Type
 abbrev pub IsLimited : RunOptions → Option TypedSession → Type 0
 IsLimited options typed = (typed ≡ None) × (options.replays.now ≡ [])
 
--- all openings were accepted, or else no key was read; and nobody typed, and no session is played by a recording
+-- all openings were accepted; and nobody typed, and no session is played by a recording
 pub record HasTooManyKeys (config : Config) (options : RunOptions) (io : Streams) (system : Disk) (inputs : List SessionInput) (shown : List ℕ) : Type 0 where
-  pub judged : AllAccepted (starts_read inputs) (new_host system config.frames) (starts_read inputs) ⊎ AreUntouched io
+  pub accepted : AllAccepted (starts_read inputs) (new_host system config.frames) (starts_read inputs)
   pub typed : Option TypedSession
   pub heard : IsTypedIfAny system config.sessions.items (option_map (λ n. n.now) options.typed) inputs io typed
   pub limited : IsLimited options typed
   pub over : IsOverfullIn system options.stops_idle typed config.sessions.items inputs shown
 
--- all openings were accepted, or else no key was read; and what was typed was typed
+-- all openings were accepted, and what was typed was typed
 pub record HasBeenTyped (config : Config) (options : RunOptions) (io : Streams) (system : Disk) (inputs : List SessionInput) : Type 0 where
-  pub judged : AllAccepted (starts_read inputs) (new_host system config.frames) (starts_read inputs) ⊎ AreUntouched io
+  pub accepted : AllAccepted (starts_read inputs) (new_host system config.frames) (starts_read inputs)
   pub typed : Option TypedSession
   pub heard : IsTypedIfAny system config.sessions.items (option_map (λ n. n.now) options.typed) inputs io typed
 
@@ -145,14 +167,6 @@ IsSettleRefusal config options io system inputs refusal.OutOfMemory =
     AreUntouched io ⊎ IsTypingCut config options io system inputs refusal.OutOfMemory ⊎ HasBeenTyped config options io system inputs
 IsSettleRefusal config options io system inputs _ = ⊥
 
--- so it was with what the files held
-pub record IsRefusedAfterReading (config : Config) (options : RunOptions) (io : Streams) (old : Option StoreFiles) (e : RunError) : Type 0 where
-  pub faultless : config_fault config ≡ None
-  pub system : Disk
-  pub inputs : List SessionInput
-  pub read : AreInputs old config options.replays.now system inputs
-  pub refused : IsSettleRefusal config options io system inputs e
-
 -- ---- where files are written
 
 -- the one at this place stands so in a refusal
@@ -167,74 +181,64 @@ IsWriteRefusal outputs place (refusal.WriteFault shown) = IsOutputAt outputs pla
 IsWriteRefusal outputs place refusal.OutOfMemory = ⊤
 IsWriteRefusal outputs place _ = ⊥
 
--- the files before one were written as they should be, and no other name than those and its own has changed
-pub record StopsWriting (config : Config) (options : RunOptions) (io : Streams) (old new : Option StoreFiles) (e : RunError) : Type 0 where
-  pub parts : RunParts
-  pub read : AreInputs old config options.replays.now parts.system parts.inputs
-  pub faultless : config_fault config ≡ None
-  pub played : AreParts config options io parts
-  pub place : ℕ
-  pub stopped : WhereTold old new (StopsAt (outputs_by options parts) place)
-  pub why : IsWriteRefusal (outputs_by options parts) place e
-
 -- ---- all of it
 
--- Nothing was written, and no key was read.
-pub record LeavesAll (io : Streams) (old new : Option StoreFiles) : Type 0 where
+-- No call was made of the store, and no key was read.
+pub record LeavesAll {S : Type 0} (io : Streams) (old new : S) : Type 0 where
   pub same : new ≡ old
   pub untouched : AreUntouched io
 
--- How a run is refused: for a number at the top, a fork, or a session that can't be typed at, before anything is read; then for the first fault of what is
--- needed; then for the first session whose opening is refused, or because there is no room for the forks. Nothing was written then, and no key was read.
--- Afterwards it may be cut short while one types, or a forked session may have too many keys; then too nothing was written. And a file can't be written. It may
--- be out of memory before a key is read; once all was read, when nothing was written; or where files are written.
-abbrev pub IsRunRefusal : Config → RunOptions → Streams → Option StoreFiles → Option StoreFiles → RunError → Type 0
-IsRunRefusal config options io old new (refusal.ConfigRefused (Range place)) = (config_fault config ≡ Some place) × LeavesAll io old new
-IsRunRefusal config options io old new (refusal.NoSession name) = (config_fault config ≡ None) × IsNoSession config options name.bytes × LeavesAll io old new
-IsRunRefusal config options io old new (refusal.NotOpened name) =
-    (config_fault config ≡ None) × IsForkedSession config options name.bytes × LeavesAll io old new
-IsRunRefusal config options io old new (refusal.FileRefused e) =
-    (config_fault config ≡ None) × IsInputFault old config options.replays.now e × LeavesAll io old new
-IsRunRefusal config options io old new (refusal.WriteFault name) = StopsWriting config options io old new (refusal.WriteFault name)
-IsRunRefusal config options io old new refusal.OutOfMemory =
-    (config_fault config ≡ None)
-    × (LeavesAll io old new ⊎ (IsRefusedAfterReading config options io old refusal.OutOfMemory × (new ≡ old))
-    ⊎ StopsWriting config options io old new refusal.OutOfMemory)
-IsRunRefusal config options io old new e = IsRefusedAfterReading config options io old e × (new ≡ old)
+-- No call was a write, and no key was read.
+pub record LeavesUnwritten {S : Type 0} (acts : StoreActs S) (io : Streams) (old new : S) : Type 0 where
+  pub same : acts.files new ≡ acts.files old
+  pub calls : LogLeadsBy acts.does AreNoWrites old new
+  pub untouched : AreUntouched io
 
--- Over any store: what is needed was read, then those before one of the files were written, writing that one failed, and no other call was made.
-pub record FailsAtWrite {S : Type 0} (does : S → StoreAccess → S → Type 0) (config : Config) (options : RunOptions) (io : Streams) (old new : S)
-    (e : RunError) : Type 0 where
-  pub parts : RunParts
-  pub faultless : config_fault config ≡ None
-  pub played : AreParts config options io parts
-  pub place : ℕ
-  pub calls : LogLeadsBy does (Then (AreRead config options.replays.now parts.system parts.inputs) (StopsAfter (outputs_by options parts) place)) old new
-  pub why : IsWriteRefusal (outputs_by options parts) place e
+-- What the configuration needs was read up to this fault, by what the files hold, and by what the calls gave. These reads were all calls; and no key was read.
+pub record FailsAtInput {S : Type 0} (acts : StoreActs S) (config : Config) (options : RunOptions) (io : Streams) (old new : S) (e : ReadError) : Type 0 where
+  pub held : IsInputFault (acts.files old) config options.replays.now e
+  pub same : acts.files new ≡ acts.files old
+  pub calls : LogLeadsBy acts.does (StopsAtInput config options.replays.now e) old new
+  pub untouched : AreUntouched io
 
--- Over any store: what is needed was read, no other call was made, and by what was read the run is refused so.
-pub record StopsAfterReading {S : Type 0} (does : S → StoreAccess → S → Type 0) (config : Config) (options : RunOptions) (io : Streams) (old new : S)
-    (e : RunError) : Type 0 where
-  pub faultless : config_fault config ≡ None
+-- All of it was read, no other call was made, and by what was read the run is refused so.
+pub record StopsAfterReading {S : Type 0} (acts : StoreActs S) (config : Config) (options : RunOptions) (io : Streams) (old new : S) (e : RunError)
+    : Type 0 where
   pub system : Disk
   pub inputs : List SessionInput
-  pub calls : LogLeadsBy does (AreRead config options.replays.now system inputs) old new
+  pub read : HasReadInputs acts config options system inputs old new
   pub refused : IsSettleRefusal config options io system inputs e
 
--- What calls a run that is refused has made of any store: none, where the configuration is refused or no session can be typed at; the reads up to the file
--- that is refused; all reads and the writes up to the one that failed; and else all reads. Where memory was refused and not all was read, none that writes.
--- Where not all was read, no key was read.
-abbrev pub IsStoppedRun : {S : Type 0} → (S → StoreAccess → S → Type 0) → Config → RunOptions → Streams → S → S → RunError → Type 0
-IsStoppedRun {S} does config options io old new (refusal.ConfigRefused e) = (new ≡ old) × AreUntouched io
-IsStoppedRun {S} does config options io old new (refusal.NoSession name) = (new ≡ old) × AreUntouched io
-IsStoppedRun {S} does config options io old new (refusal.NotOpened name) = (new ≡ old) × AreUntouched io
-IsStoppedRun {S} does config options io old new (refusal.FileRefused e) =
-    LogLeadsBy does (StopsAtInput config options.replays.now e) old new × AreUntouched io
-IsStoppedRun {S} does config options io old new (refusal.WriteFault name) = FailsAtWrite does config options io old new (refusal.WriteFault name)
-IsStoppedRun {S} does config options io old new refusal.OutOfMemory =
-    (LogLeadsBy does AreNoWrites old new × AreUntouched io) ⊎ StopsAfterReading does config options io old new refusal.OutOfMemory
-    ⊎ FailsAtWrite does config options io old new refusal.OutOfMemory
-IsStoppedRun {S} does config options io old new e = StopsAfterReading does config options io old new e
+-- All was read, and the sessions were played. Then the files before one were written as they should be, and writing that one failed. No other name has changed,
+-- and no other call was made.
+pub record StopsWriting {S : Type 0} (acts : StoreActs S) (config : Config) (options : RunOptions) (io : Streams) (old new : S) (e : RunError) : Type 0 where
+  pub parts : RunParts
+  pub between : S
+  pub read : HasReadInputs acts config options parts.system parts.inputs old between
+  pub played : AreParts config options io parts
+  pub place : ℕ
+  pub hold : WhereTold (acts.files between) (acts.files new) (StopsAt (outputs_by options parts) place)
+  pub calls : LogLeadsBy acts.does (StopsAfter (outputs_by options parts) place) between new
+  pub why : IsWriteRefusal (outputs_by options parts) place e
+
+-- How a run is refused, of any store: for a number at the top or a fork, and then for a session that can't be typed at, before anything is read; then for the
+-- first fault of what is needed; then for the first session whose opening is refused, or because there is no room for the forks. Nothing was written then, and
+-- no key was read. Afterwards it may be cut short while one types, or a forked session may have too many keys; then too nothing was written. And a file can't
+-- be written. It may be out of memory before a key is read; once all was read, when nothing was written; or where files are written.
+abbrev pub IsRunRefusal : {S : Type 0} → StoreActs S → Config → RunOptions → Streams → S → S → RunError → Type 0
+IsRunRefusal {S} acts config options io old new (refusal.ConfigRefused (Range place)) = (config_fault config ≡ Some place) × LeavesAll io old new
+IsRunRefusal {S} acts config options io old new (refusal.NoSession name) =
+    (config_fault config ≡ None) × IsNoSession config options name.bytes × LeavesAll io old new
+IsRunRefusal {S} acts config options io old new (refusal.NotOpened name) =
+    (config_fault config ≡ None) × IsForkedSession config options name.bytes × LeavesAll io old new
+IsRunRefusal {S} acts config options io old new (refusal.FileRefused e) = IsRunnable config options × FailsAtInput acts config options io old new e
+IsRunRefusal {S} acts config options io old new (refusal.WriteFault name) =
+    IsRunnable config options × StopsWriting acts config options io old new (refusal.WriteFault name)
+IsRunRefusal {S} acts config options io old new refusal.OutOfMemory =
+    IsRunnable config options
+    × (LeavesUnwritten acts io old new ⊎ StopsAfterReading acts config options io old new refusal.OutOfMemory
+    ⊎ StopsWriting acts config options io old new refusal.OutOfMemory)
+IsRunRefusal {S} acts config options io old new e = IsRunnable config options × StopsAfterReading acts config options io old new e
 
 -- a device failed
 abbrev pub IsDeviceFault : RunError → Type 0

@@ -1,5 +1,5 @@
 -- What running the sessions of a configuration writes and reports, and when it is refused. All of it is own.
-use Rattle.std.specs.Prelude.{◌≡◌, ◌≤◌, ◌⊎◌, ◌+◌, ℕ, sum_by, ◌==◌, ◌&&◌, not, nat_le, List, [], ◌∷◌, ◌++◌, length, drop}
+use Rattle.std.specs.Prelude.{◌≡◌, ◌≤◌, ◌⊎◌, ◌+◌, ℕ, sum_by, ◌==◌, ◌&&◌, not, nat_le, List, [], ◌∷◌, ◌++◌, length, drop, take}
 use Rattle.std.specs.Prelude.{map, slice_get, Option, Some, None, option_and_then, option_map, string_bytes, chars, Ok, if◌then◌else◌}
 use Rattle.std.specs.List.{All}
 use Rattle.cpm_batch.specs.Inputs.{AreInputs, Forks, Opens, SessionInput, StartInput}
@@ -26,7 +26,7 @@ use Rattle.cpm_machine.specs.declared.opening.Opening.{Opening}
 use Rattle.cpm_machine.specs.declared.opening.OpenError.{OpenError}
 use Rattle.cpm_machine.specs.declared.opening.OpenError.TheVariants.{NoFrames, NoSlot}
 use Rattle.cpm_store.specs.Files.{StoreFiles, StoreName, WhereTold}
-use Rattle.cpm_store.specs.Log.{StoreAccess, AreWrites, LogLeadsBy, Then}
+use Rattle.cpm_store.specs.Log.{StoreAccess, AreWrites, LogLeadsBy}
 use Rattle.cpm_store.specs.Writes.{NamedBytes, WritesAll}
 use Rattle.cpm_play.specs.Players.{HasRoomForForks, IsLackFor}
 use Rattle.cpm_play.specs.Playing.{alone_by}
@@ -184,28 +184,35 @@ pub record AreReportedOf (system : Disk) (settled : List SettledSession) (report
   pub sessions : map report_view report.sessions.items ≡ reports_of system settled
   pub stops : report.stops.items ≡ map stop_of settled
 
--- Where the store tells its files: with what the files held, the sessions were run alone.
--- The files that they name were written in order, and nothing else; and each session is reported.
-pub record HasRun (config : Config) (options : RunOptions) (report : Report) (io : Streams) (old new : Option StoreFiles) : Type 0 where
+-- What a store does by its calls, and what its files hold, where it tells that.
+pub record StoreActs (S : Type 0) : Type 1 where
+  pub does : S → StoreAccess → S → Type 0
+  pub files : S → Option StoreFiles
+
+-- What the configuration needs was read, and it was this, by what the files hold, and by what the calls gave. These reads were all calls, in order.
+pub record HasReadInputs {S : Type 0} (acts : StoreActs S) (config : Config) (options : RunOptions) (system : Disk) (inputs : List SessionInput)
+    (old new : S) : Type 0 where
+  pub held : AreInputs (acts.files old) config options.replays.now system inputs
+  pub same : acts.files new ≡ acts.files old
+  pub calls : LogLeadsBy acts.does (AreRead config options.replays.now system inputs) old new
+
+-- These files were written, and nothing else. These writes were all calls, in order.
+pub record HasWrittenOutputs {S : Type 0} (acts : StoreActs S) (outputs : List NamedBytes) (old new : S) : Type 0 where
+  pub hold : WhereTold (acts.files old) (acts.files new) (WritesAll outputs)
+  pub calls : LogLeadsBy acts.does (AreWrites outputs) old new
+
+-- Of any store: with what its files gave, the sessions were run alone. Then the files that they name were written, and the records, and nothing else;
+-- and each session is reported.
+pub record HasRun {S : Type 0} (acts : StoreActs S) (config : Config) (options : RunOptions) (report : Report) (io : Streams) (old new : S) : Type 0 where
   pub parts : RunParts
-  pub read : AreInputs old config options.replays.now parts.system parts.inputs
+  pub between : S
   -- no refusal is due: the numbers at the top are in range, and each fork stands
   pub faultless : config_fault config ≡ None
+  pub read : HasReadInputs acts config options parts.system parts.inputs old between
   pub played : AreParts config options io parts
   -- the record of each session is a script of its own keys
   pub replays : All GivesItsKeysAgain parts.settled
-  pub written : WhereTold old new (WritesAll (outputs_by options parts))
-  pub reported : AreReportedOf parts.system parts.settled report
-
--- Over any store: with what its files gave, the sessions were run alone. The calls were the reads of what the configuration needs,
--- then the writes of the files that the sessions name and of the records, in order, and no others.
-pub record HasAccessed {S : Type 0} (does : S → StoreAccess → S → Type 0) (config : Config) (options : RunOptions) (report : Report)
-    (io : Streams) (old new : S) : Type 0 where
-  pub parts : RunParts
-  pub faultless : config_fault config ≡ None
-  pub played : AreParts config options io parts
-  pub replays : All GivesItsKeysAgain parts.settled
-  pub calls : LogLeadsBy does (Then (AreRead config options.replays.now parts.system parts.inputs) (AreWrites (outputs_by options parts))) old new
+  pub wrote : HasWrittenOutputs acts (outputs_by options parts) between new
   pub reported : AreReportedOf parts.system parts.settled report
 
 -- ---- refusals
@@ -228,10 +235,25 @@ pub record IsForkAt (starts : List StartInput) (place : ℕ) : Type 0 where
   pub at : ℕ
   pub there : slice_get starts place ≡ Some (Forks parent at)
 
+-- how many are forked before a place, and how many pages these may write
+abbrev pub forks_before : List StartInput → (place : ℕ) → ℕ
+forks_before starts place = forks_in (take place starts)
+
+abbrev pub pages_before : List StartInput → (place : ℕ) → ℕ
+pages_before starts place = sum_by (pages_by starts) (take place starts)
+
+-- The one at this place is the first that is forked for which a host has no room: there is room for those before it, and with it the host lacks this.
+-- Slots are counted before frames.
+pub record IsFirstShort (all : List StartInput) (h : Host) (fault : OpenError) (place : ℕ) : Type 0 where
+  pub fork : IsForkAt all place
+  pub before : HasRoomForForks h (forks_before all place) (pages_before all place)
+  pub short : IsShortFor h (forks_before all (place + 1)) (pages_before all (place + 1)) fault
+  pub order : fault ≡ NoFrames → length h.slots + forks_before all (place + 1) ≤ 64
+
 -- Of those that are opened one after another, the first of which stands at `from`, the first whose opening is refused is refused for this reason, and it
--- stands at the place. Or all are accepted, the forks lack it, and one of those that are forked stands there.
+-- stands at the place. Or all are accepted, and the first fork that lacks room stands there.
 abbrev pub IsFirstRefused : (all : List StartInput) → Host → (from : ℕ) → List StartInput → OpenError → (place : ℕ) → Type 0
-IsFirstRefused all h from [] fault place = IsForkAt all place × IsShortFor h (forks_in all) (fork_pages_in all) fault
+IsFirstRefused all h from [] fault place = IsFirstShort all h fault place
 IsFirstRefused all h from (b ∷ bs) fault place = IsRefusedOr h b fault (place ≡ from) (λ next. IsFirstRefused all next (from + 1) bs fault place)
 
 -- a name stands so in a refusal

@@ -3,7 +3,7 @@ use Rattle.std.specs.Prelude.{⊤, ◌≡◌, ◌≤◌, ◌<◌, ◌⊎◌, ◌
 use Rattle.std.specs.Prelude.{Option, Some, None, option_map, IfSome, IsSome}
 use Rattle.std.specs.List.{All}
 use Rattle.cpm_batch.specs.Inputs.{Forks, IsOpened, Opens, SessionInput, StartInput, start_view, timed_keys}
-use Rattle.cpm_config.specs.Rules.{is_opened, origin_view, place_of, session_view}
+use Rattle.cpm_config.specs.Rules.{is_opened, origin_view}
 use Rattle.cpm_config.specs.declared.config.Config.{Config}
 use Rattle.cpm_config.specs.declared.config.SessionConfig.{SessionConfig}
 use Rattle.cpm_geom.specs.Disk.{Disk}
@@ -78,16 +78,6 @@ pub record AreSoundKeys (system : Disk) (p : SessionPart) (keys : List Key) (ste
   pub room : HaveRoom system p.opening keys
   pub within : p.at ≤ steps
 
--- a session has the keys of its script as they are written, and with those from before, of which there are so many, a script can have all of them; or it can
--- be opened by itself
-abbrev pub IsPartReady : (stops_idle : Bool) → (before : ℕ) → List CueText → Option StartInput → Type 0
-IsPartReady stops_idle before said opened =
-    ((stops_idle ≡ false) × IsSome (timed_keys said) × (before + cued_key_count said ≤ most_keys)) ⊎ IfSome opened IsOpenable
-
--- keys are limited, and a session has the keys of its script as they are written, if these are not too many; or it can be opened by itself
-abbrev pub IsSessionReady : RunOptions → Option TypedSession → List CueText → Option StartInput → Type 0
-IsSessionReady options typed said opened = (IsLimited options typed × (options.stops_idle ≡ false) × IsSome (timed_keys said)) ⊎ IfSome opened IsOpenable
-
 -- ---- all sessions
 
 -- each that was settled can be pressed in the run, has keys below 80h, and has own keys that their lines give again
@@ -117,56 +107,19 @@ abbrev pub AreFitInputs : Option TypedSession → List StartInput → List Sessi
 AreFitInputs typed starts [] = ⊤
 AreFitInputs typed starts (i ∷ is) = IsFitInput typed starts i × AreFitInputs typed (starts ++ i.start ∷ []) is
 
--- so it is with each in order
-abbrev pub AreFitStarts : (before starts : List StartInput) → Type 0
-AreFitStarts before [] = ⊤
-AreFitStarts before (b ∷ bs) = HasParent before b × AreFitStarts (before ++ b ∷ []) bs
-
--- a session that is to be tried has no key and no step, and is forked at once where it is forked
-abbrev pub trial_start : StartInput → StartInput
-trial_start (Opens cpu quota drives) = Opens cpu quota drives
-trial_start (Forks parent at) = Forks parent 0
-
-abbrev pub trial_of : SessionInput → SettledSession
-trial_of i = record { session = i.session; start = trial_start i.start; keys = []; before = 0; steps = 0; is_idle = false; typing = None }
-
 -- each that is opened has no fault
 abbrev pub AreOpenable : List StartInput → Type 0
 AreOpenable = All (λ b. IsOpened b → IsOpenable b)
-
--- no session is played by itself
-pub record ArePlain (options : RunOptions) (typed : Option TypedSession) (is : List SessionInput) : Type 0 where
-  pub limited : IsLimited options typed
-  pub runs_on : options.stops_idle ≡ false
-  pub timed : All (λ i. IsSome (timed_keys i.said)) is
-
--- so it is, or all that are opened can be
-abbrev pub AreReady : RunOptions → Option TypedSession → List SessionInput → Type 0
-AreReady options typed is = ArePlain options typed is ⊎ AreOpenable (starts_read is)
-
--- the place of the session that is to be typed at, where one is, which is opened
-pub record IsTypedIn (config : Config) (name : List ℕ) (place : ℕ) : Type 0 where
-  pub first : place_of name (map session_view config.sessions.items) ≡ Some place
-  pub session : SessionConfig
-  pub there : slice_get config.sessions.items place ≡ Some session
-  pub opened : is_opened (origin_view session.origin) ≡ true
-
-abbrev pub IsTypedPlaceOf : Config → Option (List ℕ) → Option ℕ → Type 0
-IsTypedPlaceOf config None place = place ≡ None
-IsTypedPlaceOf config (Some name) place = (n : ℕ) × (place ≡ Some n) × IsTypedIn config name n
-
-abbrev pub IsTypedPlace : Config → RunOptions → Option ℕ → Type 0
-IsTypedPlace config options place = IsTypedPlaceOf config (option_map (λ n. n.now) options.typed) place
 
 -- a session is opened in the run where it is in the configuration
 abbrev pub BeginsAsConfigured : SessionInput → Type 0
 BeginsAsConfigured i = is_opened (origin_view i.session.origin) ≡ true → IsOpened i.start
 
--- All sessions are settled, by what was typed at the one that is named. Their openings were all accepted before, or else no key was read.
+-- All sessions are settled, by what was typed at the one that is named. Their openings were all accepted before.
 pub record AreSettledBy (config : Config) (options : RunOptions) (io : Streams) (system : Disk) (inputs : List SessionInput) (settled : List SettledSession)
     : Type 0 where
   pub typed : Option TypedSession
-  pub judged : AllAccepted (starts_read inputs) (new_host system config.frames) (starts_read inputs) ⊎ AreUntouched io
+  pub accepted : AllAccepted (starts_read inputs) (new_host system config.frames) (starts_read inputs)
   pub heard : IsTypedIfAny system config.sessions.items (option_map (λ n. n.now) options.typed) inputs io typed
   pub keys : AreSettled system options.stops_idle typed config.sessions.items [] inputs settled
 

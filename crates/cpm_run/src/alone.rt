@@ -24,23 +24,6 @@ fn copies_of(alloc: Global, images: &[Image]) -> Result<Vec<Image>, AllocError>
     Ok(copies)
 }
 
-/// How a session begins, with equal images.
-pub(crate) fn copy_of(alloc: Global, start: &Start) -> Result<Start, AllocError>
-    ensures { IfOk result (λ s. start_view s ≡ start_view start.now) }
-{
-    match start {
-        Start::Opened { cpu, quota, drives } => Ok(Start::Opened {
-            cpu: *cpu,
-            quota: *quota,
-            drives: copies_of(alloc, drives)?,
-        }),
-        Start::Forked { parent, at } => Ok(Start::Forked {
-            parent: *parent,
-            at: *at,
-        }),
-    }
-}
-
 /// What a session is opened with that isn't forked.
 fn opening_of(alloc: Global, start: &Start) -> Result<Opening, AllocError>
     requires { IsOpened (start_view start.now) }

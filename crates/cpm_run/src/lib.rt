@@ -6,6 +6,7 @@ mod alone;
 mod digits;
 mod ending;
 mod error;
+mod openings;
 mod options;
 mod part;
 mod play;
@@ -16,7 +17,6 @@ mod run;
 mod settle;
 mod settled;
 mod stages;
-mod trial;
 mod typed;
 mod watcher;
 

@@ -12,10 +12,10 @@ ghost use Rattle.cpm_play.specs.Players.{AllDiffer, IsPlayRefusal as IsForking};
 ghost use Rattle.cpm_play.specs.declared.player.Player.TheVariants.{Playing};
 ghost use Rattle.cpm_play.specs.declared.player.Player.{Player as PlayerValue};
 ghost use Rattle.cpm_play.specs.declared.scripted_slot.ScriptedSlot.{ScriptedSlot};
-ghost use Rattle.cpm_run.specs.Playing.{HavePlayers, AreFinished, ArePressable, IsClosed, IsForksRefusal, IsOpeningRefusal};
+ghost use Rattle.cpm_run.specs.Playing.{HavePlayers, AreFinished, ArePressable, IsClosed, IsForksRefusal, IsOpeningRefusal, IsRefusedAmong};
 ghost use Rattle.cpm_run.specs.Playing.{IsSessionsRefusal, IsPrepared, IsSlotRefusal, IsStartRefusal, OpensSlot, files_by, report_by};
 ghost use Rattle.cpm_run.specs.Settled.{settled_view, starts_of};
-ghost use Rattle.cpm_run.specs.Run.{AllAccepted, HasForkRoom, IsFirstRefused, IsForkAt, IsShortFor, IsShownAs};
+ghost use Rattle.cpm_run.specs.Run.{AllAccepted, HasForkRoom, IsForkAt, IsShortFor, IsShownAs};
 ghost use Rattle.cpm_run.specs.Run.{files_left, fork_pages_in, forks_in, name_at, report_view, reports_of};
 
 use crate::ending::{Ending, ending_of_slot};
@@ -113,7 +113,7 @@ fn play_refusal(config: &Config, refusal: RunError) -> RunError
 }
 
 /// The name of the session at a place.
-fn name_at(config: &Config, place: usize) -> ShownWord
+pub(crate) fn name_at(config: &Config, place: usize) -> ShownWord
     ensures { IsShownAs (name_at config.now.sessions.items place) result.bytes }
 {
     match config.sessions.get(place) {
@@ -155,7 +155,7 @@ fn prepare_all(
         → AllAccepted all host.old.host (starts_of (map settled_view inputs.entry.items))) }
     ensures short { OnOk result ((all : List StartInput) (fault : OpenErrorValue) (place : ℕ)
         → IsForkAt all place → IsShortFor host.new.host (forks_in all) (fork_pages_in all) fault
-        → IsFirstRefused all host.old.host 0 (starts_of (map settled_view inputs.entry.items)) fault place) }
+        → IsRefusedAmong all host.old.host 0 (starts_of (map settled_view inputs.entry.items)) fault place) }
     ensures differ { IfOk result (λ players. AllDiffer players.items) }
     ensures system { host.new.host.system ≡ host.old.host.system }
     ensures refusal { IfErr result (IsSlotRefusal (map (λ i. i.session) (map settled_view inputs.entry.items)) host.old.host
@@ -254,7 +254,7 @@ fn prepare_host(
         → AllAccepted all (new_host system config.entry.now.frames) (starts_of (map settled_view inputs.entry.items))) }
     ensures short { IfOk result (λ p. (all : List StartInput) (fault : OpenErrorValue) (place : ℕ)
         → IsForkAt all place → IsShortFor p.0.host (forks_in all) (fork_pages_in all) fault
-        → IsFirstRefused all (new_host system config.entry.now.frames) 0 (starts_of (map settled_view inputs.entry.items)) fault place) }
+        → IsRefusedAmong all (new_host system config.entry.now.frames) 0 (starts_of (map settled_view inputs.entry.items)) fault place) }
     ensures differ { IfOk result (λ p. AllDiffer p.1.items) }
     ensures system { IfOk result (λ p. p.0.host.system ≡ system) }
     ensures refusal { IfErr result (IsSessionsRefusal config.entry.now (new_host system config.entry.now.frames)

@@ -2,11 +2,11 @@
 ghost use Rattle.std.specs.Prelude.{◌≡◌, ◌<◌, ◌≤◌, ℕ, IfErr, IfOk, OnOk, map};
 ghost use Rattle.cpm_slots.specs.Host.{new_host};
 ghost use Rattle.cpm_store.specs.Files.{CountsFailure, WhereTold};
-ghost use Rattle.cpm_store.specs.Log.{AreWrites, LogLeadsBy, StopsAfter};
-ghost use Rattle.cpm_store.specs.Writes.{StopsAt, WritesAll, named_output};
+ghost use Rattle.cpm_store.specs.Log.{LogLeadsBy, StopsAfter};
+ghost use Rattle.cpm_store.specs.Writes.{StopsAt, named_output};
 ghost use Rattle.cpm_run.specs.Playing.{IsSessionsRefusal};
-ghost use Rattle.cpm_run.specs.Refusing.{IsDeviceFault, IsRunRefusal, IsStoppedRun, IsWriteRefusal};
-ghost use Rattle.cpm_run.specs.Run.{AllAccepted, AreReportedOf, HasAccessed, HasRun, config_fault, outputs_of, top_fault};
+ghost use Rattle.cpm_run.specs.Refusing.{IsDeviceFault, IsRunRefusal, IsWriteRefusal};
+ghost use Rattle.cpm_run.specs.Run.{AreReportedOf, HasRun, HasWrittenOutputs, config_fault, outputs_of, top_fault};
 ghost use Rattle.cpm_run.specs.Settled.{settled_view, starts_of, streams};
 ghost use Rattle.cpm_run.specs.Settling.{AreSound};
 
@@ -55,11 +55,10 @@ fn config_fault(config: &Config) -> Option<ConfigKey>
 
 /// Writes files in order, up to the first that can't be written.
 fn write_files<S: Store>(outputs: &[Output<'_>], store: &mut S) -> Result<(), RunError>
-    ensures written { OnOk result (WhereTold (S.files store.old) (S.files store.new) (WritesAll (map named_output outputs.now))) }
+    ensures written { OnOk result (HasWrittenOutputs (record { does = S.does; files = S.files }) (map named_output outputs.now) store.old store.new) }
     ensures refusal { IfErr result (λ e. (place : ℕ) × IsWriteRefusal (map named_output outputs.now) place e
         × WhereTold (S.files store.old) (S.files store.new) (StopsAt (map named_output outputs.now) place)
         × LogLeadsBy S.does (StopsAfter (map named_output outputs.now) place) store.old store.new) }
-    ensures log { OnOk result (LogLeadsBy S.does (AreWrites (map named_output outputs.now)) store.old store.new) }
     ensures device { IfErr result (λ e. IsDeviceFault e → CountsFailure (S.failed store.old) (S.failed store.new)) }
     ensures memory { IfErr result (λ e. e ≡ RunError.OutOfMemory → S.failed store.new ≡ S.failed store.old) }
     ensures uncounted { OnOk result (S.failed store.new ≡ S.failed store.old) }
@@ -91,8 +90,6 @@ fn play_inputs<'a, T: RunWatcher>(
     ensures reports { IfOk result (λ p. AreReportedOf system (map settled_view inputs.entry.items) p.0) }
     ensures outputs { IfOk result (λ p. map named_output p.1.items
         ≡ outputs_of system options.entry.records.now (map settled_view inputs.entry.items)) }
-    ensures accepted { OnOk result (AllAccepted (starts_of (map settled_view inputs.entry.items))
-        (new_host system config.entry.now.frames) (starts_of (map settled_view inputs.entry.items))) }
     ensures refusal { IfErr result (IsSessionsRefusal config.entry.now (new_host system config.entry.now.frames)
         (starts_of (map settled_view inputs.entry.items))) }
 {
@@ -129,18 +126,12 @@ pub fn run_host<'a, S: Store, P: Typist, W: Write, R: Write, T: RunWatcher>(
     record: &mut R,
     watcher: &mut T,
 ) -> Result<Report, RunError>
-    // Each session stands in its files and its report as its machine alone by its keys, whatever the turns.
-    ensures run { IfOk result (λ report. HasRun config.entry.now options.entry report
-        (streams (P.typing typist.old) (P.typing typist.new) (W.contents out.old) (W.contents out.new) (R.contents «record».old) (R.contents «record».new))
-        (S.files store.old) (S.files store.new)) }
-    ensures refusal { IfErr result (IsRunRefusal config.entry.now options.entry
-        (streams (P.typing typist.old) (P.typing typist.new) (W.contents out.old) (W.contents out.new) (R.contents «record».old) (R.contents «record».new))
-        (S.files store.old) (S.files store.new)) }
-    // So it is of a store that doesn't tell its files: by what they gave, and by the calls alone.
-    ensures log { IfOk result (λ report. HasAccessed S.does config.entry.now options.entry report
+    // Each session stands in its files and its report as its machine alone by its keys, whatever the turns. So it is of each store, by the calls that were
+    // made, and by what its files hold, where it tells that.
+    ensures run { IfOk result (λ report. HasRun (record { does = S.does; files = S.files }) config.entry.now options.entry report
         (streams (P.typing typist.old) (P.typing typist.new) (W.contents out.old) (W.contents out.new) (R.contents «record».old) (R.contents «record».new))
         store.old store.new) }
-    ensures stopped_log { IfErr result (IsStoppedRun S.does config.entry.now options.entry
+    ensures refusal { IfErr result (IsRunRefusal (record { does = S.does; files = S.files }) config.entry.now options.entry
         (streams (P.typing typist.old) (P.typing typist.new) (W.contents out.old) (W.contents out.new) (R.contents «record».old) (R.contents «record».new))
         store.old store.new) }
     ensures device { IfErr result (λ e. IsDeviceFault e → CountsFailure (S.failed store.old) (S.failed store.new)) }

@@ -1,12 +1,13 @@
 //! What each session of a run is played by: the keys of its script, or where that waits or sessions are to stop idle, those that come where it is played
 //! by itself.
-ghost use Rattle.std.specs.Prelude.{◌≡◌, ◌++◌, [], drop, IfErr, IfOk, map};
+ghost use Rattle.std.specs.Prelude.{◌≡◌, ◌++◌, [], drop, IfErr, IfOk, IfSome, map};
 ghost use Rattle.cpm_batch.specs.Inputs.{IsOpened, given, start_view, timed_keys};
 ghost use Rattle.cpm_script.specs.Cues.{all_said};
 ghost use Rattle.cpm_run.specs.Settled.{AreSettled, HasPlayedKeys, HasSettledBy, IsSettled, opened_by, part_of, said_at, settled_view, starts_of};
 ghost use Rattle.cpm_run.specs.Settled.{typed_view, typing_at};
-ghost use Rattle.cpm_run.specs.Settling.{AreFitInputs, AreReady, AreSound, AreSoundKeys, IsFitInput, IsFitPart, IsOpenable, IsPartReady, IsPartRefusal};
-ghost use Rattle.cpm_run.specs.Settling.{IsSessionReady, IsSettlingRefusal, IsSoundAfter, part_view};
+ghost use Rattle.cpm_run.specs.Run.{starts_read};
+ghost use Rattle.cpm_run.specs.Settling.{AreFitInputs, AreOpenable, AreSound, AreSoundKeys, IsFitInput, IsFitPart, IsOpenable, IsPartRefusal};
+ghost use Rattle.cpm_run.specs.Settling.{IsSettlingRefusal, IsSoundAfter, part_view};
 ghost use Rattle.std.specs.Prelude.{Some, ◌+◌, false, length, nat_le, true};
 ghost use Rattle.cpm_run.specs.Refusing.{IsLimited};
 ghost use Rattle.cpm_script.specs.Script.{most_keys};
@@ -135,7 +136,7 @@ fn settle_part<T: RunWatcher>(
 ) -> Result<(LivePlay, bool), RunError>
     requires fit { IsFitPart system.now (part_view part) }
     requires opened { IsOpened (start_view part.opened.now) }
-    requires ready { IsPartReady stops_idle (length part.before.items) (all_said part.cues) (Some (start_view part.opened.now)) }
+    requires openable { IsOpenable (start_view part.opened.now) }
     ensures settled { IfOk result (λ p. HasSettledBy system.now (part_view part.entry) stops_idle (timed_keys (all_said part.entry.cues))
         p.0.keys.items p.0.steps p.1) }
     ensures sound { IfOk result (λ p. AreSoundKeys system.now (part_view part.entry) p.0.keys.items p.0.steps) }
@@ -169,8 +170,7 @@ fn settle_session<'a, T: RunWatcher>(
 ) -> Result<SettledInput<'a>, RunError>
     requires fit { IsFitInput (typed_view typed.now) (starts_of (map settled_view settled.now)) (given input) }
     requires sound { AreSound system.now (map settled_view settled.now) }
-    requires ready { IsSessionReady options (typed_view typed.now) (said_at (typed_view typed.now) (length settled.now) (all_said input.cues))
-        (opened_by (starts_of (map settled_view settled.now)) (start_view input.start)) }
+    requires openable { IfSome (opened_by (starts_of (map settled_view settled.now)) (start_view input.start)) IsOpenable }
     ensures settled { IfOk result (λ s. IsSettled system.now options.entry.stops_idle
         (typing_at (typed_view typed.now) (length settled.now))
         (part_of (typed_view typed.now) config.now.sessions.items (map settled_view settled.now) (given input.entry)) (given input.entry) (settled_view s)) }
@@ -213,7 +213,7 @@ pub(crate) fn settle<'a, T: RunWatcher>(
     watcher: &mut T,
 ) -> Result<Vec<SettledInput<'a>>, RunError>
     requires fit { AreFitInputs (typed_view typed.now) [] (map given inputs.items) }
-    requires ready { AreReady options (typed_view typed.now) (map given inputs.items) }
+    requires openable { AreOpenable (starts_read (map given inputs.items)) }
     ensures settled { IfOk result (λ v. AreSettled system.now options.entry.stops_idle (typed_view typed.now) config.now.sessions.items []
         (map given inputs.entry.items) (map settled_view v.items)) }
     ensures sound { IfOk result (λ v. AreSound system.now (map settled_view v.items)) }

@@ -4,9 +4,9 @@ ghost use Rattle.cpm_batch.specs.Inputs.{IsOpened, start_view};
 ghost use Rattle.cpm_config.specs.Rules.{place_of};
 ghost use Rattle.cpm_play.specs.Cued.{AreAscii};
 ghost use Rattle.cpm_script.specs.Cues.{all_said};
-ghost use Rattle.cpm_run.specs.Refusing.{IsPlaceRefusal, IsTypingRefusal};
+ghost use Rattle.cpm_run.specs.Refusing.{IsPlaceRefusal, IsTypedPlace, IsTypingRefusal};
 ghost use Rattle.cpm_run.specs.Settled.{IsTypedBy, streams};
-ghost use Rattle.cpm_run.specs.Settling.{IsOpenable, IsTypedPlace};
+ghost use Rattle.cpm_run.specs.Settling.{IsOpenable};
 
 use crate::alone::machine_of;
 use crate::error::RunError;

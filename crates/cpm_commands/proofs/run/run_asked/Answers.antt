@@ -14,12 +14,12 @@ returns-in_err-report-clause-refusal g c =
       asked = record { typed = refl; idle = refl; played_back = refl; kept = _; kept_is = c.kept_script-kept.ensures; records = ap (map record_mark) c.as_slice.ensures.value ∙ c.in_ok-records.ensures ∙ ap (λ (b : Bool). record_marks b (option_map (λ n. n.now) c.args.task.now.keyboard) (zip c.args.config.now.sessions.items c.args.scripts.now)) (c.is_some.ensures ∙ sym (is_some_map (λ (n : Bor (List ℕ)). n.now) c.kept_script-kept.result)) };
       error = c.in_err-report.field-0.0;
       told = refl;
-      stopped = c.in_err-report.ensures.stopped_log;
+      stopped = c.in_err-report.ensures.refusal;
     }))
 
 pub returns-clause-ran : goal.returns-clause-ran
 returns-clause-ran g c = record {
   options = _;
   asked = record { typed = refl; idle = refl; played_back = refl; kept = _; kept_is = c.kept_script-kept.ensures; records = ap (map record_mark) c.as_slice.ensures.value ∙ c.in_ok-records.ensures ∙ ap (λ (b : Bool). record_marks b (option_map (λ n. n.now) c.args.task.now.keyboard) (zip c.args.config.now.sessions.items c.args.scripts.now)) (c.is_some.ensures ∙ sym (is_some_map (λ (n : Bor (List ℕ)). n.now) c.kept_script-kept.result)) };
-  accessed = c.in_ok-report.ensures.log;
+  ran = c.in_ok-report.ensures.run;
 }

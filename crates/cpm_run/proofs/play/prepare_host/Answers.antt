@@ -3,7 +3,8 @@ use Rattle.cpm_config.specs.declared.config.SessionConfig.{SessionConfig}
 use Rattle.cpm_slots.specs.Host.{Host}
 use Rattle.cpm_machine.specs.declared.opening.OpenError.{OpenError}
 use Rattle.cpm_run.specs.Playing.{IsSessionsRefusal, IsSlotRefusal}
-use Rattle.cpm_run.specs.Run.{AllAccepted, HasForkRoom, IsFirstRefused, IsForkAt, IsShortFor, fork_pages_in, forks_in}
+use Rattle.cpm_run.specs.Playing.{IsRefusedAmong}
+use Rattle.cpm_run.specs.Run.{AllAccepted, HasForkRoom, IsForkAt, IsShortFor, fork_pages_in, forks_in}
 use Rattle.cpm_run.proofs.play.prepare_host.Goals as goal
 use Rattle.cpm_run.specs.Settled.{settled_view, starts_of}
 use Rattle.cpm_batch.specs.Inputs.{StartInput}
@@ -18,7 +19,7 @@ pub returns-in-Ok-prepare_all-clause-short : goal.returns-in-Ok-prepare_all-clau
 returns-in-Ok-prepare_all-clause-short c =
     let inputs = map settled_view c.args.inputs.items in
     let now = c.prepare_all.new.host.host in
-    subst (λ (h : Host). (all : List StartInput) (fault : OpenError) (place : ℕ) → IsForkAt all place → IsShortFor now (forks_in all) (fork_pages_in all) fault → IsFirstRefused all h 0 (starts_of inputs) fault place) c.in-Ok.ensures.made
+    subst (λ (h : Host). (all : List StartInput) (fault : OpenError) (place : ℕ) → IsForkAt all place → IsShortFor now (forks_in all) (fork_pages_in all) fault → IsRefusedAmong all h 0 (starts_of inputs) fault place) c.in-Ok.ensures.made
     c.in-Ok-prepare_all.ensures.short
 
 pub returns-in-Ok-prepare_all-clause-system : goal.returns-in-Ok-prepare_all-clause-system

@@ -5,7 +5,7 @@ use Rattle.std.proofs.lemmas.Result.{err_from_is_err_and}
 use Rattle.cpm_batch.specs.Inputs.{given}
 use Rattle.cpm_run.specs.Settled.{settled_view, typed_view}
 use Rattle.cpm_run.specs.declared.error.RunError.TheVariants as refusal
-use Rattle.cpm_run.proofs.SettleLemmas.{all_settled, first_settled, next_ready, next_refused, next_settled, pushed_view, settled_more, settled_next}
+use Rattle.cpm_run.proofs.SettleLemmas.{all_settled, first_settled, next_openable, next_refused, next_settled, pushed_view, settled_more, settled_next}
 use Rattle.cpm_run.proofs.settle.settle.Goals as goal
 
 pub loop-input-init : goal.loop-input-init
@@ -27,13 +27,13 @@ settle_session-requires-clause-sound g c =
     c.in-Some.ensures.cases.0 c.as_slice-before.ensures.value l.invariant in
     next.sound
 
-pub settle_session-requires-clause-ready : goal.settle_session-requires-clause-ready
-settle_session-requires-clause-ready g c =
+pub settle_session-requires-clause-openable : goal.settle_session-requires-clause-openable
+settle_session-requires-clause-openable g c =
     let l = c.loop-input in
     let next = settled_next c.args.system.now c.args.options.stops_idle (typed_view c.args.typed.now) c.args.config.now.sessions.items (map given c.args.inputs.items) (into_iter_items l.rest) (into_iter_items c.next.new.self) c.in-Some.input l.settled.items c.as_slice-before.result.now
     c.in-Some.ensures.cases.0 c.as_slice-before.ensures.value l.invariant in
-    next_ready c.args.system.now c.args.options (typed_view c.args.typed.now) c.args.config.now.sessions.items (map given c.args.inputs.items) (map given (into_iter_items c.next.new.self)) (given c.in-Some.input)
-    (map settled_view c.as_slice-before.result.now) (length c.as_slice-before.result.now) next c.requires.ready
+    next_openable c.args.system.now c.args.options.stops_idle (typed_view c.args.typed.now) c.args.config.now.sessions.items (map given c.args.inputs.items) (map given (into_iter_items c.next.new.self)) (given c.in-Some.input)
+    (map settled_view c.as_slice-before.result.now) next c.requires.openable
 
 pub returns-in_err-next-clause-refusal : goal.returns-in_err-next-clause-refusal
 returns-in_err-next-clause-refusal g c =

@@ -1,30 +1,12 @@
 use Rattle.std.proofs.Common.{◌≡◌, ◌∙◌, ◌≤◌, ◌+◌, List, length, nat_le, true, ap, refl, sym, arith, rules}
 use Rattle.std.proofs.lemmas.Bool.Decides.{nat_tests}
 use Rattle.cpm_batch.specs.Inputs.{start_view}
-use Rattle.cpm_script.specs.Cues.{all_said}
 use Rattle.cpm_script.specs.Script.{most_keys}
 use Rattle.cpm_script.specs.declared.script.Key.{Key}
 use Rattle.cpm_run.specs.Settling.{part_view}
 use Rattle.cpm_run.proofs.RoomLemmas.{opening_fresh}
-use Rattle.cpm_run.proofs.SettleLemmas.{idle_openable, many_openable, waiting_openable, written_part}
-use Rattle.cpm_run.proofs.settle.settle_part.Goals.{in_default-via-in-Some+then-not-stops_idle+else-is_few, in_default-via-in-Some+else-not-stops_idle, in_default-via-in_default}
+use Rattle.cpm_run.proofs.SettleLemmas.{written_part}
 use Rattle.cpm_run.proofs.settle.settle_part.Goals as goal
-
-pub play_part-requires-clause-openable : goal.play_part-requires-clause-openable
-play_part-requires-clause-openable g c =
-    let part = c.args.part in
-    let begins = start_view part.opened.now in
-    elim c.in_default.branch [
-      | in_default-via-in-Some+then-not-stops_idle+else-is_few w ↦
-          many_openable c.args.stops_idle part.before.items part.cues.items c.as_slice.result.now c.in_ok-own.field-0 w.in-Some.own w.len.result w.len-then-not-stops_idle.result
-          w.is_few.result begins c.requires.ready c.as_slice.ensures.value c.in_ok-own.ensures.keys w.in-Some.is (search rules) (search rules)
-          w.is_few.ensures w.if-is_few.false
-      | in_default-via-in-Some+else-not-stops_idle w ↦
-          idle_openable c.args.stops_idle (length part.before.items) (all_said part.cues) begins c.requires.ready w.if-not-stops_idle.false
-      | in_default-via-in_default w ↦
-          waiting_openable c.args.stops_idle (length part.before.items) part.cues.items c.as_slice.result.now c.in_ok-own.field-0 begins c.requires.ready c.as_slice.ensures.value c.in_ok-own.ensures.keys
-          w.in_default.not-Some
-    ]
 
 pub returns-in_ok-joined-in-Some-clause-sound : goal.returns-in_ok-joined-in-Some-clause-sound
 returns-in_ok-joined-in-Some-clause-sound g c =

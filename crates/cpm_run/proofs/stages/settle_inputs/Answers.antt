@@ -1,4 +1,4 @@
-use Rattle.std.proofs.Common.{List, None, [], inl, inr, map, option_map, subst, sym}
+use Rattle.std.proofs.Common.{List, None, [], map, option_map, refl, subst, sym}
 use Rattle.std.proofs.lemmas.Result.{err_from_is_err_and}
 use Rattle.std.specs.List.{All}
 use Rattle.cpm_batch.specs.Inputs.{given}
@@ -6,14 +6,8 @@ use Rattle.cpm_batch.specs.declared.input.Input.{Input}
 use Rattle.cpm_script.specs.Laws.{KeysAreAscii}
 use Rattle.cpm_slots.specs.Host.{new_host}
 use Rattle.cpm_run.specs.Run.{starts_read}
-use Rattle.cpm_run.specs.Settling.{AreFitStarts, ArePlain}
-use Rattle.cpm_run.proofs.StageLemmas.{accepted_openable, ascii_inputs, fit_starts, none_touched, nothing_heard, settle_refused_as, typed_fit}
-use Rattle.cpm_run.proofs.stages.settle_inputs.Goals.{then-plays_alone+in_ok-judge_openings+in_ok-heard, else-plays_alone}
+use Rattle.cpm_run.proofs.StageLemmas.{accepted_openable, ascii_inputs, sessions_refused, settle_refused_as, typed_fit}
 use Rattle.cpm_run.proofs.stages.settle_inputs.Goals as goal
-
-pub judge_openings-requires-clause-fit : goal.judge_openings-requires-clause-fit
-judge_openings-requires-clause-fit g c =
-    subst (λ (xs : List Input). AreFitStarts [] (starts_read (map given xs))) (sym c.as_slice-sessions.ensures.value) (fit_starts None [] (map given c.args.inputs.items) c.requires.fit)
 
 pub type_if_any-requires-clause-ascii : goal.type_if_any-requires-clause-ascii
 type_if_any-requires-clause-ascii g c =
@@ -21,39 +15,24 @@ type_if_any-requires-clause-ascii g c =
 
 pub settle-requires-clause-fit : goal.settle-requires-clause-fit
 settle-requires-clause-fit g c =
-    let inputs = map given c.args.inputs.items in
-    elim c.if-plays_alone.branch [
-      | then-plays_alone+in_ok-judge_openings+in_ok-heard w ↦ rw (w.heard-is)
-          (typed_fit c.args.system.now c.args.config.now.sessions.items (option_map (λ n. n.now) c.args.options.typed) inputs _ _ (rw (c.as_slice-sessions.ensures.value) at w.in_ok-heard.ensures.typed) c.requires.fit)
-      | else-plays_alone w ↦ rw (w.heard-is) c.requires.fit
-    ]
+    typed_fit c.args.system.now c.args.config.now.sessions.items (option_map (λ n. n.now) c.args.options.typed) (map given c.args.inputs.items) _ _
+    (rw (c.as_slice-sessions.ensures.value) at c.in_ok-heard.ensures.typed) c.requires.fit
 
-pub settle-requires-clause-ready : goal.settle-requires-clause-ready
-settle-requires-clause-ready g c =
+pub settle-requires-clause-openable : goal.settle-requires-clause-openable
+settle-requires-clause-openable g c =
     let inputs = map given c.args.inputs.items in
-    elim c.if-plays_alone.branch [
-      | then-plays_alone+in_ok-judge_openings+in_ok-heard w ↦
-          inr (accepted_openable (starts_read inputs) (new_host c.args.system.now c.args.config.now.frames) (starts_read inputs) (rw (c.as_slice-sessions.ensures.value) at w.in_ok-judge_openings.ensures.accepted))
-      | else-plays_alone w ↦
-          let plain = c.plays_alone.ensures w.if-plays_alone.false in
-          rw (w.heard-is) (inl (subst (λ xs. ArePlain c.args.options None (map given xs)) c.as_slice-sessions.ensures.value plain.1))
-    ]
+    accepted_openable (starts_read inputs) (new_host c.args.system.now c.args.config.now.frames) (starts_read inputs)
+    ((rw (c.as_slice-sessions.ensures.value) at c.in_ok-judge_openings.ensures.accepted) c.args.system.now)
+
+pub returns-in_err-judge_openings-clause-refusal : goal.returns-in_err-judge_openings-clause-refusal
+returns-in_err-judge_openings-clause-refusal g c =
+    let p = err_from_is_err_and c.from_residual.result c.from_residual.ensures.1 in
+    rw (p.1, p.2) (sessions_refused c.args.config.now c.args.options _ c.args.system.now (map given c.args.inputs.items) c.in_err-judge_openings.field-0.0
+    (record { unread = refl; unwritten = refl; unrecorded = refl }) ((rw (c.as_slice-sessions.ensures.value) at c.in_err-judge_openings.ensures.refusal) c.args.system.now))
 
 pub returns-in_err-settled-clause-refusal : goal.returns-in_err-settled-clause-refusal
 returns-in_err-settled-clause-refusal g c =
     let p = err_from_is_err_and c.from_residual-in_err-settled.result c.from_residual-in_err-settled.ensures.1 in
-    let inputs = map given c.args.inputs.items in
-    let config = c.args.config.now in
-    let options = c.args.options in
-    let system = c.args.system.now in
-    let e = c.in_err-settled.field-0.0 in
-    rw (p.1, p.2) (elim c.if-plays_alone.branch [
-      | then-plays_alone+in_ok-judge_openings+in_ok-heard w ↦ rw (w.typist-is, w.out-is, w.record-is)
-          (settle_refused_as config options _ system inputs c.if-plays_alone.heard _ e w.heard-is (inl (rw (c.as_slice-sessions.ensures.value) at w.in_ok-judge_openings.ensures.accepted))
-          (rw (c.as_slice-sessions.ensures.value) at w.in_ok-heard.ensures.typed) c.in_err-settled.ensures.refusal)
-      | else-plays_alone w ↦
-          let plain = c.plays_alone.ensures w.if-plays_alone.false in
-          rw (w.typist-is, w.out-is, w.record-is)
-          (settle_refused_as config options _ system inputs c.if-plays_alone.heard None e w.heard-is (inr (none_touched _ _ _))
-          (nothing_heard config options _ system inputs plain.0 (none_touched _ _ _)) c.in_err-settled.ensures.refusal)
-    ])
+    rw (p.1, p.2) (settle_refused_as c.args.config.now c.args.options _ c.args.system.now (map given c.args.inputs.items) c.in_ok-heard.heard _ c.in_err-settled.field-0.0 refl
+    ((rw (c.as_slice-sessions.ensures.value) at c.in_ok-judge_openings.ensures.accepted) c.args.system.now) (rw (c.as_slice-sessions.ensures.value) at c.in_ok-heard.ensures.typed)
+    c.in_err-settled.ensures.refusal)
