@@ -15,7 +15,8 @@ ghost use Rattle.cpm_machine.specs.Opening.{opening_fault, program_fault, IsRefu
 
 use crate::opening::{OpenError, Opening};
 use crate::reply::{Closed, End, Granted, KeysFull, Look};
-use crate::saving::{self, SystemDigest};
+use crate::digest::SystemDigest;
+use crate::saving;
 use crate::steps::{self, Runner};
 use crate::{to_wait, until};
 use cpm_bdos::Session;

@@ -17,6 +17,7 @@ ghost use Rattle.cpm_machine.specs.SavingParts.{saving_of_parts};
 ghost use Rattle.cpm_machine.specs.Saving.{magic, numbers_fields, numbers_layout, processor_number, processor_of_number, restored, bytes_of_saving};
 ghost use Rattle.cpm_machine.specs.Saving.{saving_with, saving_fields, saving_layout, version};
 
+use crate::digest::SystemDigest;
 use crate::opening::MOST_DRIVES;
 use crate::reply::End;
 use crate::steps::Runner;
@@ -42,9 +43,6 @@ const COUNT_PLACE: usize = 45;
 
 /// Where the memory begins in a saving.
 const MEMORY_PLACE: usize = 54;
-
-/// A digest of a system drive, by SHA-256.
-pub type SystemDigest = [u8; 32];
 
 /// What a machine has beside its memory and its session.
 #[derive(Drop)]

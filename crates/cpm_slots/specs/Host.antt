@@ -1,8 +1,12 @@
 -- A host: its system drive, its frames, how many openings were made, and its open slots. There are no turns, tables or shared parts in it. (own)
 use Rattle.std.specs.Prelude.{⊤, ◌≡◌, Bool, ℕ, ◌+◌, ◌<◌, ◌≤◌, List, [], ◌∷◌, ◌++◌, length, map, filter, sum_by, not}
-use Rattle.std.specs.Prelude.{◌==◌, ◌||◌, nat_lt, nat_le, Option, Some, None, Result, Ok, Err, if◌then◌else◌, take}
+use Rattle.std.specs.Prelude.{◌==◌, ◌||◌, nat_eq, nat_lt, nat_le, Option, Some, None, Result, Ok, Err, if◌then◌else◌, take}
 use Rattle.cpm_geom.specs.Disk.{Disk}
+use Rattle.std.specs.Cmp.Lexicographic.{pointwise}
+use Rattle.cpm_saved.specs.declared.part.SavingDamage.{SavingDamage}
 use Rattle.cpm_machine.specs.MachineState.{MachineState, opened_machine}
+use Rattle.cpm_machine.specs.Saving.{Saving, restored, saving_with}
+use Rattle.cpm_machine.specs.SystemDigest.{system_digest}
 use Rattle.cpm_machine.specs.Opening.{opening_fault, fault_else}
 use Rattle.cpm_machine.specs.declared.opening.Opening.{Opening}
 use Rattle.cpm_machine.specs.declared.opening.OpenError.{OpenError}
@@ -13,6 +17,10 @@ use Rattle.cpm_machine.specs.declared.reply.Closed.{Closed}
 use Rattle.cpm_slots.specs.declared.event.Event.{Event}
 use Rattle.cpm_slots.specs.declared.event.ForkError.{ForkError}
 use Rattle.cpm_slots.specs.declared.event.ForkError.TheVariants as fork
+use Rattle.cpm_slots.specs.declared.event.HostRestoreError.{HostRestoreError}
+use Rattle.cpm_slots.specs.declared.event.HostRestoreError.TheVariants as restore
+use Rattle.cpm_slots.specs.declared.event.SaveError.{SaveError}
+use Rattle.cpm_slots.specs.declared.event.SaveError.TheVariants as save
 use Rattle.cpm_slots.specs.declared.event.Refusal.{Refusal}
 use Rattle.cpm_slots.specs.declared.event.Reply.{Reply}
 use Rattle.cpm_slots.specs.declared.event.Reply.TheVariants as reply
@@ -101,6 +109,46 @@ abbrev pub forked_if : Option ForkError → Host → ℕ → Host
 forked_if None h id = with_forked h (slot_at id h.slots)
 forked_if (Some fault) h id = h
 
+-- a slot's saving: its state, and the digest of the system drive (own)
+abbrev pub saving_of : Host → MachineState → Saving
+saving_of h s = saving_with (system_digest h.system) s
+
+-- a slot that is not open is not saved, and one that is only if out of memory (own)
+abbrev pub IsSaveRefusal : Option MachineState → SaveError → Type 0
+IsSaveRefusal None error = error ≡ save.NoSuchSlot
+IsSaveRefusal (Some s) error = error ≡ save.OutOfMemory
+
+-- these are the same bytes (own)
+abbrev pub are_same : List ℕ → List ℕ → Bool
+are_same xs ys = pointwise nat_eq xs ys
+
+-- why no slot goes on from a saving with this digest and this quota: it is of another system drive, no slot is free, or there are too few frames (own)
+abbrev pub system_fault : Host → (digest : List ℕ) → (quota : ℕ) → Option HostRestoreError
+system_fault h digest quota =
+    if not (are_same digest (system_digest h.system)) then Some restore.OtherSystem
+    else if lacks_slot h then Some restore.NoSlot
+    else if lacks_frames h quota then Some restore.NoFrames
+    else None
+
+-- why what was read of bytes opens no slot, memory aside: the bytes are no saving, or its system drive or the host refuses it (own)
+abbrev pub restore_fault : Host → Result Saving SavingDamage → Option HostRestoreError
+restore_fault h (Err damage) = Some (restore.Damaged damage)
+restore_fault h (Ok x) = system_fault h x.system_digest x.state.quota
+
+-- a refusal names the fault; or memory was refused, which may be before the fault is known (own)
+abbrev pub IsRestoreRefusal : Option HostRestoreError → HostRestoreError → Type 0
+IsRestoreRefusal fault restore.OutOfMemory = ⊤
+IsRestoreRefusal fault error = fault ≡ Some error
+
+-- the host with one slot more, whose whole state is that of the saving (own)
+abbrev pub with_restored : Host → Result Saving SavingDamage → Host
+with_restored h (Err damage) = h
+with_restored h (Ok x) = with_added h x.state
+
+abbrev pub restored_if : Option HostRestoreError → Host → Result Saving SavingDamage → Host
+restored_if None h read = with_restored h read
+restored_if (Some fault) h read = h
+
 -- what a slot of the host replies (own)
 abbrev pub reply_at : Host → ℕ → Ask → Reply
 reply_at h id ask = (serve_slot h.system ask (slot_at id h.slots)).reply
@@ -109,11 +157,12 @@ reply_at h id ask = (serve_slot h.system ask (slot_at id h.slots)).reply
 abbrev pub after_ask : Host → ℕ → Ask → Host
 after_ask h id ask = record h { slots = with_slot id (serve_slot h.system ask (slot_at id h.slots)).slot h.slots }
 
--- What happens to a host: an opening or a fork of a slot, for which there was memory, or something asked of a slot.
--- One that wants memory changes nothing, and so is none. (own)
+-- What happens to a host: an opening or a fork of a slot, or a restoring of one from bytes, for which there was memory, or something asked of a slot.
+-- One that wants memory changes nothing, and so is none. Nor is a saving of a slot, which changes nothing. (own)
 pub data Happening : Type 0 where
   Opens : (opening : Opening) → Happening
   Forks : (id : ℕ) → Happening
+  Restores : (bytes : List ℕ) → Happening
   Asks : (id : ℕ) → (ask : Ask) → Happening
 
 -- an event of a list that is run (own)
@@ -123,6 +172,7 @@ happening_of e = Asks e.slot.0 (ask_of e.request)
 abbrev pub after_one : Host → Happening → Host
 after_one h (Opens o) = opened_if (refusal_of h o) h o
 after_one h (Forks id) = forked_if (fork_fault h (slot_at id h.slots)) h id
+after_one h (Restores bytes) = restored_if (restore_fault h (restored bytes)) h (restored bytes)
 after_one h (Asks id ask) = after_ask h id ask
 
 -- the host after all that happened, in order (own)
@@ -138,6 +188,7 @@ pub record SlotReply : Type 0 where
 abbrev pub told_by : Host → Happening → List SlotReply
 told_by h (Opens o) = []
 told_by h (Forks id) = []
+told_by h (Restores bytes) = []
 told_by h (Asks id ask) = record { id = id; reply = reply_at h id ask } ∷ []
 
 -- all replies, in order (own)
@@ -149,10 +200,11 @@ replies_told (x ∷ xs) h = told_by h x ++ replies_told xs (after_one h x)
 abbrev pub told_of : ℕ → List SlotReply → List Reply
 told_of id ts = map (λ t. t.reply) (filter (λ t. t.id == id) ts)
 
--- what is asked of one slot; a fork of it asks nothing of it (own)
+-- what is asked of one slot; a fork of it, or a restoring of its saving, asks nothing of it (own)
 abbrev pub asked_of : ℕ → Happening → List Ask
 asked_of id (Opens o) = []
 asked_of id (Forks parent) = []
+asked_of id (Restores bytes) = []
 asked_of id (Asks named ask) = if named == id then ask ∷ [] else []
 
 -- the slot's own events, in order (own)

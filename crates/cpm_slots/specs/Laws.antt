@@ -1,5 +1,5 @@
 -- The laws of a host, for every list of what happens to it. (own)
-use Rattle.std.specs.Prelude.{◌≡◌, ◌≢◌, ℕ, ◌+◌, ◌<◌, ◌≤◌, List, [], sum_by, Option, Some, None}
+use Rattle.std.specs.Prelude.{⊤, ◌≡◌, ◌≢◌, ℕ, ◌+◌, ◌<◌, ◌≤◌, List, [], ◌∷◌, sum_by, Option, Some, None, Result, Ok, Err}
 use Rattle.cpm_geom.specs.Disk.{Disk}
 use Rattle.cpm_machine.specs.MachineState.{MachineState}
 use Rattle.cpm_machine.specs.Calls.{Grant, GrantUntil, no_account}
@@ -9,8 +9,12 @@ use Rattle.cpm_slots.specs.declared.event.Reply.TheVariants as reply
 use Rattle.cpm_slots.specs.Serving.{Ask, Calls}
 use Rattle.cpm_slots.specs.Account.{account_by, slot_after, replies_of, IsRunAlone}
 use Rattle.cpm_slots.specs.declared.event.ForkError.{ForkError}
-use Rattle.cpm_slots.specs.Host.{Host, Happening, Opens, Forks, Asks, new_host, slot_at, with_opened, opened_slot}
-use Rattle.cpm_slots.specs.Host.{fork_fault, reply_at, after_ask, after_one, host_after, replies_told, told_of, own, IsHost}
+use Rattle.cpm_slots.specs.declared.event.HostRestoreError.{HostRestoreError}
+use Rattle.cpm_slots.specs.Restoring.{IsSlotSaved}
+use Rattle.cpm_machine.specs.Saving.{Saving, restored}
+use Rattle.cpm_saved.specs.declared.part.SavingDamage.{SavingDamage}
+use Rattle.cpm_slots.specs.Host.{Host, Happening, Opens, Forks, Restores, Asks, new_host, slot_at, with_opened, opened_slot}
+use Rattle.cpm_slots.specs.Host.{fork_fault, restore_fault, reply_at, after_ask, after_one, host_after, replies_told, told_of, own, IsHost}
 use Rattle.cpm_slots.specs.Lives.{Life, NamedLife, life_of, lives}
 
 -- what is asked of one slot leaves every other
@@ -43,12 +47,32 @@ pub record HasLived (system : Disk) (all : List NamedLife) (id : ℕ) (now : Opt
   pub named : life_of id all ≡ Some life
   pub stands : StandsAlone system life.opening life.asks life.replies now
 
--- And each slot that was ever opened or forked stands so: one that was forked by the events of the slot that it was forked from,
--- up to the fork, followed by its own.
+-- what is read of the bytes of a saving comes from a life: the state in it stands alone by that
+abbrev pub ComesFrom : Disk → Life → Result Saving SavingDamage → Type 0
+ComesFrom system life (Err damage) = ⊤
+ComesFrom system life (Ok x) = StandsAlone system life.opening life.asks life.replies (Some x.state)
+
+-- each saving that is restored comes from the life that is told of its bytes
+abbrev pub AllComeFrom : Disk → (origin : List ℕ → Life) → List Happening → Type 0
+AllComeFrom system origin [] = ⊤
+AllComeFrom system origin (Opens o ∷ xs) = AllComeFrom system origin xs
+AllComeFrom system origin (Forks id ∷ xs) = AllComeFrom system origin xs
+AllComeFrom system origin (Restores bytes ∷ xs) = ComesFrom system (origin bytes) (restored bytes) × AllComeFrom system origin xs
+AllComeFrom system origin (Asks id ask ∷ xs) = AllComeFrom system origin xs
+
+-- And each slot that was ever opened, forked or restored stands so: one that was forked by the events of the slot that it was forked from,
+-- up to the fork, followed by its own; one that was restored by the events of the slot that was saved, on whatever host, up to the saving,
+-- followed by its own.
 abbrev pub EachAlone : Type 0
-EachAlone = (system : Disk) (frames : ℕ) (events : List Happening) (id : ℕ) →
+EachAlone = (system : Disk) (frames : ℕ) (events : List Happening) (origin : List ℕ → Life) (id : ℕ) →
     let h = new_host system frames in
-    id < (host_after events h).openings → HasLived system (lives events h []) id (slot_at id (host_after events h).slots)
+    AllComeFrom system origin events → id < (host_after events h).openings →
+    HasLived system (lives origin events h []) id (slot_at id (host_after events h).slots)
+
+-- And the saving of a slot that stands so comes from the slot's life, whatever host it is of.
+abbrev pub SavingsHaveLives : Type 0
+SavingsHaveLives = (system : Disk) (h : Host) (id : ℕ) (life : Life) (bytes : List ℕ) → IsSlotSaved h id bytes →
+    StandsAlone system life.opening life.asks life.replies (slot_at id h.slots) → ComesFrom system life (restored bytes)
 
 -- a slot goes on from a state by its own events alone
 pub record GoesOn (h : Host) (events : List Happening) (id : ℕ) (from : MachineState) : Type 0 where
@@ -71,6 +95,28 @@ Parting = (h : Host) (id : ℕ) (s : MachineState) (events : List Happening) →
 -- one that is refused changes nothing
 abbrev pub NoParting : Type 0
 NoParting = (h : Host) (id : ℕ) (fault : ForkError) → fork_fault h (slot_at id h.slots) ≡ Some fault → after_one h (Forks id) ≡ h
+
+-- A slot that is restored in a host, from the saving of a slot of any host over an equal system drive, has that slot's whole state, and no slot changes.
+-- Whatever happens afterwards to either host, the two slots agree on their replies and their states where they agree on their own events.
+pub record GoesOnAsSaved (g h : Host) (id : ℕ) (bytes : List ℕ) (es ds : List Happening) : Type 0 where
+  pub number : (after_one h (Restores bytes)).openings ≡ h.openings + 1
+  pub state : slot_at h.openings (after_one h (Restores bytes)).slots ≡ slot_at id g.slots
+  pub others : (other : ℕ) → other < h.openings → slot_at other (after_one h (Restores bytes)).slots ≡ slot_at other h.slots
+  pub replied : told_of id (replies_told es g) ≡ told_of h.openings (replies_told ds (after_one h (Restores bytes)))
+  pub goes : slot_at id (host_after es g).slots ≡ slot_at h.openings (host_after ds (after_one h (Restores bytes))).slots
+
+abbrev pub Restoring : Type 0
+Restoring = (g h : Host) (id : ℕ) (bytes : List ℕ) (es ds : List Happening) → IsHost g → IsHost h →
+    g.system ≡ h.system → IsSlotSaved g id bytes → restore_fault h (restored bytes) ≡ None → own id es ≡ own h.openings ds →
+    GoesOnAsSaved g h id bytes es ds
+
+-- one that is refused changes nothing
+abbrev pub NoRestoring : Type 0
+NoRestoring = (h : Host) (bytes : List ℕ) (fault : HostRestoreError) → restore_fault h (restored bytes) ≡ Some fault → after_one h (Restores bytes) ≡ h
+
+-- a fork is the restoring of a saving
+abbrev pub ForkIsRestored : Type 0
+ForkIsRestored = (h : Host) (id : ℕ) (bytes : List ℕ) → IsSlotSaved h id bytes → after_one h (Forks id) ≡ after_one h (Restores bytes)
 
 -- two hosts that agree on the system drive, on a slot of each and on its own events agree on its replies and its state: whatever other slots do,
 -- and whatever their numbers, quotas and frames are
@@ -97,6 +143,7 @@ granted_in _ = 0
 abbrev pub granted_by : Happening → ℕ
 granted_by (Opens opening) = 0
 granted_by (Forks id) = 0
+granted_by (Restores bytes) = 0
 granted_by (Asks id ask) = granted_in ask
 
 -- no more steps are executed than are granted

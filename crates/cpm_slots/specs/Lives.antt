@@ -1,15 +1,17 @@
--- The life of a slot: the opening from which it comes, and all that was asked of it and of those that it was forked from, up to each fork. (own)
+-- The life of a slot: the opening from which it comes, and all that was asked of it and of those that it was forked or restored from, up to then. (own)
 use Rattle.std.specs.Prelude.{ℕ, ◌==◌, List, [], ◌∷◌, ◌++◌, map, Option, Some, None, if◌then◌else◌}
 use Rattle.cpm_machine.specs.declared.opening.Opening.{Opening}
 use Rattle.cpm_machine.specs.declared.opening.OpenError.{OpenError}
+use Rattle.cpm_machine.specs.Saving.{restored}
 use Rattle.cpm_slots.specs.declared.event.ForkError.{ForkError}
+use Rattle.cpm_slots.specs.declared.event.HostRestoreError.{HostRestoreError}
 use Rattle.cpm_slots.specs.declared.event.Reply.{Reply}
 use Rattle.cpm_slots.specs.Serving.{Ask}
-use Rattle.cpm_slots.specs.Host.{Host, Happening, Opens, Forks, Asks, slot_at, refusal_of, fork_fault, reply_at, after_one}
+use Rattle.cpm_slots.specs.Host.{Host, Happening, Opens, Forks, Restores, Asks, slot_at, refusal_of, fork_fault, restore_fault, reply_at, after_one}
 
 pub record Life : Type 0 where
   pub opening : Opening
-  -- its own events, in order: those of the slot that it was forked from, up to the fork, then those that name it
+  -- its own events, in order: those of the slot that it was forked from, up to the fork, or that was saved, up to the saving; then those that name it
   pub asks : List Ask
   -- the reply to each
   pub replies : List Reply
@@ -46,13 +48,19 @@ abbrev pub parted_if : Option ForkError → Host → ℕ → List NamedLife → 
 parted_if None h id lives = with_life h.openings (life_of id lives) lives
 parted_if (Some fault) h id lives = lives
 
--- the lives of all slots after one thing that happened to a host
-abbrev pub lives_by : Host → Happening → List NamedLife → List NamedLife
-lives_by h (Opens o) lives = begun_if (refusal_of h o) h o lives
-lives_by h (Forks id) lives = parted_if (fork_fault h (slot_at id h.slots)) h id lives
-lives_by h (Asks id ask) lives = map (lived_by id ask (reply_at h id ask)) lives
+-- a restoring gives the new slot the life that its saving comes from
+abbrev pub continued_if : Option HostRestoreError → Host → Life → List NamedLife → List NamedLife
+continued_if None h life lives = with_life h.openings (Some life) lives
+continued_if (Some fault) h life lives = lives
+
+-- the lives of all slots after one thing that happened to a host, where it is told which life the saving of any bytes comes from
+abbrev pub lives_by : (origin : List ℕ → Life) → Host → Happening → List NamedLife → List NamedLife
+lives_by origin h (Opens o) lives = begun_if (refusal_of h o) h o lives
+lives_by origin h (Forks id) lives = parted_if (fork_fault h (slot_at id h.slots)) h id lives
+lives_by origin h (Restores bytes) lives = continued_if (restore_fault h (restored bytes)) h (origin bytes) lives
+lives_by origin h (Asks id ask) lives = map (lived_by id ask (reply_at h id ask)) lives
 
 -- and after all
-abbrev pub lives : List Happening → Host → List NamedLife → List NamedLife
-lives [] h ls = ls
-lives (x ∷ xs) h ls = lives xs (after_one h x) (lives_by h x ls)
+abbrev pub lives : (origin : List ℕ → Life) → List Happening → Host → List NamedLife → List NamedLife
+lives origin [] h ls = ls
+lives origin (x ∷ xs) h ls = lives origin xs (after_one h x) (lives_by origin h x ls)

@@ -1,7 +1,7 @@
 //! What is asked of a slot, and what it replies.
 
 use arrayvec::ArrayVec;
-use cpm_machine::{Granted, Look};
+use cpm_machine::{Granted, Look, SavingDamage};
 use thiserror::Error;
 
 /// The number of an opening, from 0. It never comes again.
@@ -71,6 +71,35 @@ pub enum ForkError {
     #[error("no slot is free")]
     NoSlot,
     /// The quotas of all open slots and of one more exceed the frames.
+    #[error("the quotas exceed the frames")]
+    NoFrames,
+    #[error("out of memory")]
+    OutOfMemory,
+}
+
+/// Why a slot is not saved.
+#[derive(Clone, Copy, Debug, PartialEq, Eq, Drop, Error)]
+pub enum SaveError {
+    /// No slot of that number is open.
+    #[error("no slot of that number is open")]
+    NoSuchSlot,
+    #[error("out of memory")]
+    OutOfMemory,
+}
+
+/// Why no slot is opened that goes on from a saving.
+#[derive(Clone, Copy, Debug, PartialEq, Eq, Drop, Error)]
+pub enum HostRestoreError {
+    /// The bytes are no saving.
+    #[error("the bytes are no saving")]
+    Damaged(SavingDamage),
+    /// It was saved over another system drive.
+    #[error("it was saved over another system drive")]
+    OtherSystem,
+    /// 64 slots are open, or no number is left.
+    #[error("no slot is free")]
+    NoSlot,
+    /// The quotas of all open slots and of this one exceed the frames.
     #[error("the quotas exceed the frames")]
     NoFrames,
     #[error("out of memory")]

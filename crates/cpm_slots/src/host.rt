@@ -22,6 +22,7 @@ use crate::slots::{
     Slot, close_at, grant_at, index_of, key_at, look_at, numbers_fit, peek_at, quotas_of, table_at,
     take_at,
 };
+use crate::system::SystemDrive;
 use cpm_bdos::Session;
 use cpm_console::{Console, Device};
 use cpm_decode::DecodeCache;
@@ -42,13 +43,13 @@ pub const LEAST_FRAMES: u16 = 16;
 /// Up to 64 sessions over one system drive. Their memories are made of frames of one store.
 #[derive(Drop)]
 pub struct Host {
-    system: Image,
+    pub(crate) system: SystemDrive,
     frames: u16,
     pub(crate) openings: u64,
     pub(crate) store: FrameStore,
     pub(crate) slots: Vec<Slot>,
     /// A copy of the memory that is worked on. What is in it between calls makes no difference to any slot.
-    scratch: FlatMemory,
+    pub(crate) scratch: FlatMemory,
 }
 
 impl Model for Host {
@@ -95,7 +96,7 @@ impl Host {
     {
         match allocate(alloc, frames) {
             Ok((store, slots, scratch)) => Ok(Host {
-                system,
+                system: SystemDrive::new(system),
                 frames,
                 openings: 0,
                 store,
@@ -198,7 +199,7 @@ impl Host {
                 &mut self.slots,
                 &mut self.store,
                 &mut self.scratch,
-                &self.system,
+                self.system.image(),
                 index,
                 steps,
                 stop,

@@ -1,6 +1,7 @@
 //! The laws of a host, as contracts.
 
-ghost use Rattle.cpm_slots.specs.Laws.{Apart, Isolation, SlotAlone, EachAlone, Parting, NoParting, TwoWorlds, Within, SlotCutting, NeverAgain, Orderly};
+ghost use Rattle.cpm_slots.specs.Laws.{Apart, Isolation, SlotAlone, EachAlone, SavingsHaveLives, Parting, NoParting, Restoring, NoRestoring, ForkIsRestored};
+ghost use Rattle.cpm_slots.specs.Laws.{TwoWorlds, Within, SlotCutting, NeverAgain, Orderly};
 
 /// What is asked of one slot leaves every other.
 pub fn apart()
@@ -19,9 +20,15 @@ pub fn alone()
 {}
 
 /// After anything that happens to a host, each slot stands alone by its life: by its opening, and its own events since; or, where it was
-/// forked, by those of the slot that it was forked from, up to the fork, and then its own.
+/// forked, by those of the slot that it was forked from, up to the fork, and then its own; or, where it was restored, by those of the slot that was
+/// saved, up to the saving, and then its own.
 pub fn each_alone()
     ensures { EachAlone }
+{}
+
+/// The saving of a slot that stands alone by a life comes from that life.
+pub fn savings_have_lives()
+    ensures { SavingsHaveLives }
 {}
 
 /// A fork adds a slot whose whole state is that of the other one, and changes no slot. Afterwards neither depends on the other's events.
@@ -32,6 +39,22 @@ pub fn parting()
 /// A fork that is refused changes nothing.
 pub fn no_parting()
     ensures { NoParting }
+{}
+
+/// A slot that is restored has the whole state of the one that was saved, on whatever host over an equal system drive, and goes on as that one by
+/// equal events. No slot changes.
+pub fn restoring()
+    ensures { Restoring }
+{}
+
+/// A restoring that is refused changes nothing.
+pub fn no_restoring()
+    ensures { NoRestoring }
+{}
+
+/// A fork is the restoring of a saving.
+pub fn fork_is_restored()
+    ensures { ForkIsRestored }
 {}
 
 /// Two hosts that agree on the system drive, on a slot of each and on its own events agree on its replies and its state.

@@ -6,9 +6,13 @@ mod fork;
 pub mod host;
 pub mod laws;
 mod run;
+mod saved;
 mod slots;
+mod system;
 
 pub use cpm_machine::{Closed, End, Granted, KeysFull, Look, Machine, OpenError, Opening, Why};
 pub use cpm_memory::MOST_FRAMES;
-pub use event::{Event, ForkError, Refusal, Reply, Request, SlotId};
+pub use event::{
+    Event, ForkError, HostRestoreError, Refusal, Reply, Request, SaveError, SlotId,
+};
 pub use host::{Host, LEAST_FRAMES, MOST_SLOTS};
