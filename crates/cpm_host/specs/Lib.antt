@@ -4,4 +4,5 @@ pub mod Laws
 pub mod Listing
 pub mod Program
 pub mod Refusals
+pub mod Saved
 pub mod Tails

@@ -9,6 +9,8 @@ mod input;
 pub mod laws;
 mod list;
 mod program;
+mod saved;
+mod start;
 mod tail;
 
 pub use asm::{ProgramListing, run_asm, run_asm_listed};
@@ -36,5 +38,7 @@ pub use cpm_store::{MemoryStore, Store, StoreError};
 pub use error::HostError;
 pub use input::{MOST_FILE, read_whole};
 pub use list::run_list;
-pub use program::{ProgramPlay, ProgramStart, Source, cues_of, recorded_cues_of, run_program};
+pub use program::{ProgramPlay, Source, cues_of, recorded_cues_of, run_program};
+pub use saved::{SavedMachine, SavingRefusal, saved_machine_of};
+pub use start::ProgramStart;
 pub use tail::tail_of;

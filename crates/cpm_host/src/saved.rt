@@ -8,9 +8,7 @@ ghost use Rattle.cpm_host.specs.Saved.{IsSavingRefusal, is_of_system, saved_if, 
 use crate::error::HostError;
 use cpm_command_line::{ShownWord, shown};
 use cpm_geom::Image;
-use cpm_machine::{
-    Machine, RestoreError, SavingDamage, SavingPart, SystemDigest, digest_of,
-};
+use cpm_machine::{Machine, RestoreError, SavingDamage, SavingPart, SystemDigest, digest_of};
 use std::alloc::{AllocError, Global};
 use std::fmt;
 
@@ -48,11 +46,20 @@ impl fmt::Display for SavingRefusal {
         let at = damage.at;
         match damage.field {
             SavingPart::Magic => write!(f, "'{name}' is no saved machine"),
-            SavingPart::Version => write!(f, "'{name}' was saved in another version of the format than 1"),
-            SavingPart::Rest => write!(f, "'{name}' has more behind the saved machine, from byte {at} on"),
+            SavingPart::Version => write!(
+                f,
+                "'{name}' was saved in another version of the format than 1"
+            ),
+            SavingPart::Rest => write!(
+                f,
+                "'{name}' has more behind the saved machine, from byte {at} on"
+            ),
             part => {
                 let part = part_name(part);
-                write!(f, "'{name}' is damaged: at byte {at} are no {part} of a saved machine")
+                write!(
+                    f,
+                    "'{name}' is damaged: at byte {at} are no {part} of a saved machine"
+                )
             }
         }
     }
@@ -89,11 +96,7 @@ fn part_name(part: SavingPart) -> &'static str {
 }
 
 /// The machine that was saved in a file of this name, by its bytes. `SavingRefused` names the part that makes them no saving.
-pub fn saved_machine_of(
-    alloc: Global,
-    name: &str,
-    bytes: &[u8],
-) -> Result<SavedMachine, HostError>
+pub fn saved_machine_of(alloc: Global, name: &str, bytes: &[u8]) -> Result<SavedMachine, HostError>
     ensures read { IfOk result (λ s. restored bytes.now ≡ Ok (saving_view s)) }
     ensures refusal { IfErr result (IsSavingRefusal name.now bytes.now) }
 {

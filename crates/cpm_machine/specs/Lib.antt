@@ -16,3 +16,4 @@ pub mod Parts
 pub mod Saving
 pub mod SavingParts
 pub mod SavingLaws
+pub mod SystemDigest

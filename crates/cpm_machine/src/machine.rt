@@ -13,17 +13,17 @@ ghost use Rattle.cpm_machine.specs.Parts.{AreNew};
 ghost use Rattle.cpm_machine.specs.Saving.{IsUnrestored, restored, bytes_of_saving, saving_with};
 ghost use Rattle.cpm_machine.specs.Opening.{opening_fault, program_fault, IsRefusal};
 
+use crate::digest::SystemDigest;
 use crate::opening::{OpenError, Opening};
 use crate::reply::{Closed, End, Granted, KeysFull, Look};
-use crate::digest::SystemDigest;
-use crate::saving;
 use crate::steps::{self, Runner};
-use crate::{to_wait, until};
+use crate::{saving, to_wait, until};
 use cpm_bdos::Session;
 use cpm_ccp::{Tail, leave_tail};
 use cpm_console::Console;
 use cpm_decode::DecodeCache;
 use cpm_drives::EntryRooms;
+use cpm_flags::Cpu;
 use cpm_geom::Image;
 use cpm_memory::layout::{COMMAND_PROCESSOR, PROGRAM, STACK};
 use cpm_memory::{FlatMemory, Memory, set_run, set_word};
@@ -252,6 +252,27 @@ impl Machine {
         ensures { result ≡ byte_at self.now.memory address }
     {
         self.memory.get(address)
+    }
+
+    /// Its processor.
+    pub fn cpu(&self) -> Cpu
+        ensures { result ≡ self.now.cpu }
+    {
+        self.runner.cpu
+    }
+
+    /// How many pages it may write, 256 for all.
+    pub fn quota(&self) -> u16
+        ensures { result ≡ self.now.quota }
+    {
+        self.runner.quota
+    }
+
+    /// Whether it was made with a program.
+    pub fn has_program(&self) -> bool
+        ensures { result ≡ self.now.with_program }
+    {
+        self.runner.with_program
     }
 
     /// The bytes of the machine, with the digest of its system drive; refused if out of memory. What is restored of them is the machine.

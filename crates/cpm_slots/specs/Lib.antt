@@ -6,3 +6,4 @@ pub mod Index
 pub mod Slots
 pub mod HostWithStore
 pub mod Laws
+pub mod Restoring

@@ -12,7 +12,5 @@ mod system;
 
 pub use cpm_machine::{Closed, End, Granted, KeysFull, Look, Machine, OpenError, Opening, Why};
 pub use cpm_memory::MOST_FRAMES;
-pub use event::{
-    Event, ForkError, HostRestoreError, Refusal, Reply, Request, SaveError, SlotId,
-};
+pub use event::{Event, ForkError, HostRestoreError, Refusal, Reply, Request, SaveError, SlotId};
 pub use host::{Host, LEAST_FRAMES, MOST_SLOTS};

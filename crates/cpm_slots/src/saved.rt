@@ -111,8 +111,11 @@ impl Host {
     }
 
     /// Opens a slot of this session and this memory.
-    fn add_restored(&mut self, runner: Runner, memory: &FlatMemory) -> Result<SlotId, HostRestoreError>
-    {
+    fn add_restored(
+        &mut self,
+        runner: Runner,
+        memory: &FlatMemory,
+    ) -> Result<SlotId, HostRestoreError> {
         if self.slots.try_reserve(1).is_err() {
             return Err(HostRestoreError::OutOfMemory);
         }
