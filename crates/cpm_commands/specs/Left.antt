@@ -28,8 +28,8 @@ pub record Texts : Type 0 where
   pub printed : Option (List ℕ)
   pub saved : Option (List ℕ)
 
-abbrev pub texts_view : LeftTexts → Texts
-texts_view t = record {
+abbrev pub left_texts_view : LeftTexts → Texts
+left_texts_view t = record {
   printed = option_map (λ v. v.items) t.printed;
   saved = option_map (λ v. v.items) t.saved;
 }

@@ -314,8 +314,8 @@ pub record HasPlayedWith {F : Type 0} (acts : ReadActs F) (task : PlayTask) (io 
   pub starts : map folder_view p.starts.items ≡ task_starts task played.g
 
 -- A program was played, and then the record of its keys was ended, and what it printed was written where a file is named for it, and the machine, and its
--- drives, or files of them, and got their names: it was not cut off, or they are written in part. It was told which files were not written, how it ended, whether it was to stop
--- where it waits, and did, and whether what it printed was dropped; and the status is given.
+-- drives, or files of them, and got their names: it was not cut off, or they are written in part. It was told which files were not written, how it ended,
+-- whether it was to stop where it waits, and did, and whether what it printed was dropped; and the status is given.
 pub record HasPlayedTask {F : Type 0} (acts : ReadActs F) (gives_names : F → Option HostError → F → Type 0) (ended : Option HostError → Type 0)
     (told : List (List ℕ × NamedFile) → Ending → (waits : Bool) → Option PlayEnd → (dropped : Bool) → Type 0) (task : PlayTask) (io : Streams)
     (old new : F) (status : ℕ) : Type 0 where

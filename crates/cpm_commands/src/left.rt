@@ -4,7 +4,7 @@ ghost use Rattle.std.specs.Vec.{vec_capacity};
 ghost use Rattle.cpm_batch.specs.Outputs.{named_image};
 ghost use Rattle.cpm_commands.specs.Files.{AreUnwritten, AreWritten};
 ghost use Rattle.cpm_commands.specs.Left.{AreFoldersUnwritten, AreFoldersWritten, HasAllLeft, IsPlayLeft, IsPlayUnleft, IsSeenUnwritten, IsSeenWritten};
-ghost use Rattle.cpm_commands.specs.Left.{drive_outputs, named_text, outputs_with, plan_of_left, texts_view};
+ghost use Rattle.cpm_commands.specs.Left.{drive_outputs, named_text, outputs_with, plan_of_left, left_texts_view};
 ghost use Rattle.cpm_commands.specs.OutFolder.{AreFoldersUnleft, HasAddedFiles, IsEven, folder_view, unwritten_view};
 ghost use Rattle.cpm_commands.specs.Plan.{plan_view};
 ghost use Rattle.cpm_store.specs.Writes.{named_output};
@@ -89,8 +89,8 @@ fn write_texts_and_drives<'a, F: CommandFiles>(
 ) -> Result<(), HostError>
     requires none { outputs.items ≡ [] }
     requires room { 6 ≤ vec_capacity outputs }
-    ensures written { OnOk result (AreWritten F.does F.gives_names (outputs_with task.now (texts_view texts) drives []) files.old files.new) }
-    ensures refusal { IfErr result (AreUnwritten F.does F.gives_names (outputs_with task.now (texts_view texts) drives []) files.old files.new) }
+    ensures written { OnOk result (AreWritten F.does F.gives_names (outputs_with task.now (left_texts_view texts) drives []) files.old files.new) }
+    ensures refusal { IfErr result (AreUnwritten F.does F.gives_names (outputs_with task.now (left_texts_view texts) drives []) files.old files.new) }
 {
     let mut outputs = outputs;
     add_text(&mut outputs, task.list, texts.printed)?;
@@ -156,7 +156,7 @@ fn all_left<F: CommandFiles>(
     drives: [Option<Image>; 4],
     files: &F,
 ) -> Result<LeftFiles, HostError>
-    ensures left { IfOk result (HasAllLeft F.lists files.now task.now (map folder_view starts.now) (texts_view texts) drives) }
+    ensures left { IfOk result (HasAllLeft F.lists files.now task.now (map folder_view starts.now) (left_texts_view texts) drives) }
     ensures refusal { IfErr result (λ e. AreFoldersUnleft F.unlists files.now (map folder_view starts.now) drives e ⊎ (e ≡ HostError.OutOfMemory)) }
 {
     let mut left = left_files(alloc, starts, drives.as_slice(), files)?;
@@ -222,10 +222,10 @@ fn write_folders<F: CommandFiles>(
 ) -> Result<Vec<UnwrittenFile>, HostError>
     ensures left { IfOk result (λ u. AreFoldersWritten
         (record { does = F.does; sees_to = F.sees_to; gives_names = F.gives_names; lists = F.lists; unlists = F.unlists })
-        task.now (map folder_view starts.now) (texts_view texts) drives files.old files.new (map unwritten_view u.items)) }
+        task.now (map folder_view starts.now) (left_texts_view texts) drives files.old files.new (map unwritten_view u.items)) }
     ensures refusal { IfErr result (AreFoldersUnwritten
         (record { does = F.does; sees_to = F.sees_to; gives_names = F.gives_names; lists = F.lists; unlists = F.unlists })
-        task.now (map folder_view starts.now) (texts_view texts) drives files.old files.new) }
+        task.now (map folder_view starts.now) (left_texts_view texts) drives files.old files.new) }
 {
     let LeftFiles {
         paths,
@@ -252,10 +252,10 @@ pub(crate) fn write_left<'a, F: CommandFiles>(
     requires room { 6 ≤ vec_capacity room }
     ensures left { IfOk result (λ u. IsPlayLeft
         (record { does = F.does; sees_to = F.sees_to; gives_names = F.gives_names; lists = F.lists; unlists = F.unlists })
-        task.now (map folder_view starts.now) (texts_view texts) drives files.old files.new (map unwritten_view u.items)) }
+        task.now (map folder_view starts.now) (left_texts_view texts) drives files.old files.new (map unwritten_view u.items)) }
     ensures refusal { IfErr result (IsPlayUnleft
         (record { does = F.does; sees_to = F.sees_to; gives_names = F.gives_names; lists = F.lists; unlists = F.unlists })
-        task.now (map folder_view starts.now) (texts_view texts) drives files.old files.new) }
+        task.now (map folder_view starts.now) (left_texts_view texts) drives files.old files.new) }
 {
     if task.out_folders.is_empty() {
         write_texts_and_drives(room, task, texts, drives, files)?;

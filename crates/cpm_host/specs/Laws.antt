@@ -21,7 +21,8 @@ pub record IsRunBy (system : Disk) (start : MachineState) (steps : ℕ) (keys : 
   pub ending : t.ending ≡ ending_of (alone_by system keys steps start)
   pub drives : t.drives ≡ images_of (alone_by system keys steps start).session.disks
 
--- A machine with no pending key and no byte that waits, that was played by a script which never waits, and doesn't stop where it is idle, did what all keys of that script say, for all its steps.
+-- A machine with no pending key and no byte that waits, which was played by a script that never waits, and doesn't stop where it is idle, did
+-- what all keys of that script say, for all its steps.
 abbrev pub PlainScriptsRunTheirKeys : Type 0
 PlainScriptsRunTheirKeys = (system : Disk) (start : MachineState) (steps : ℕ) (text : List ℕ) (keys : List Key)
     (c : CuedKeys) (t : ProgramPlay) (io : Streams) →

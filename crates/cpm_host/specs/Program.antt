@@ -111,15 +111,15 @@ abbrev pub machine_of : ProgramInput → MachineState
 machine_of g = saved_or g.saved (machine_begun g.cpu (drives_or_blank g.drives) g.program g.tail)
 
 -- a machine goes on over the system drive over which it was saved
-abbrev pub is_over : Disk → Option Saving → Bool
-is_over system None = true
-is_over system (Some x) = is_of_system x.system_digest system
+abbrev pub goes_over : Disk → Option Saving → Bool
+goes_over system None = true
+goes_over system (Some x) = is_of_system x.system_digest system
 
 -- what a machine takes
 pub record IsProgramFit (g : ProgramInput) : Type 0 where
   pub short : program_length g ≤ most_program
   pub few : length g.drives ≤ 4
-  pub over : is_over (system_disk g) g.saved ≡ true
+  pub over : goes_over (system_disk g) g.saved ≡ true
 
 -- why none is made that begins a program, or at the prompt
 abbrev pub begin_fault : Opening → Option (List ℕ) → Option OpenError
@@ -130,7 +130,7 @@ begin_fault o (Some program) = program_fault o program
 abbrev pub IsProgramRefusal : ProgramInput → HostError → Type 0
 IsProgramRefusal g (ProgramTooLong count) = (most_program < program_length g) × (count ≡ program_length g)
 IsProgramRefusal g (OpeningRefused fault) = (program_length g ≤ most_program) × (4 < length g.drives) × (fault ≡ BadDrives)
-IsProgramRefusal g SavedElsewhere = (program_length g ≤ most_program) × (length g.drives ≤ 4) × (is_over (system_disk g) g.saved ≡ false)
+IsProgramRefusal g SavedElsewhere = (program_length g ≤ most_program) × (length g.drives ≤ 4) × (goes_over (system_disk g) g.saved ≡ false)
 IsProgramRefusal g OutOfMemory = (program_length g ≤ most_program) × (length g.drives ≤ 4)
 IsProgramRefusal g _ = ⊥
 

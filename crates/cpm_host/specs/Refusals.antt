@@ -7,8 +7,8 @@ use Rattle.cpm_host.specs.declared.error.HostError.{HostError}
 use Rattle.cpm_host.specs.declared.error.HostError.TheVariants.{Usage, NotText, CheckRefused, DiskRefused, FileUnreadable}
 use Rattle.cpm_host.specs.declared.error.HostError.TheVariants.{FileUnwritable, InputUnreadable, ListUnwritable, NotAFolder}
 use Rattle.cpm_host.specs.declared.error.HostError.TheVariants.{OutputUnwritable, SourceRefused, OutOfMemory, OpeningRefused}
-use Rattle.cpm_host.specs.declared.error.HostError.TheVariants.{CutOff, NoReplay, ProgramTooLong, RecordUnwritable, ReplayedTwice, RunRefused, SavedElsewhere, SavingRefused}
-use Rattle.cpm_host.specs.declared.error.HostError.TheVariants.{TailRefused}
+use Rattle.cpm_host.specs.declared.error.HostError.TheVariants.{CutOff, NoReplay, ProgramTooLong, RecordUnwritable, ReplayedTwice, RunRefused}
+use Rattle.cpm_host.specs.declared.error.HostError.TheVariants.{SavedElsewhere, SavingRefused, TailRefused}
 use Rattle.cpm_check.specs.Check.{code_of_check}
 use Rattle.cpm_check.specs.declared.error.CheckError.{CheckError}
 use Rattle.cpm_check.specs.declared.error.CheckError.TheVariants as check

@@ -141,12 +141,12 @@ IsRestoreRefusal fault restore.OutOfMemory = ⊤
 IsRestoreRefusal fault error = fault ≡ Some error
 
 -- the host with one slot more, whose whole state is that of the saving (own)
-abbrev pub with_restored : Host → Result Saving SavingDamage → Host
-with_restored h (Err damage) = h
-with_restored h (Ok x) = with_added h x.state
+abbrev pub with_slot_restored : Host → Result Saving SavingDamage → Host
+with_slot_restored h (Err damage) = h
+with_slot_restored h (Ok x) = with_added h x.state
 
 abbrev pub restored_if : Option HostRestoreError → Host → Result Saving SavingDamage → Host
-restored_if None h read = with_restored h read
+restored_if None h read = with_slot_restored h read
 restored_if (Some fault) h read = h
 
 -- what a slot of the host replies (own)

@@ -48,7 +48,7 @@ impl From<RestoreError> for HostRestoreError {
 }
 
 impl Host {
-    ghost use Rattle.cpm_slots.specs.Host.{IsRestoreRefusal, IsSaveRefusal, restore_fault, slot_at, system_fault, with_restored};
+    ghost use Rattle.cpm_slots.specs.Host.{IsRestoreRefusal, IsSaveRefusal, restore_fault, slot_at, system_fault, with_slot_restored};
     ghost use Rattle.cpm_slots.specs.Restoring.{IsSlotSaved};
 
     /// The bytes of a slot's whole state, with the digest of the system drive. What is restored of them is that state. It is refused where no slot of
@@ -97,7 +97,7 @@ impl Host {
     /// where it was saved over another system drive, then where 64 slots are open or no number is left, then where the quotas of all open slots and this
     /// one exceed the frames; and if out of memory. Nothing is changed then.
     pub fn restore(&mut self, alloc: Global, bytes: &[u8]) -> Result<SlotId, HostRestoreError>
-        ensures restored { IfOk result (λ id. self.new.host ≡ with_restored self.old.host (restored bytes.now)) }
+        ensures restored { IfOk result (λ id. self.new.host ≡ with_slot_restored self.old.host (restored bytes.now)) }
         ensures number { IfOk result (λ id. id.0 ≡ self.old.host.openings) }
         ensures fits { IfOk result (λ id. restore_fault self.old.host (restored bytes.now) ≡ None) }
         ensures refused { IfErr result (IsRestoreRefusal (restore_fault self.old.host (restored bytes.now))) }
