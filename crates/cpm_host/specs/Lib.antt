@@ -6,3 +6,4 @@ pub mod Program
 pub mod Refusals
 pub mod Saved
 pub mod Tails
+pub mod SavedText

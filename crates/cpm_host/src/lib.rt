@@ -10,6 +10,7 @@ pub mod laws;
 mod list;
 mod program;
 mod saved;
+mod saved_text;
 mod start;
 mod tail;
 
@@ -40,5 +41,6 @@ pub use input::{MOST_FILE, read_whole};
 pub use list::run_list;
 pub use program::{ProgramPlay, Source, cues_of, recorded_cues_of, run_program};
 pub use saved::{SavedMachine, SavingRefusal, saved_machine_of};
+pub use saved_text::run_saved;
 pub use start::ProgramStart;
 pub use tail::tail_of;
