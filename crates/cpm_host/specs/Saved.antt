@@ -6,6 +6,9 @@ use Rattle.cpm_geom.specs.Disk.{Disk}
 use Rattle.cpm_machine.specs.MachineState.{MachineState}
 use Rattle.cpm_machine.specs.Saving.{Saving, bytes_of_saving, restored, saving_with}
 use Rattle.cpm_machine.specs.SystemDigest.{system_digest}
+use Rattle.cpm_saved.specs.declared.reader.RestoreError.{RestoreError}
+use Rattle.cpm_saved.specs.declared.reader.RestoreError.TheVariants.{Damaged}
+use Rattle.cpm_saved.specs.declared.reader.RestoreError.TheVariants as read
 use Rattle.cpm_store.specs.Files.{StoreName}
 use Rattle.cpm_host.specs.declared.error.HostError.{HostError}
 use Rattle.cpm_host.specs.declared.error.HostError.TheVariants.{OutOfMemory, SavingRefused}
@@ -23,6 +26,12 @@ is_of_system digest system = pointwise nat_eq digest (system_digest system)
 abbrev pub saved_if : Bool → Disk → MachineState → Option (List ℕ)
 saved_if true system s = Some (bytes_of_saving (saving_with (system_digest system) s))
 saved_if false system s = None
+
+-- what is told of a saving that is refused, in the file of this name
+abbrev pub IsSavingTold : StoreName → RestoreError → HostError → Type 0
+IsSavingTold name (Damaged damage) (SavingRefused refusal) = (refusal.name.bytes ≡ shown_of (chars name)) × (refusal.damage ≡ damage)
+IsSavingTold name (Damaged damage) _ = ⊥
+IsSavingTold name read.OutOfMemory e = e ≡ OutOfMemory
 
 -- how the bytes of a file are refused: they are no saving, for its first part that can't be read, with the name of the file as it is shown
 abbrev pub IsSavingRefusal : StoreName → (bytes : List ℕ) → HostError → Type 0

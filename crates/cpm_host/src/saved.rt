@@ -1,9 +1,9 @@
 //! Machines that were saved in files, and machines that are saved.
 
-ghost use Rattle.std.specs.Prelude.{◌≡◌, false, true, IfErr, IfOk, option_map};
+ghost use Rattle.std.specs.Prelude.{◌≡◌, false, true, IfErr, IfOk, Ok, option_map};
 ghost use Rattle.cpm_machine.specs.Saving.{restored};
 ghost use Rattle.cpm_machine.specs.SystemDigest.{system_digest};
-ghost use Rattle.cpm_host.specs.Saved.{IsSavingRefusal, is_of_system, saved_if, saving_view};
+ghost use Rattle.cpm_host.specs.Saved.{IsSavingRefusal, IsSavingTold, is_of_system, saved_if, saving_view};
 
 use crate::error::HostError;
 use cpm_command_line::{ShownWord, shown};
@@ -95,19 +95,29 @@ fn part_name(part: SavingPart) -> &'static str {
     }
 }
 
+/// The refusal of the saving in a file of this name.
+fn saving_refused(name: &str, error: RestoreError) -> HostError
+    ensures { IsSavingTold name.now error result }
+{
+    match error {
+        RestoreError::Damaged(damage) => HostError::SavingRefused(SavingRefusal {
+            name: shown(name),
+            damage,
+        }),
+        RestoreError::OutOfMemory => HostError::OutOfMemory,
+    }
+}
+
 /// The machine that was saved in a file of this name, by its bytes. `SavingRefused` names the part that makes them no saving.
 pub fn saved_machine_of(alloc: Global, name: &str, bytes: &[u8]) -> Result<SavedMachine, HostError>
     ensures read { IfOk result (λ s. restored bytes.now ≡ Ok (saving_view s)) }
     ensures refusal { IfErr result (IsSavingRefusal name.now bytes.now) }
 {
-    match Machine::restored(alloc, bytes) {
-        Ok((digest, machine)) => Ok(SavedMachine { digest, machine }),
-        Err(RestoreError::Damaged(damage)) => Err(HostError::SavingRefused(SavingRefusal {
-            name: shown(name),
-            damage,
-        })),
-        Err(RestoreError::OutOfMemory) => Err(HostError::OutOfMemory),
-    }
+    let (digest, machine) = match Machine::restored(alloc, bytes) {
+        Ok(restored) => restored,
+        Err(error) => return Err(saving_refused(name, error)),
+    };
+    Ok(SavedMachine { digest, machine })
 }
 
 /// The bytes of a machine over this system drive, if it is saved.
