@@ -1,6 +1,6 @@
 -- A program, or the prompt of CP/M, that is played by its script or typed at: what it runs with, what it shows and leaves, and when it is refused.
 -- All of it is own.
-use Rattle.std.specs.Prelude.{⊤, ◌≡◌, ◌<◌, ◌≤◌, ◌⊎◌, ℕ, Bool, true, false, List, [], ◌∷◌, length, map, chars, option_map, Option, Some, None, Ok, Err}
+use Rattle.std.specs.Prelude.{⊤, ◌≡◌, ◌<◌, ◌≤◌, ◌⊎◌, ℕ, Bool, true, false, List, [], ◌∷◌, length, map, chars, option_map, Option, Some, None, Ok, Err, Vec}
 use Rattle.std.specs.Io.KnownBytes.{Appends}
 use Rattle.std.specs.declared.alloc.Global.{Global}
 use Rattle.cpm_batch.specs.declared.error.ReadError.TheVariants as read
@@ -27,7 +27,8 @@ use Rattle.cpm_machine.specs.declared.opening.OpenError.TheVariants.{BadDrives}
 use Rattle.cpm_machine.specs.declared.opening.Opening.{Opening}
 use Rattle.cpm_play.specs.Cued.{AreAscii, HasEndedCued, IsCued, IsCutOff, key_count}
 use Rattle.cpm_play.specs.Live.{AreGiven}
-use Rattle.cpm_play.specs.Playing.{alone_by, state_left, waits_at}
+use Rattle.cpm_play.specs.Pacing.{state_left}
+use Rattle.cpm_play.specs.Playing.{alone_by, waits_at}
 use Rattle.cpm_play.specs.Sitting.{IsPlayCut, IsTypedPlay, sitting}
 use Rattle.cpm_play.specs.declared.cued.CuedKeys.{CuedKeys}
 use Rattle.cpm_play.specs.declared.live.LiveError.{LiveError}

@@ -15,14 +15,15 @@ use Rattle.cpm_machine.specs.Step.{after, is_running}
 use Rattle.cpm_machine.proofs.AloneLaws.{after-behind}
 use Rattle.cpm_machine.proofs.PressLaws.{alone-add}
 use Rattle.cpm_play.specs.Cued.{HasEndedCued, HasIdled, HasNoWait, HasExecuted, IsCued, IsCuedFrom, IsCuedUpTo, IsCutOff, IsPressCut, IsUntaken, StaysCued, key_count, last_count, runs_at, screen_at, waits_at}
-use Rattle.cpm_play.specs.Live.{IsGoing}
+use Rattle.cpm_play.specs.Live.{IsGoing, IsUnshown}
 use Rattle.cpm_play.specs.declared.live.LiveError.{LiveError}
 use Rattle.cpm_play.specs.declared.live.LiveError.TheVariants.{Unreadable, Unwritable, Unprinted, Unrecorded, OutOfMemory}
 use Rattle.cpm_play.specs.Output.{OutputState}
 use Rattle.cpm_play.specs.Playing.{presses_of, alone_by}
 use Rattle.cpm_play.proofs.AloneLemmas.{after-ended}
-use Rattle.cpm_play.proofs.GoingLemmas.{going-come, going-list, going-screen, going-text, going-turn, none-after}
+use Rattle.cpm_play.proofs.GoingLemmas.{going-come, going-list, going-screen, going-start, going-text, going-turn, none-after}
 use Rattle.cpm_play.proofs.RunLemmas.{waits-bare, waits-behind}
+use Rattle.cpm_play.proofs.TextLemmas.{appends_none}
 
 -- ---- keys
 
@@ -156,6 +157,48 @@ pub cued-whole : (system : Disk) (start : MachineState) (steps done waits_from :
 cued-whole system start steps done waits_from cues keys within cued =
     let all : min steps (steps + 1) ≡ steps = omega arith in
     subst (λ n. IsCuedFrom system start steps n waits_from [] 0 0 cues keys) all (cued steps within (omega arith))
+
+-- output that was not given on was not taken
+unshown-untaken : (old now : MachineState) (before written : OutputState) (e : LiveError) → IsUnshown old before written e → IsUntaken old now before written e
+unshown-untaken old now before written (Unreadable e) cut = cut
+unshown-untaken old now before written (Unrecorded e) cut = cut
+unshown-untaken old now before written (Unwritable e) cut = cut
+unshown-untaken old now before written (Unprinted e) cut = cut
+unshown-untaken old now before written OutOfMemory cut = absurd cut
+
+-- before the first key and step, where what waits at the start is not taken
+module _ (system : Disk) (steps waits_from : ℕ) (cues : List Cue) (start next : MachineState) (before written : OutputState) (record_now : Option (List ℕ)) where
+  none-cued : IsCuedUpTo system start steps 0 waits_from cues []
+  none-cued = cued-stops system start 0 (min steps (0 + 1)) waits_from [] 0 0 cues (omega arith)
+
+  pub start-cut : (e : LiveError) → IsUntaken start next before written e → IsCutOff system steps waits_from cues start next before written record_now record_now e
+  unfolding going-come
+  start-cut (Unreadable e) cut = cut
+  start-cut (Unrecorded e) cut = absurd cut
+  start-cut (Unwritable e) cut = (
+    [],
+    record { text = record { done = 0; within = omega arith; given = record { typed = tt; come = tt; few = omega arith }; text = cut }; cued = none-cued },
+    appends_none record_now,
+  )
+  start-cut (Unprinted e) cut = (
+    [],
+    record {
+      list = record { done = 0; within = omega arith; given = record { typed = tt; come = tt; few = omega arith }; list = cut.0; text = cut.1 };
+      cued = none-cued;
+    },
+    appends_none record_now,
+  )
+  start-cut OutOfMemory cut = (
+    [],
+    record {
+      come = going-come system steps (key_count cues) start next before written record_now record_now [] 0 (going-start system steps (key_count cues) start next before written record_now cut);
+      cued = none-cued;
+    },
+    appends_none record_now,
+  )
+
+  pub start-unshown : (e : LiveError) → IsUnshown start before written e → IsCutOff system steps waits_from cues start next before written record_now record_now e
+  start-unshown e cut = start-cut e (unshown-untaken start next before written e cut)
 
 module _ {system : Disk} {steps : ℕ} (waits_from : ℕ) (cues : List Cue) {start now : MachineState} {before written : OutputState} {unrecorded record_now : Option (List ℕ)} {keys : List Key} {done : ℕ}
     (going : IsGoing system steps (key_count cues) start now before written unrecorded record_now keys done) where

@@ -14,10 +14,10 @@ use Rattle.cpm_machine.specs.Serve.{look_of, takes_key}
 use Rattle.cpm_machine.specs.Step.{after, is_running}
 use Rattle.cpm_machine.proofs.GrantLaws.{after-add}
 use Rattle.cpm_machine.proofs.PressLaws.{alone-pressed}
-use Rattle.cpm_play.specs.Cued.{AreAscii, Comes, HasIdled, HasMissed, HasNoWait, HasPressed, HasShown, IsBusyFrom, IsCuedFrom, IsCuedUpTo, IsCueMet, StaysCued, key_count, known_to, last_count, looks_back, runs_at, screen_at, waits_at}
+use Rattle.cpm_play.specs.Cued.{AreAscii, Comes, HasIdled, HasMissed, HasNoWait, HasPressed, HasShown, IsBusyFrom, IsCuedFrom, IsCuedUpTo, IsCueMet, IsOutputTaken, StaysCued, key_count, known_to, last_count, looks_back, runs_at, screen_at, waits_at}
 use Rattle.cpm_play.specs.Live.{IsGoing}
 use Rattle.cpm_play.specs.Output.{OutputState}
-use Rattle.cpm_play.specs.Playing.{presses_of, alone_by, IsFresh}
+use Rattle.cpm_play.specs.Playing.{presses_of, alone_by}
 use Rattle.cpm_play.specs.Shown.{HasGrown, IsAwaited, IsKeptOrFound, StandsFor}
 use Rattle.cpm_play.specs.declared.shown.Shown.{Shown}
 use Rattle.cpm_play.proofs.AloneLemmas.{after-ended, presses-more}
@@ -81,16 +81,18 @@ pub record IsFollowing (system : Disk) (start : MachineState) (steps waits_from 
   pub ascii : AreAscii rest
   pub room : length keys + key_count rest ≤ most
 
-pub follow-start : (system : Disk) (start : MachineState) (steps waits_from : ℕ) (cues : List Cue) (written : OutputState) (record_now : Option (List ℕ)) (keys : List Key) (shown : Shown) → IsFresh start → AreAscii cues → keys ≡ [] → StandsFor shown [] → shown.cues.now ≡ cues →
-    IsFollowing system start steps waits_from (key_count cues) cues start written written record_now record_now keys 0 cues shown
-follow-start system start steps waits_from cues written record_now keys shown fresh ascii none nothing same =
-    let P : List Key → Type 0 = λ ks. IsFollowing system start steps waits_from (key_count cues) cues start written written record_now record_now ks 0 cues shown in
+-- what waited at the start is taken, and kept if it is looked for
+pub follow-start : (system : Disk) (start now : MachineState) (steps waits_from : ℕ) (cues : List Cue) (before written : OutputState) (record_now : Option (List ℕ)) (keys : List Key) (first shown : Shown) →
+    IsOutputTaken start now before written → AreAscii cues → keys ≡ [] → StandsFor first [] → first.cues.now ≡ cues → (looks_back cues ≡ true → HasGrown first shown start.session.console.screen) →
+    IsFollowing system start steps waits_from (key_count cues) cues now before written record_now record_now keys 0 cues shown
+follow-start system start now steps waits_from cues before written record_now keys first shown taken ascii none nothing same kept =
+    let P : List Key → Type 0 = λ ks. IsFollowing system start steps waits_from (key_count cues) cues now before written record_now record_now ks 0 cues shown in
     subst P (sym none) (record {
-      going = going-start system steps (key_count cues) start written record_now fresh;
+      going = going-start system steps (key_count cues) start now before written record_now taken;
       mark = 0;
       marked = omega arith;
       cued = λ until low high ks is. is;
-      kept = λ looks. (subst (StandsFor shown) (sym fresh.screen) nothing, λ text awaited. subst (IsAwaited text) (sym same) awaited);
+      kept = λ looks. ((kept looks).shown [] nothing, λ text awaited. subst (IsAwaited text) (sym ((kept looks).cues ∙ same)) awaited);
       busy = λ i low high. absurd (omega arith);
       ascii = ascii;
       room = omega arith;

@@ -7,18 +7,19 @@ use Rattle.cpm_geom.specs.Disk.{Disk}
 use Rattle.cpm_script.specs.Recording.{AreTyped, key_line, recorded}
 use Rattle.cpm_script.specs.declared.script.Key.{Key}
 use Rattle.cpm_machine.specs.Alone.{due, alone}
+use Rattle.cpm_machine.specs.Calls.{state_behind}
 use Rattle.cpm_machine.specs.MachineState.{MachineState}
 use Rattle.cpm_machine.specs.Serve.{keyed, look_of}
 use Rattle.cpm_machine.specs.Step.{after}
 use Rattle.cpm_machine.proofs.AloneLaws.{after-behind}
 use Rattle.cpm_machine.proofs.PressLaws.{alone-add, alone-pressed, with_keys-nil}
-use Rattle.cpm_play.specs.Cued.{waits_at}
+use Rattle.cpm_play.specs.Cued.{IsOutputTaken, waits_at}
 use Rattle.cpm_play.specs.Live.{AreBy, AreGiven, HadList, HadText, HasCome, HasGone, IsGoing}
 use Rattle.cpm_play.specs.Output.{GetsOutput, OutputState}
-use Rattle.cpm_play.specs.Pacing.{without_list, without_text}
-use Rattle.cpm_play.specs.Playing.{presses_of, alone_by, EndsAs, HasList, HasText, IsFresh, IsQuiet}
+use Rattle.cpm_play.specs.Pacing.{state_left, without_list, without_text}
+use Rattle.cpm_play.specs.Playing.{presses_of, alone_by, EndsAs, HasList, HasText, IsQuiet}
 use Rattle.cpm_play.proofs.AloneLemmas.{presses-more}
-use Rattle.cpm_play.proofs.RunLemmas.{waits-behind}
+use Rattle.cpm_play.proofs.RunLemmas.{bare, behind-bare, quiet-bare, quiet-taken, waits-behind}
 use Rattle.cpm_play.proofs.TextLemmas.{appends_more, appends_none, both_empty}
 
 -- ---- keys
@@ -80,14 +81,20 @@ gone-taken system start keys done console list now gone = record {
   typed = gone.typed;
 }
 
-pub going-start : (system : Disk) (steps most : ℕ) (start : MachineState) (written : OutputState) (record_now : Option (List ℕ)) → IsFresh start → IsGoing system steps most start start written written record_now record_now [] 0
-going-start system steps most start written record_now fresh = record {
-  console = [];
-  list = [];
-  gone = record { state = sym (with_keys-nil start); come = tt; typed = tt };
-  shown = appends_none written.console;
-  printed = appends_none written.list;
-  quiet = record { screen = fresh.screen; printer = fresh.printer };
+-- before the first key, once what waited at the start is taken
+pub going-start : (system : Disk) (steps most : ℕ) (start now : MachineState) (before written : OutputState) (record_now : Option (List ℕ)) → IsOutputTaken start now before written →
+    IsGoing system steps most start now before written record_now record_now [] 0
+going-start system steps most start now before written record_now taken = record {
+  console = start.session.console.screen;
+  list = start.session.console.printer;
+  gone = record {
+    state = ap (state_behind start.session.console.screen start.session.console.printer) taken.state ∙ behind-bare start ∙ sym (with_keys-nil start);
+    come = tt;
+    typed = tt;
+  };
+  shown = taken.output.text;
+  printed = taken.output.list;
+  quiet = quiet-taken start now before written taken;
   within = omega arith;
   few = omega arith;
   noted = appends_none record_now;
@@ -193,6 +200,9 @@ module _ (system : Disk) (steps most : ℕ) (start now : MachineState) (before w
     memory = ap (λ (s : MachineState). s.memory) going.gone.state;
     disks = ap (λ (s : MachineState). s.session.disks) going.gone.state;
   }
+
+  pub going-left : now ≡ state_left system keys done start
+  going-left = quiet-bare now going.quiet ∙ ap bare going.gone.state
 
   -- it waits for a key exactly where that one does
   pub going-waiting : (look_of now).waiting ≡ waits_at system start keys done

@@ -31,10 +31,14 @@ use Rattle.cpm_play.proofs.TextLemmas.{appends_more, appends_none, both_empty}
 abbrev pub bare : MachineState → MachineState
 bare s = without_list (without_text s)
 
-behind-bare : (s : MachineState) → state_behind s.session.console.screen s.session.console.printer (bare s) ≡ s
+pub behind-bare : (s : MachineState) → state_behind s.session.console.screen s.session.console.printer (bare s) ≡ s
 behind-bare s =
     ap₂ (λ (xs ys : List ℕ). record s { session = record s.session { console = record s.session.console { screen = xs; printer = ys } } })
     (append-nil s.session.console.screen) (append-nil s.session.console.printer)
+
+-- where none waits to be taken, it is that
+pub quiet-bare : (s : MachineState) → IsQuiet s → s ≡ bare s
+quiet-bare s quiet = ap₂ (λ (xs ys : List ℕ). record s { session = record s.session { console = record s.session.console { screen = xs; printer = ys } } }) quiet.screen quiet.printer
 
 pub quiet-taken : (old now : MachineState) (before written : OutputState) → IsOutputTaken old now before written → IsQuiet now
 quiet-taken old now before written taken = record {
@@ -46,7 +50,7 @@ quiet-taken old now before written taken = record {
 
 pub run-none : (system : Disk) (s : MachineState) (written : OutputState) → IsQuiet s → HasExecuted system 0 s s written written
 run-none system s written quiet = record {
-  state = ap₂ (λ (xs ys : List ℕ). record s { session = record s.session { console = record s.session.console { screen = xs; printer = ys } } }) quiet.screen quiet.printer;
+  state = quiet-bare s quiet;
   output = record {
     text = subst (λ xs. Appends written.console written.console xs) (sym quiet.screen) (appends_none written.console);
     list = subst (λ xs. Appends written.list written.list xs) (sym quiet.printer) (appends_none written.list);

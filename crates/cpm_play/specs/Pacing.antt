@@ -7,7 +7,7 @@ use Rattle.cpm_machine.specs.Calls.{state_behind}
 use Rattle.cpm_machine.specs.MachineState.{MachineState}
 use Rattle.cpm_machine.specs.Step.{is_running}
 use Rattle.cpm_play.specs.declared.pace.Pace.{Pace}
-use Rattle.cpm_play.specs.Playing.{presses_of, IsInOrder}
+use Rattle.cpm_play.specs.Playing.{alone_by, presses_of, IsInOrder}
 
 -- before the first turn
 abbrev pub first_pace : ℕ → Pace
@@ -56,3 +56,7 @@ without_text s = record s { session = record s.session { console = record s.sess
 
 abbrev pub without_list : MachineState → MachineState
 without_list s = record s { session = record s.session { console = record s.session.console { printer = [] } } }
+
+-- the machine run alone by these keys for so many steps, whose output was all taken
+abbrev pub state_left : Disk → List Key → ℕ → MachineState → MachineState
+state_left system keys steps start = without_list (without_text (alone_by system keys steps start))

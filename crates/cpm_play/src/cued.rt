@@ -10,7 +10,8 @@ ghost use Rattle.cpm_play.specs.Cued.{IsCued, IsCutOff, IsIdleCut, IsPressCut, I
 ghost use Rattle.cpm_play.specs.Cued.{looks_back, waits_at};
 ghost use Rattle.cpm_play.specs.Live.{AreGiven, IsGoing};
 ghost use Rattle.cpm_play.specs.Output.{output_state};
-ghost use Rattle.cpm_play.specs.Playing.{EndsAs, HaveRoom, IsFresh, IsQuiet, alone_by};
+ghost use Rattle.cpm_play.specs.Pacing.{state_left};
+ghost use Rattle.cpm_play.specs.Playing.{EndsAs, HaveRoom, IsQuiet, alone_by};
 ghost use Rattle.cpm_play.specs.Shown.{HasGrown, IsKeptOrFound};
 ghost use Rattle.cpm_play.specs.Typist.{HasAttended, is_over};
 
@@ -217,7 +218,7 @@ impl LivePlay {
     }
 }
 
-/// Plays a machine by a script as far as its keys come, or until the attendant breaks in.
+/// Plays a machine by a script as far as its keys come, or until the attendant breaks in. What waits to be taken is shown first.
 pub(crate) fn follow<W: Write, L: Write, S: Write, A: Attendant>(
     alloc: Global,
     system: &Image,
@@ -229,7 +230,6 @@ pub(crate) fn follow<W: Write, L: Write, S: Write, A: Attendant>(
     record: &mut S,
     attendant: &mut A,
 ) -> Result<LivePlay, LiveError>
-    requires fresh { IsFresh machine.old }
     requires ascii { AreAscii cued.cues.now }
     ensures going { IfOk result (λ live. IsGoing system.now steps (key_count cued.entry.cues.now) machine.old machine.new
         (output_state (W.contents out.old) (L.contents list.old)) (output_state (W.contents out.new) (L.contents list.new))
@@ -248,6 +248,8 @@ pub(crate) fn follow<W: Write, L: Write, S: Write, A: Attendant>(
         steps: 0,
     };
     let mut shown = Shown::new(alloc, cued.cues);
+    show_kept(machine, looks_back(cued.cues), &mut shown, out, list)?;
+    let waits_from = cued.waits_from;
     let mut rest = cued.cues;
     while let Some((cue, after)) = rest.split_first() {
         let keeps = looks_back(rest);
@@ -257,15 +259,7 @@ pub(crate) fn follow<W: Write, L: Write, S: Write, A: Attendant>(
             Cue::Press(byte) => (live.steps, *byte),
             Cue::Wait(text) => {
                 live.idle(
-                    system,
-                    machine,
-                    steps,
-                    cued.waits_from,
-                    keeps,
-                    &mut shown,
-                    out,
-                    list,
-                    attendant,
+                    system, machine, steps, waits_from, keeps, &mut shown, out, list, attendant,
                 )?;
                 if attendant.is_over() {
                     return Ok(live);
@@ -287,8 +281,8 @@ pub(crate) fn follow<W: Write, L: Write, S: Write, A: Attendant>(
     Ok(live)
 }
 
-/// Plays one machine by a script that may wait, for at most so many steps. Its console bytes go to `out` and its list bytes to `list`, as they come. A key for
-/// which there is no room, where 4,096 are pending, is the end of the script, as one that comes past the machine's end.
+/// Plays one machine by a script that may wait, for at most so many steps. Its console bytes go to `out` and its list bytes to `list`, as they come. What waits
+/// to be taken is shown first. A key for which there is no room, where 4,096 are pending, is the end of the script, as one that comes past the machine's end.
 ///
 /// Each key is written to `record` as a line of a key script: by that script the machine shows and does the same again. The watcher is told after each turn how
 /// far it has come.
@@ -303,7 +297,6 @@ pub fn play_cues<W: Write, L: Write, S: Write, T: Watcher>(
     record: &mut S,
     watcher: &mut T,
 ) -> Result<LivePlay, LiveError>
-    requires fresh { IsFresh machine.old }
     requires ascii { AreAscii cued.cues.now }
     ensures within { IfOk result (λ live. live.steps ≤ steps) }
     ensures keys { IfOk result (λ live. IsCued system.now machine.old steps cued.entry.waits_from cued.entry.cues.now live.keys.items) }
@@ -314,6 +307,7 @@ pub fn play_cues<W: Write, L: Write, S: Write, T: Watcher>(
     ensures list { IfOk result (λ live. Appends (L.contents list.old) (L.contents list.new)
         (alone_by system.now live.keys.items live.steps machine.old).session.console.printer) }
     ensures ending { IfOk result (λ live. EndsAs (alone_by system.now live.keys.items live.steps machine.old) machine.new) }
+    ensures state { IfOk result (λ live. machine.new ≡ state_left system.now live.keys.items live.steps machine.old) }
     ensures record { IfOk result (λ live. Appends (S.contents record.old) (S.contents record.new) (recorded live.keys.items)) }
     ensures ends { IfOk result (λ live. HasEndedCued system.now machine.old steps cued.entry.waits_from cued.entry.stops_idle
         live.keys.items live.steps machine.new) }

@@ -8,8 +8,8 @@ ghost use Rattle.cpm_machine.specs.Step.{after, is_running};
 ghost use Rattle.cpm_play.specs.Cued.{AreAscii, IsCutOff, StaysCued, key_count, known_to};
 ghost use Rattle.cpm_play.specs.Live.{AreGiven, IsGoing, IsNotGiven, IsUnreadable, IsUnshown};
 ghost use Rattle.cpm_play.specs.Output.{GetsOutput, output_state};
-ghost use Rattle.cpm_play.specs.Pacing.{without_list, without_text};
-ghost use Rattle.cpm_play.specs.Playing.{EndsAs, IsFresh, IsQuiet, alone_by, waits_at};
+ghost use Rattle.cpm_play.specs.Pacing.{state_left, without_list, without_text};
+ghost use Rattle.cpm_play.specs.Playing.{EndsAs, IsQuiet, alone_by, waits_at};
 ghost use Rattle.cpm_play.specs.Sitting.{IsTypedPlay, IsPlayCut, sitting};
 ghost use Rattle.cpm_play.specs.Typist.{CanBeHeard, HasAttended, HasHeardNothing, IsHeard, IsHeardPatiently, is_over};
 ghost use Rattle.cpm_play.specs.Wanting.{HasWatched, longest_turn};
@@ -183,7 +183,8 @@ fn turn(
     }
 }
 
-/// Plays a machine by a script, as far as its keys come or until the typist breaks in. Where it says nothing, nothing is done.
+/// Plays a machine by a script, as far as its keys come or until the typist breaks in. What waits to be taken is shown first. Where the script says nothing,
+/// nothing else is done.
 fn play_script<T: Typist, W: Write, L: Write, S: Write>(
     alloc: Global,
     system: &Image,
@@ -195,7 +196,6 @@ fn play_script<T: Typist, W: Write, L: Write, S: Write>(
     list: &mut L,
     record: &mut S,
 ) -> Result<LivePlay, LiveError>
-    requires fresh { IsFresh machine.old }
     requires ascii { AreAscii cues.now }
     ensures going { IfOk result (λ live. IsGoing system.now steps (key_count cues.entry.now) machine.old machine.new
         (output_state (W.contents out.old) (L.contents list.old)) (output_state (W.contents out.new) (L.contents list.new))
@@ -209,6 +209,7 @@ fn play_script<T: Typist, W: Write, L: Write, S: Write>(
         (S.contents record.old) (S.contents record.new)) }
 {
     if cues.is_empty() {
+        show(machine, out, list)?;
         return Ok(LivePlay {
             keys: Vec::new(alloc),
             steps: 0,
@@ -225,7 +226,7 @@ fn play_script<T: Typist, W: Write, L: Write, S: Write>(
 }
 
 /// Plays one machine for at most so many steps, by what a script says and then by the keys that are typed. Its console bytes go to `out` and its list bytes to
-/// `list`, as they come. A typist that isn't patient may break in on the script: then it is asked from there on.
+/// `list`, as they come. What waits to be taken is shown first. A typist that isn't patient may break in on the script: then it is asked from there on.
 ///
 /// The typist is asked after each turn. Each key is pressed at the count where the machine then stands, and written to `record` as a line of a key script: by
 /// these lines the machine shows and does the same again. A machine that waits for a key executes no step before it comes.
@@ -242,7 +243,6 @@ pub fn play_live<T: Typist, W: Write, L: Write, S: Write>(
     list: &mut L,
     record: &mut S,
 ) -> Result<TypedPlay, LiveError>
-    requires fresh { IsFresh machine.old }
     requires ascii { AreAscii cues.now }
     ensures within { IfOk result (λ play. play.live.steps ≤ steps) }
     ensures keys { IfOk result (λ play. AreGiven (length play.live.keys.items) play.live.steps play.live.keys.items) }
@@ -253,6 +253,7 @@ pub fn play_live<T: Typist, W: Write, L: Write, S: Write>(
     ensures list { IfOk result (λ play. Appends (L.contents list.old) (L.contents list.new)
         (alone_by system.now play.live.keys.items play.live.steps machine.old).session.console.printer) }
     ensures ending { IfOk result (λ play. EndsAs (alone_by system.now play.live.keys.items play.live.steps machine.old) machine.new) }
+    ensures state { IfOk result (λ play. machine.new ≡ state_left system.now play.live.keys.items play.live.steps machine.old) }
     ensures record { IfOk result (λ play. Appends (S.contents record.old) (S.contents record.new) (recorded play.live.keys.items)) }
     ensures waits { IfOk result (λ play. (look_of machine.new).waiting ≡ waits_at system.now machine.old play.live.keys.items play.live.steps) }
     ensures refused { IfErr result (IsPlayCut (sitting (T.typing typist.old).is_patient system.now machine.old steps cues.entry.now) machine.new

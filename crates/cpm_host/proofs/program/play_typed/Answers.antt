@@ -1,4 +1,4 @@
-use Rattle.std.proofs.Common.{refl, rules}
+use Rattle.std.proofs.Common.{inl, refl, rules}
 use Rattle.std.proofs.lemmas.Result.{err_from_is_err_and}
 use Rattle.cpm_script.specs.Recording.{recorded}
 use Rattle.cpm_host.proofs.program.play_typed.Goals as goal
@@ -6,7 +6,7 @@ use Rattle.cpm_host.proofs.program.play_typed.Goals as goal
 pub returns-in_err-play-clause-refusal : goal.returns-in_err-play-clause-refusal
 returns-in_err-play-clause-refusal g c =
     let p = err_from_is_err_and c.from_residual.result c.from_residual.ensures.1 in
-    rw (p.1, p.2) (record { error = c.in_err-play.field-0.0; told = refl; now = c.play_live.new.machine; short = c.in_err-play.ensures.refused })
+    rw (p.1, p.2) (inl (record { error = c.in_err-play.field-0.0; told = refl; now = c.play_live.new.machine; short = c.in_err-play.ensures.refused }))
 
 pub returns-clause-played : goal.returns-clause-played
 returns-clause-played g c =

@@ -6,17 +6,24 @@ use Rattle.cpm_play.specs.Cued.{looks_back}
 use Rattle.cpm_play.specs.Output.{output_state}
 use Rattle.cpm_play.specs.Typist.{is_over}
 use Rattle.cpm_play.proofs.AttendedLemmas.{attended-more, attended-none}
-use Rattle.cpm_play.proofs.CuedLemmas.{going-cut, going-press-cut}
+use Rattle.cpm_play.proofs.CuedLemmas.{going-cut, going-press-cut, start-cut}
 use Rattle.cpm_play.proofs.FollowLemmas.{at-key, at-wait, follow-end, follow-found, follow-pressed, follow-start, key-comes, key-cued, missed-busy, missed-cued, missed-going, over-cued, past-cued, unfound-cued, wait-busy, wait-cued, wait-going}
 use Rattle.cpm_play.proofs.cued.follow.Goals.{in-Key, in-Press, else-live-steps-via-then-live-steps+else-has_met, else-live-steps-via-else-live-steps}
 use Rattle.cpm_play.proofs.cued.follow.Goals as goal
 
 pub loop-cue-init : goal.loop-cue-init
 loop-cue-init g c = (
-  follow-start c.args.system.now c.args.machine.now c.args.steps c.args.cued.waits_from c.args.cued.cues.now (output_state (g.W.Write.contents c.args.out.now) (g.L.Write.contents c.args.list.now)) (g.S.Write.contents c.args.record.now) c.new.result.items c.new-shown.result
-      c.requires.fresh c.requires.ascii c.new.ensures.items c.new-shown.ensures.nothing c.new-shown.ensures.cues,
+  follow-start c.args.system.now c.args.machine.now c.show_kept.new.machine c.args.steps c.args.cued.waits_from c.args.cued.cues.now (output_state (g.W.Write.contents c.args.out.now) (g.L.Write.contents c.args.list.now)) (output_state (g.W.Write.contents c.show_kept.new.out) (g.L.Write.contents c.show_kept.new.list))
+      (g.S.Write.contents c.args.record.now) c.new.result.items c.new-shown.result c.show_kept.new.shown
+      c.in_ok-show_kept.ensures.taken c.requires.ascii c.new.ensures.items c.new-shown.ensures.nothing c.new-shown.ensures.cues (λ looks. c.in_ok-show_kept.ensures.kept (c.looks_back.ensures ∙ looks)),
   attended-none (g.A.Attendant.attending c.args.attendant.now),
 )
+
+pub returns-in_err-show_kept-clause-refused : goal.returns-in_err-show_kept-clause-refused
+returns-in_err-show_kept-clause-refused g c =
+    let p = err_from_is_err_and c.from_residual.result c.from_residual.ensures.1 in
+    rw (p.1, p.2) (start-cut c.args.system.now c.args.steps c.args.cued.waits_from c.args.cued.cues.now c.args.machine.now c.show_kept.new.machine (output_state (g.W.Write.contents c.args.out.now) (g.L.Write.contents c.args.list.now)) (output_state (g.W.Write.contents c.show_kept.new.out) (g.L.Write.contents c.show_kept.new.list))
+    (g.S.Write.contents c.args.record.now) c.in_err-show_kept.field-0.0 c.in_err-show_kept.ensures.refused)
 
 pub press-requires-clause-ascii : goal.press-requires-clause-ascii
 press-requires-clause-ascii g c =
@@ -102,7 +109,7 @@ idle-requires-clause-within g c =
 
 pub returns-in_err-idle-in-Wait-clause-refused : goal.returns-in_err-idle-in-Wait-clause-refused
 returns-in_err-idle-in-Wait-clause-refused g c =
-    let p = err_from_is_err_and c.from_residual.result c.from_residual.ensures.1 in
+    let p = err_from_is_err_and c.from_residual-in_err-idle-in-Wait.result c.from_residual-in_err-idle-in-Wait.ensures.1 in
     let following = at-wait c.in-Some.cue.now c.in-Wait.text c.loop-cue.rest.now c.in-Some.after.now c.loop-cue.live.keys.items c.in-Some.ensures.cases.0 c.in-Wait.is refl c.loop-cue.invariant.0 in
     let cut = c.in_err-idle-in-Wait.ensures.refused in
     let fits = cut.1 in

@@ -2,7 +2,7 @@ use Rattle.std.proofs.Common.{inl, inr, arith, refl}
 use Rattle.std.proofs.lemmas.Result.{err_from_is_err_and}
 use Rattle.cpm_play.specs.Output.{output_state}
 use Rattle.cpm_play.proofs.CuedLemmas.{cued-whole, going-cut, idle-ends, idle-going}
-use Rattle.cpm_play.proofs.GoingLemmas.{going-ending, going-given, going-printed, going-shown, going-waiting}
+use Rattle.cpm_play.proofs.GoingLemmas.{going-ending, going-given, going-left, going-printed, going-shown, going-waiting}
 use Rattle.cpm_play.proofs.RoomLemmas.{cued-room}
 use Rattle.cpm_play.proofs.cued.play_cues.Goals.{then-cued, else-cued}
 use Rattle.cpm_play.proofs.cued.play_cues.Goals as goal
@@ -49,6 +49,11 @@ pub returns-clause-ending : goal.returns-clause-ending
 returns-clause-ending g c =
     let went = idle-going c.in_ok-live.ensures.going c.in_ok-idle.ensures.idled c.idle.new.self.keys.items c.idle.ensures.still c.in_ok-idle.ensures.within in
     going-ending _ _ _ _ _ _ _ _ _ _ _ went
+
+pub returns-clause-state : goal.returns-clause-state
+returns-clause-state g c =
+    let went = idle-going c.in_ok-live.ensures.going c.in_ok-idle.ensures.idled c.idle.new.self.keys.items c.idle.ensures.still c.in_ok-idle.ensures.within in
+    going-left _ _ _ _ _ _ _ _ _ _ _ went
 
 pub returns-clause-record : goal.returns-clause-record
 returns-clause-record g c =

@@ -5,7 +5,7 @@ use Rattle.cpm_play.specs.Output.{output_state}
 use Rattle.cpm_play.specs.Sitting.{sitting}
 use Rattle.cpm_play.specs.Typist.{IsHeard}
 use Rattle.cpm_play.specs.declared.typist.Heard.TheVariants as heard
-use Rattle.cpm_play.proofs.GoingLemmas.{going-ending, going-given, going-printed, going-shown, going-waiting}
+use Rattle.cpm_play.proofs.GoingLemmas.{going-ending, going-given, going-left, going-printed, going-shown, going-waiting}
 use Rattle.cpm_play.proofs.LiveLemmas.{listened-failed, listened-still, live-done, live-ended, live-key, live-not-given, live-quit, live-start, live-still, live-turn, live-unheard, live-unshown, live-watched, fewer-asks, is-wanted, not-wanted, patient-wanted, room-used, takes-first}
 use Rattle.cpm_play.proofs.WantingLemmas.{busy-here, idle-here, none-here, wanted-here}
 use Rattle.cpm_play.proofs.live.play_live.Goals as goal
@@ -133,6 +133,9 @@ returns-in-End-clause-list g c = going-printed _ _ _ _ _ _ _ _ _ _ _ c.loop-live
 pub returns-in-End-clause-ending : goal.returns-in-End-clause-ending
 returns-in-End-clause-ending g c = going-ending _ _ _ _ _ _ _ _ _ _ _ c.loop-live.invariant.0.going
 
+pub returns-in-End-clause-state : goal.returns-in-End-clause-state
+returns-in-End-clause-state g c = going-left _ _ _ _ _ _ _ _ _ _ _ c.loop-live.invariant.0.going
+
 pub returns-in-End-clause-record : goal.returns-in-End-clause-record
 returns-in-End-clause-record g c = c.loop-live.invariant.0.going.noted
 
@@ -150,6 +153,9 @@ returns-clause-list g c = going-printed _ _ _ _ _ _ _ _ _ _ _ c.loop-live.invari
 
 pub returns-clause-ending : goal.returns-clause-ending
 returns-clause-ending g c = going-ending _ _ _ _ _ _ _ _ _ _ _ c.loop-live.invariant.0.going
+
+pub returns-clause-state : goal.returns-clause-state
+returns-clause-state g c = going-left _ _ _ _ _ _ _ _ _ _ _ c.loop-live.invariant.0.going
 
 pub returns-clause-record : goal.returns-clause-record
 returns-clause-record g c = c.loop-live.invariant.0.going.noted
@@ -171,6 +177,12 @@ returns-then-executed-eq0-clause-ending g c =
     let still : c.turn-executed.new.machine ≡ c.loop-live.machine =
     c.turn-executed.ensures.state ∙ ap (λ k. after c.args.system.now k c.loop-live.machine) c.if-executed-eq0.true in
     rw still (going-ending _ _ _ _ _ _ _ _ _ _ _ c.loop-live.invariant.0.going)
+
+pub returns-then-executed-eq0-clause-state : goal.returns-then-executed-eq0-clause-state
+returns-then-executed-eq0-clause-state g c =
+    let still : c.turn-executed.new.machine ≡ c.loop-live.machine =
+    c.turn-executed.ensures.state ∙ ap (λ k. after c.args.system.now k c.loop-live.machine) c.if-executed-eq0.true in
+    still ∙ going-left _ _ _ _ _ _ _ _ _ _ _ c.loop-live.invariant.0.going
 
 pub returns-then-executed-eq0-clause-record : goal.returns-then-executed-eq0-clause-record
 returns-then-executed-eq0-clause-record g c = c.loop-live.invariant.0.going.noted
