@@ -1,14 +1,18 @@
 -- What happens to a host, event by event, is to each slot its own events alone.
-use Rattle.std.proofs.Common.{◌≡◌, ◌≢◌, ℕ, ◌<◌, ◌≤◌, true, false, ◌==◌, List, [], ◌∷◌, ◌++◌, map, Option, Some, None, refl, sym, ap, ◌∙◌, arith, subst, if◌then◌else◌}
+use Rattle.std.proofs.Common.{◌≡◌, ◌≢◌, ℕ, ◌<◌, ◌≤◌, true, false, ◌==◌, List, [], ◌∷◌, ◌++◌, map, Option, Some, None, Ok, Err, refl, sym, ap, ◌∙◌, arith, subst, if◌then◌else◌}
+use Rattle.std.specs.Prelude.{Result}
 use Rattle.std.proofs.lemmas.Bool.Decides.{nat_tests}
 use Rattle.std.proofs.lemmas.Bool.{eqb-true}
 use Rattle.cpm_geom.specs.Disk.{Disk}
+use Rattle.cpm_saved.specs.declared.part.SavingDamage.{SavingDamage}
 use Rattle.cpm_machine.specs.MachineState.{MachineState}
+use Rattle.cpm_machine.specs.Saving.{Saving, restored}
 use Rattle.cpm_slots.specs.declared.event.Event.{Event}
 use Rattle.cpm_slots.specs.Serving.{Ask, ask_of, serve_slot}
 use Rattle.cpm_slots.specs.Account.{slot_after, replies_of}
 use Rattle.cpm_slots.specs.declared.event.ForkError.{ForkError}
-use Rattle.cpm_slots.specs.Host.{Host, Happening, Opens, Forks, Asks, SlotReply, opened_slot, refusal_of, opened_if, fork_fault, forked_if, with_forked, with_added, slot_at, after_ask, after_one, host_after, told_by, replies_told, told_of, asked_of, own, happening_of, AllBelow}
+use Rattle.cpm_slots.specs.declared.event.HostRestoreError.{HostRestoreError}
+use Rattle.cpm_slots.specs.Host.{Host, Happening, Opens, Forks, Restores, Asks, SlotReply, opened_slot, refusal_of, opened_if, fork_fault, forked_if, with_forked, restore_fault, restored_if, with_added, slot_at, after_ask, after_one, host_after, told_by, replies_told, told_of, asked_of, own, happening_of, AllBelow}
 use Rattle.cpm_slots.proofs.SlotLaws.{slot_at-other, slot_at-same, slot_at-added, AllBelow-added, AllBelow-with}
 
 pub apart : (h : Host) (id other : ℕ) (ask : Ask) → other ≢ id → slot_at other (after_ask h id ask).slots ≡ slot_at other h.slots
@@ -23,6 +27,15 @@ forked-cases h id (Some s) None P at e same more = subst (λ x. P (with_forked h
 pub forked-is : (h : Host) (id : ℕ) (P : Host → Type 0) → P h → ((s : MachineState) → slot_at id h.slots ≡ Some s → fork_fault h (Some s) ≡ None → P (with_added h s)) → P (after_one h (Forks id))
 forked-is h id P same more = forked-cases h id (slot_at id h.slots) (fork_fault h (slot_at id h.slots)) P refl refl same more
 
+-- and so does a restoring
+restored-cases : (h : Host) (bytes : List ℕ) (read : Result Saving SavingDamage) (r : Option HostRestoreError) (P : Host → Type 0) → restored bytes ≡ read → restore_fault h read ≡ r → P h → ((x : Saving) → restored bytes ≡ Ok x → restore_fault h (Ok x) ≡ None → P (with_added h x.state)) → P (restored_if r h read)
+restored-cases h bytes read (Some fault) P at e same more = same
+restored-cases h bytes (Err damage) None P at e same more = same
+restored-cases h bytes (Ok x) None P at e same more = more x at e
+
+pub restored-is : (h : Host) (bytes : List ℕ) (P : Host → Type 0) → P h → ((x : Saving) → restored bytes ≡ Ok x → restore_fault h (Ok x) ≡ None → P (with_added h x.state)) → P (after_one h (Restores bytes))
+restored-is h bytes P same more = restored-cases h bytes (restored bytes) (restore_fault h (restored bytes)) P refl refl same more
+
 -- a slot that is added leaves the others
 pub added-slot : (id : ℕ) (h : Host) (s : MachineState) → id < h.openings → slot_at id (with_added h s).slots ≡ slot_at id h.slots
 added-slot id h s below = slot_at-added id (record { id = h.openings; state = s }) h.slots below
@@ -30,11 +43,13 @@ added-slot id h s below = slot_at-added id (record { id = h.openings; state = s 
 pub after_one-system : (h : Host) (x : Happening) → (after_one h x).system ≡ h.system
 after_one-system h (Opens o) = elim (refusal_of h o) as (λ r. (opened_if r h o).system ≡ h.system) [ None ↦ refl | Some fault ↦ refl ]
 after_one-system h (Forks id) = forked-is h id (λ g. g.system ≡ h.system) refl (λ s at e. refl)
+after_one-system h (Restores bytes) = restored-is h bytes (λ g. g.system ≡ h.system) refl (λ x at e. refl)
 after_one-system h (Asks id ask) = refl
 
 pub after_one-openings : (h : Host) (x : Happening) → h.openings ≤ (after_one h x).openings
 after_one-openings h (Opens o) = elim (refusal_of h o) as (λ r. h.openings ≤ (opened_if r h o).openings) [ None ↦ omega arith | Some fault ↦ omega arith ]
 after_one-openings h (Forks id) = forked-is h id (λ g. h.openings ≤ g.openings) (omega arith) (λ s at e. omega arith)
+after_one-openings h (Restores bytes) = restored-is h bytes (λ g. h.openings ≤ g.openings) (omega arith) (λ x at e. omega arith)
 after_one-openings h (Asks id ask) = omega arith
 
 -- what is asked leaves of the slot what it leaves if the slot was asked, and all of it else
@@ -51,12 +66,14 @@ after_one-slot id h (Opens o) below =
     elim (refusal_of h o) as (λ r. slot_at id (opened_if r h o).slots ≡ slot_at id h.slots)
     [ None ↦ added-slot id h (opened_slot o) below | Some fault ↦ refl ]
 after_one-slot id h (Forks parent) below = forked-is h parent (λ g. slot_at id g.slots ≡ slot_at id h.slots) refl (λ s at e. added-slot id h s below)
+after_one-slot id h (Restores bytes) below = restored-is h bytes (λ g. slot_at id g.slots ≡ slot_at id h.slots) refl (λ x at e. added-slot id h x.state below)
 after_one-slot id h (Asks named ask) below = asked-slot id h named ask
 
 -- and tells it what its own events are replied
 told_by-slot : (id : ℕ) (h : Host) (x : Happening) → told_of id (told_by h x) ≡ replies_of h.system (asked_of id x) (slot_at id h.slots)
 told_by-slot id h (Opens o) = refl
 told_by-slot id h (Forks parent) = refl
+told_by-slot id h (Restores bytes) = refl
 told_by-slot id h (Asks named ask) =
     elim (named == id) as (λ b. (named == id) ≡ b → told_of id (told_by h (Asks named ask)) ≡ replies_of h.system (if b then ask ∷ [] else []) (slot_at id h.slots)) [
       | true ↦ (λ e. rw e (ap (λ i. (serve_slot h.system ask (slot_at i h.slots)).reply ∷ []) (eqb-true named id e)))
@@ -90,6 +107,14 @@ told-after id (x ∷ xs) h below =
     rw (told_of-append id (told_by h x) (replies_told xs (after_one h x)), told-after id xs (after_one h x) (omega arith), told_by-slot id h x, after_one-system h x, after_one-slot id h x below)
     (sym (replies_of-append h.system (asked_of id x) (own id xs) (slot_at id h.slots)))
 
+-- two hosts that agree on the system drive, on a slot of each and on its own events
+pub two-worlds : (h g : Host) (i j : ℕ) (es ds : List Happening) → i < h.openings → j < g.openings → h.system ≡ g.system → slot_at i h.slots ≡ slot_at j g.slots → own i es ≡ own j ds →
+    (told_of i (replies_told es h) ≡ told_of j (replies_told ds g)) × (slot_at i (host_after es h).slots ≡ slot_at j (host_after ds g).slots)
+two-worlds h g i j es ds hi gj system slot asks = (
+  told-after i es h hi ∙ rw (system, slot, asks) (sym (told-after j ds g gj)),
+  slot-after i es h hi ∙ rw (system, slot, asks) (sym (slot-after j ds g gj)),
+)
+
 pub system-after : (events : List Happening) (h : Host) → (host_after events h).system ≡ h.system
 system-after [] h = refl
 system-after (x ∷ xs) h = system-after xs (after_one h x) ∙ after_one-system h x
@@ -99,6 +124,7 @@ AllBelow-one h (Opens o) b =
     elim (refusal_of h o) as (λ r. AllBelow (opened_if r h o).openings (opened_if r h o).slots)
     [ None ↦ AllBelow-added h.openings (opened_slot o) h.slots b | Some fault ↦ b ]
 AllBelow-one h (Forks id) b = forked-is h id (λ g. AllBelow g.openings g.slots) b (λ s at e. AllBelow-added h.openings s h.slots b)
+AllBelow-one h (Restores bytes) b = restored-is h bytes (λ g. AllBelow g.openings g.slots) b (λ x at e. AllBelow-added h.openings x.state h.slots b)
 AllBelow-one h (Asks id ask) b = AllBelow-with h.openings id (serve_slot h.system ask (slot_at id h.slots)).slot h.slots b
 
 pub AllBelow-after : (events : List Happening) (h : Host) → AllBelow h.openings h.slots → AllBelow (host_after events h).openings (host_after events h).slots

@@ -4,6 +4,7 @@ pub mod OrderLaws
 pub mod AccountLaws
 pub mod OpeningLaws
 pub mod LifeLaws
+pub mod RestoredLaws
 pub mod CutLaws
 pub mod TableLaws
 pub mod FitSlots
@@ -16,6 +17,7 @@ pub mod OpenIndexes
 pub mod OpenSlots
 pub mod OpenHost
 pub mod ForkHost
+pub mod RestoreHost
 pub mod CloseSlots
 pub mod WithinLaws
 pub mod CloseHost

@@ -1,20 +1,24 @@
--- Each slot stands alone by its life, and a fork parts two lives.
-use Rattle.std.proofs.Common.{◌≡◌, ℕ, ◌+◌, ◌<◌, ◌≤◌, true, false, ◌==◌, List, [], ◌∷◌, ◌++◌, map, Option, Some, None, refl, sym, ap, ◌∙◌, arith, ⊎_elim, subst}
+-- Each slot stands alone by its life, a fork parts two lives, and a restoring goes on with one.
+use Rattle.std.proofs.Common.{◌≡◌, ℕ, ◌+◌, ◌<◌, ◌≤◌, true, false, ◌==◌, List, [], ◌∷◌, ◌++◌, map, Option, Some, None, Ok, Err, refl, sym, ap, ◌∙◌, arith, ⊎_elim, subst}
+use Rattle.std.specs.Prelude.{Result}
 use Rattle.std.proofs.lemmas.Bool.Decides.{nat_tests}
 use Rattle.std.proofs.lemmas.Bool.{cases_lt, eqb-true}
 use Rattle.cpm_geom.specs.Disk.{Disk}
+use Rattle.cpm_saved.specs.declared.part.SavingDamage.{SavingDamage}
 use Rattle.cpm_machine.specs.MachineState.{MachineState}
+use Rattle.cpm_machine.specs.Saving.{Saving, restored}
 use Rattle.cpm_machine.specs.Calls.{no_account}
 use Rattle.cpm_machine.specs.declared.opening.OpenError.{OpenError}
 use Rattle.cpm_machine.specs.declared.opening.Opening.{Opening}
 use Rattle.cpm_slots.specs.declared.event.ForkError.{ForkError}
+use Rattle.cpm_slots.specs.declared.event.HostRestoreError.{HostRestoreError}
 use Rattle.cpm_slots.specs.declared.event.Reply.{Reply}
 use Rattle.cpm_slots.specs.Serving.{Ask, serve_slot}
 use Rattle.cpm_slots.specs.Account.{account_by, slot_after, replies_of, IsRunAlone}
-use Rattle.cpm_slots.specs.Host.{Host, Happening, Opens, Forks, Asks, new_host, opened_slot, refusal_of, opened_if, fork_fault, forked_if, with_forked, with_added, slot_at, reply_at, after_ask, after_one, host_after, own, AllBelow, IsHost}
-use Rattle.cpm_slots.specs.Lives.{Life, NamedLife, life_of, with_life, lived_on, lived_by, begun_if, parted_if, lives_by, lives}
-use Rattle.cpm_slots.specs.Laws.{HasLived, GoesOn, PartsSlot}
-use Rattle.cpm_slots.proofs.SlotLaws.{slot_at-past, slot_at-new, slot_at-same, AllBelow-added, AllBelow-with}
+use Rattle.cpm_slots.specs.Host.{Host, Happening, Opens, Forks, Restores, Asks, new_host, opened_slot, refusal_of, opened_if, fork_fault, forked_if, with_forked, restore_fault, restored_if, with_added, slot_at, reply_at, after_ask, after_one, host_after, own, AllBelow, IsHost}
+use Rattle.cpm_slots.specs.Lives.{Life, NamedLife, life_of, with_life, lived_on, lived_by, begun_if, parted_if, continued_if, lives_by, lives}
+use Rattle.cpm_slots.specs.Laws.{HasLived, ComesFrom, AllComeFrom, GoesOn, PartsSlot}
+use Rattle.cpm_slots.proofs.SlotLaws.{open-below, slot_at-new, slot_at-same, AllBelow-added, AllBelow-with}
 use Rattle.cpm_slots.proofs.EventLaws.{apart, added-slot, slot-after, told-after, slot_after-append, replies_of-append}
 use Rattle.cpm_slots.proofs.AccountLaws.{alone-asked}
 
@@ -90,21 +94,23 @@ lived-opened system h all o (Some fault) k = k
 -- the slot that is forked is open, so it was added, and has a life
 lived-parted : (system : Disk) (h : Host) (all : List NamedLife) (id : ℕ) (s : MachineState) → HaveLived system h all → slot_at id h.slots ≡ Some s → HaveLived system (with_added h s) (with_life h.openings (life_of id all) all)
 lived-parted system h all id s k at =
-    ⊎_elim
-    (λ (g : id < h.openings).
-    let left = k.each id g in
-    subst (λ o. HaveLived system (with_added h s) (with_life h.openings o all)) (sym left.named) (lived-added system h all s left.life k (sym at ∙ left.state) left.replied))
-    (λ g. let none = slot_at-past h.openings id h.slots k.below g in absurd cc)
-    (cases_lt id h.openings)
+    let left = k.each id (open-below h.openings id s h.slots k.below at) in
+    subst (λ o. HaveLived system (with_added h s) (with_life h.openings o all)) (sym left.named) (lived-added system h all s left.life k (sym at ∙ left.state) left.replied)
 
 lived-forked : (system : Disk) (h : Host) (all : List NamedLife) (id : ℕ) (o : Option MachineState) (r : Option ForkError) → slot_at id h.slots ≡ o → fork_fault h o ≡ r → HaveLived system h all → HaveLived system (forked_if r h id) (parted_if r h id all)
 lived-forked system h all id o (Some fault) at e k = k
 lived-forked system h all id None None at e k = cc
 lived-forked system h all id (Some s) None at e k = subst (λ x. HaveLived system (with_forked h x) (with_life h.openings (life_of id all) all)) (sym at) (lived-parted system h all id s k at)
 
+-- the state of a saving is left by the life that it comes from
+lived-restored : (system : Disk) (h : Host) (all : List NamedLife) (life : Life) (read : Result Saving SavingDamage) (r : Option HostRestoreError) → restore_fault h read ≡ r → ComesFrom system life read → HaveLived system h all → HaveLived system (restored_if r h read) (continued_if r h life all)
+lived-restored system h all life read (Some fault) e from k = k
+lived-restored system h all life (Err damage) None e from k = cc
+lived-restored system h all life (Ok x) None e from k = lived-added system h all x.state life k from.left from.replied
+
 -- ---- what is asked of a slot goes on its life
 
-left-asked : (system : Disk) (h : Host) (all : List NamedLife) (id : ℕ) (ask : Ask) → h.system ≡ system → IsLeft system all id (slot_at id h.slots) → IsLeft system (lives_by h (Asks id ask) all) id (slot_at id (after_ask h id ask).slots)
+left-asked : (system : Disk) (h : Host) (all : List NamedLife) (id : ℕ) (ask : Ask) → h.system ≡ system → IsLeft system all id (slot_at id h.slots) → IsLeft system (map (lived_by id ask (reply_at h id ask)) all) id (slot_at id (after_ask h id ask).slots)
 left-asked system h all id ask drive k =
     let life = k.life in
     let start = Some (opened_slot life.opening) in
@@ -120,14 +126,14 @@ left-asked system h all id ask drive k =
           ∙ sym (replies_of-append system life.asks (ask ∷ []) start);
     }
 
-left-one : (system : Disk) (h : Host) (all : List NamedLife) (id named : ℕ) (ask : Ask) → HaveLived system h all → id < h.openings → IsLeft system (lives_by h (Asks named ask) all) id (slot_at id (after_ask h named ask).slots)
+left-one : (system : Disk) (h : Host) (all : List NamedLife) (id named : ℕ) (ask : Ask) → HaveLived system h all → id < h.openings → IsLeft system (map (lived_by named ask (reply_at h named ask)) all) id (slot_at id (after_ask h named ask).slots)
 left-one system h all id named ask k l =
-    elim (named == id) as (λ b. (named == id) ≡ b → IsLeft system (lives_by h (Asks named ask) all) id (slot_at id (after_ask h named ask).slots)) [
-      | true ↦ (λ e. subst (λ i. IsLeft system (lives_by h (Asks i ask) all) id (slot_at id (after_ask h i ask).slots)) (sym (eqb-true named id e)) (left-asked system h all id ask k.drive (k.each id l)))
-      | false ↦ (λ e. left-same system all (lives_by h (Asks named ask) all) id (slot_at id h.slots) (slot_at id (after_ask h named ask).slots) (life_of-other id named ask (reply_at h named ask) all e) (apart h named id ask (grind (arith, nat_tests))) (k.each id l))
+    elim (named == id) as (λ b. (named == id) ≡ b → IsLeft system (map (lived_by named ask (reply_at h named ask)) all) id (slot_at id (after_ask h named ask).slots)) [
+      | true ↦ (λ e. subst (λ i. IsLeft system (map (lived_by i ask (reply_at h i ask)) all) id (slot_at id (after_ask h i ask).slots)) (sym (eqb-true named id e)) (left-asked system h all id ask k.drive (k.each id l)))
+      | false ↦ (λ e. left-same system all (map (lived_by named ask (reply_at h named ask)) all) id (slot_at id h.slots) (slot_at id (after_ask h named ask).slots) (life_of-other id named ask (reply_at h named ask) all e) (apart h named id ask (grind (arith, nat_tests))) (k.each id l))
     ] refl
 
-lived-asked : (system : Disk) (h : Host) (all : List NamedLife) (named : ℕ) (ask : Ask) → HaveLived system h all → HaveLived system (after_ask h named ask) (lives_by h (Asks named ask) all)
+lived-asked : (system : Disk) (h : Host) (all : List NamedLife) (named : ℕ) (ask : Ask) → HaveLived system h all → HaveLived system (after_ask h named ask) (map (lived_by named ask (reply_at h named ask)) all)
 lived-asked system h all named ask k = record {
   drive = k.drive;
   below = AllBelow-with h.openings named (serve_slot h.system ask (slot_at named h.slots)).slot h.slots k.below;
@@ -137,14 +143,18 @@ lived-asked system h all named ask k = record {
 
 -- ---- after all that happened
 
-lived-one : (system : Disk) (h : Host) (all : List NamedLife) (x : Happening) → HaveLived system h all → HaveLived system (after_one h x) (lives_by h x all)
-lived-one system h all (Opens o) k = lived-opened system h all o (refusal_of h o) k
-lived-one system h all (Forks id) k = lived-forked system h all id (slot_at id h.slots) (fork_fault h (slot_at id h.slots)) refl refl k
-lived-one system h all (Asks id ask) k = lived-asked system h all id ask k
-
-lived-after : (system : Disk) (events : List Happening) (h : Host) (all : List NamedLife) → HaveLived system h all → HaveLived system (host_after events h) (lives events h all)
-lived-after system [] h all k = k
-lived-after system (x ∷ xs) h all k = lived-after system xs (after_one h x) (lives_by h x all) (lived-one system h all x k)
+lived-after : (system : Disk) (origin : List ℕ → Life) (events : List Happening) (h : Host) (all : List NamedLife) → AllComeFrom system origin events → HaveLived system h all → HaveLived system (host_after events h) (lives origin events h all)
+lived-after system origin [] h all from k = k
+lived-after system origin (Opens o ∷ xs) h all from k =
+    lived-after system origin xs (after_one h (Opens o)) (lives_by origin h (Opens o) all) from (lived-opened system h all o (refusal_of h o) k)
+lived-after system origin (Forks id ∷ xs) h all from k =
+    lived-after system origin xs (after_one h (Forks id)) (lives_by origin h (Forks id) all) from
+    (lived-forked system h all id (slot_at id h.slots) (fork_fault h (slot_at id h.slots)) refl refl k)
+lived-after system origin (Restores bytes ∷ xs) h all from k =
+    lived-after system origin xs (after_one h (Restores bytes)) (lives_by origin h (Restores bytes) all) from.1
+    (lived-restored system h all (origin bytes) (restored bytes) (restore_fault h (restored bytes)) refl from.0 k)
+lived-after system origin (Asks id ask ∷ xs) h all from k =
+    lived-after system origin xs (after_one h (Asks id ask)) (lives_by origin h (Asks id ask) all) from (lived-asked system h all id ask k)
 
 -- so it stands alone by it
 left-alone : (system : Disk) (all : List NamedLife) (id : ℕ) (now : Option MachineState) → IsLeft system all id now → HasLived system all id now
@@ -154,15 +164,15 @@ left-alone system all id now k =
     let alone : IsRunAlone system start (account_by no_account life.asks life.replies) now =
     subst (λ rs. IsRunAlone system start (account_by no_account life.asks rs) now) (sym k.replied)
     (subst (IsRunAlone system start (account_by no_account life.asks (replies_of system life.asks (Some start)))) (sym k.state) (alone-asked system life.asks start)) in
-    record { life = life; named = k.named; stands = record { replied = k.replied; state = alone } }
+    record { life = life; named = k.named; stands = record { replied = k.replied; left = k.state; state = alone } }
 
-pub each-alone : (system : Disk) (frames : ℕ) (events : List Happening) (id : ℕ) →
+pub each-alone : (system : Disk) (frames : ℕ) (events : List Happening) (origin : List ℕ → Life) (id : ℕ) →
     let h = new_host system frames in
-    id < (host_after events h).openings → HasLived system (lives events h []) id (slot_at id (host_after events h).slots)
-each-alone system frames events id l =
+    AllComeFrom system origin events → id < (host_after events h).openings → HasLived system (lives origin events h []) id (slot_at id (host_after events h).slots)
+each-alone system frames events origin id from l =
     let h = new_host system frames in
-    let lived = lived-after system events h [] (record { drive = refl; below = tt; others = λ i past. refl; each = λ i none. absurd (omega arith) }) in
-    left-alone system (lives events h []) id (slot_at id (host_after events h).slots) (lived.each id l)
+    let lived = lived-after system origin events h [] from (record { drive = refl; below = tt; others = λ i past. refl; each = λ i none. absurd (omega arith) }) in
+    left-alone system (lives origin events h []) id (slot_at id (host_after events h).slots) (lived.each id l)
 
 -- ---- a fork
 
@@ -182,7 +192,7 @@ parts h id s events host at e =
     let added = with_added h s in
     let after = forked-host h id s at e in
     let child : slot_at h.openings added.slots ≡ Some s = slot_at-new h.openings s h.slots host.below in
-    let below : id < h.openings = ⊎_elim (λ (g : id < h.openings). g) (λ g. let none = slot_at-past h.openings id h.slots host.below g in absurd cc) (cases_lt id h.openings) in
+    let below = open-below h.openings id s h.slots host.below at in
     let parent : slot_at id added.slots ≡ Some s = added-slot id h s below ∙ at in
     record {
       number = ap (λ (g : Host). g.openings) after;

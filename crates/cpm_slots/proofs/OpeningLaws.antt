@@ -25,5 +25,6 @@ stands-alone system frames before opening events =
     let replied = told-after id events (with_opened h opening) below ∙ ap (λ o. replies_of h.system asks o) is ∙ ap (λ d. replies_of d asks (Some start)) drive in
     record {
       replied = replied;
+      left = state;
       state = rw (replied, state) (alone-asked system asks start);
     }

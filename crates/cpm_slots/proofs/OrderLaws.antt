@@ -1,5 +1,5 @@
 -- A host stays orderly.
-use Rattle.std.proofs.Common.{◌≡◌, ℕ, zero, suc, ◌+◌, ◌<◌, ◌≤◌, Bool, true, false, ◌==◌, ◌||◌, not, List, [], ◌∷◌, length, Option, Some, None, refl, sym, ap, ◌∙◌, arith, if◌then◌else◌, cond, length-append}
+use Rattle.std.proofs.Common.{◌≡◌, ℕ, zero, suc, ◌+◌, ◌<◌, ◌≤◌, Bool, true, false, ◌==◌, ◌||◌, not, List, [], ◌∷◌, length, Option, Some, None, Ok, refl, sym, ap, ◌∙◌, arith, if◌then◌else◌, cond, length-append}
 use Rattle.std.specs.Prelude.{nat_lt, nat_le}
 use Rattle.std.proofs.lemmas.Bool.Decides.{nat_tests}
 use Rattle.std.proofs.lemmas.Bool.{eqb-true}
@@ -9,16 +9,20 @@ use Rattle.cpm_machine.specs.declared.opening.OpenError.{OpenError}
 use Rattle.cpm_machine.specs.declared.opening.OpenError.TheVariants.{NoSlot, NoFrames}
 use Rattle.cpm_machine.specs.declared.opening.Opening.{Opening}
 use Rattle.cpm_machine.specs.MachineState.{MachineState}
+use Rattle.cpm_machine.specs.Saving.{Saving}
 use Rattle.cpm_machine.specs.Opening.{opening_fault, fault_else}
+use Rattle.cpm_machine.specs.SystemDigest.{system_digest}
 use Rattle.cpm_machine.specs.Step.{step_if, is_running, step, after}
 use Rattle.cpm_machine.specs.Serve.{executed, takes_key}
 use Rattle.cpm_machine.specs.Until.{executed_until}
 use Rattle.cpm_machine.specs.Calls.{Call, Key, Grant, GrantUntil, Take, TakeList, LookAt, Peek, served_key, serve}
 use Rattle.cpm_slots.specs.Serving.{Ask, Calls, Closes, serve_slot}
 use Rattle.cpm_slots.specs.declared.event.ForkError.TheVariants as fork
-use Rattle.cpm_slots.specs.Host.{Host, SlotState, Happening, Opens, Forks, Asks, opened_slot, lacks_slot, lacks_frames, room_fault, refusal_of, opened_if, fork_fault, with_added, slot_at, with_slot, after_ask, after_one, host_after, quotas_of, IsOrdered, IsHost}
+use Rattle.cpm_slots.specs.declared.event.HostRestoreError.{HostRestoreError}
+use Rattle.cpm_slots.specs.declared.event.HostRestoreError.TheVariants as restore
+use Rattle.cpm_slots.specs.Host.{Host, SlotState, Happening, Opens, Forks, Restores, Asks, opened_slot, lacks_slot, lacks_frames, room_fault, refusal_of, opened_if, fork_fault, are_same, restore_fault, system_fault, with_added, slot_at, with_slot, after_ask, after_one, host_after, quotas_of, IsOrdered, IsHost}
 use Rattle.cpm_slots.proofs.SlotLaws.{AllBelow-with, AllBelow-added, IsOrdered-with, IsOrdered-added, with_slot-below}
-use Rattle.cpm_slots.proofs.EventLaws.{forked-is}
+use Rattle.cpm_slots.proofs.EventLaws.{forked-is, restored-is}
 
 -- ---- the quota stays
 
@@ -141,6 +145,19 @@ has-index h o k = has-place h o.quota (none-lacks NoSlot NoFrames (lacks_slot h)
 pub has-fork : (h : Host) (s : MachineState) → fork_fault h (Some s) ≡ None → HasPlace h s.quota
 has-fork h s k = has-place h s.quota (none-lacks fork.NoSlot fork.NoFrames (lacks_slot h) (lacks_frames h s.quota) k)
 
+-- where the digest is the host's, the rest of the tests are those of any slot
+same-none : (same : Bool) (fault : HostRestoreError) (rest : Option HostRestoreError) → (if not same then Some fault else rest) ≡ None → rest ≡ None
+same-none true fault rest k = k
+same-none false fault rest k = cc
+
+pub has-system : (h : Host) (digest : List ℕ) (quota : ℕ) → system_fault h digest quota ≡ None → HasPlace h quota
+has-system h digest quota k =
+    let rest = same-none (are_same digest (system_digest h.system)) restore.OtherSystem (if lacks_slot h then Some restore.NoSlot else if lacks_frames h quota then Some restore.NoFrames else None) k in
+    has-place h quota (none-lacks restore.NoSlot restore.NoFrames (lacks_slot h) (lacks_frames h quota) rest)
+
+pub has-restored : (h : Host) (x : Saving) → restore_fault h (Ok x) ≡ None → HasPlace h x.state.quota
+has-restored h x k = has-system h x.system_digest x.state.quota k
+
 pub IsHost-added : (h : Host) (s : MachineState) → HasPlace h s.quota → IsHost h → IsHost (with_added h s)
 IsHost-added h s place k =
     let room = place.room in
@@ -162,6 +179,7 @@ IsHost-open h o (Some fault) e k = k
 IsHost-one : (h : Host) (x : Happening) → IsHost h → IsHost (after_one h x)
 IsHost-one h (Opens o) k = IsHost-open h o (refusal_of h o) refl k
 IsHost-one h (Forks id) k = forked-is h id IsHost k (λ s at e. IsHost-added h s (has-fork h s e) k)
+IsHost-one h (Restores bytes) k = restored-is h bytes IsHost k (λ x at e. IsHost-added h x.state (has-restored h x e) k)
 IsHost-one h (Asks id ask) k = IsHost-ask h id ask k
 
 pub IsHost-after : (events : List Happening) (h : Host) → IsHost h → IsHost (host_after events h)

@@ -1,7 +1,7 @@
 -- The slots of a host, by their numbers.
-use Rattle.std.proofs.Common.{◌≡◌, ℕ, ◌+◌, ◌<◌, ◌≤◌, true, false, ◌==◌, not, List, [], ◌∷◌, ◌++◌, Option, Some, None, refl, arith, if◌then◌else◌, cond}
+use Rattle.std.proofs.Common.{◌≡◌, ℕ, ◌+◌, ◌<◌, ◌≤◌, true, false, ◌==◌, not, List, [], ◌∷◌, ◌++◌, Option, Some, None, refl, arith, ⊎_elim, if◌then◌else◌, cond}
 use Rattle.std.proofs.lemmas.Bool.Decides.{nat_tests}
-use Rattle.std.proofs.lemmas.Bool.{eqb-true}
+use Rattle.std.proofs.lemmas.Bool.{cases_lt, eqb-true}
 use Rattle.cpm_geom.specs.Disk.{Disk}
 use Rattle.cpm_machine.specs.MachineState.{MachineState}
 use Rattle.cpm_slots.specs.Serving.{Ask, serve_slot}
@@ -49,6 +49,11 @@ slot_at-new n s (x ∷ xs) b = let first : x.id < n = b.0 in grind (arith, nat_t
 pub slot_at-past : (n id : ℕ) (xs : List SlotState) → AllBelow n xs → n ≤ id → slot_at id xs ≡ None
 slot_at-past n id [] b h = refl
 slot_at-past n id (x ∷ xs) b h = let first : x.id < n = b.0 in grind (arith, nat_tests, slot_at-past n id xs b.1 h)
+
+-- so one that is open has a number that was given
+pub open-below : (n id : ℕ) (s : MachineState) (xs : List SlotState) → AllBelow n xs → slot_at id xs ≡ Some s → id < n
+open-below n id s xs b at =
+    ⊎_elim (λ (g : id < n). g) (λ g. let none = slot_at-past n id xs b g in absurd cc) (cases_lt id n)
 
 pub AllBelow-added : (n : ℕ) (s : MachineState) (xs : List SlotState) → AllBelow n xs → AllBelow (n + 1) (xs ++ record { id = n; state = s } ∷ [])
 AllBelow-added n s [] b = (omega arith, tt)

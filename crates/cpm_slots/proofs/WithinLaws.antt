@@ -9,7 +9,7 @@ use Rattle.cpm_machine.specs.Until.{can_go_on, executed_until}
 use Rattle.cpm_machine.specs.Calls.{Call, Key, Grant, GrantUntil, Take, TakeList, LookAt, Peek, served_key, serve}
 use Rattle.cpm_machine.proofs.GrantLaws.{longest-is}
 use Rattle.cpm_slots.specs.Serving.{Ask, Calls, Closes, reply_of, serve_slot}
-use Rattle.cpm_slots.specs.Host.{Host, Happening, Opens, Forks, Asks, SlotReply, slot_at, reply_at, after_one, replies_told}
+use Rattle.cpm_slots.specs.Host.{Host, Happening, Opens, Forks, Restores, Asks, SlotReply, slot_at, reply_at, after_one, replies_told}
 use Rattle.cpm_slots.specs.Laws.{executed_in, granted_in, granted_by}
 
 executed-within : (system : Disk) (n : ℕ) (s : MachineState) → executed system n s ≤ n
@@ -52,6 +52,10 @@ within h (Opens opening ∷ xs) =
 within h (Forks id ∷ xs) =
     let rest = within (after_one h (Forks id)) xs in
     let all = sum_by-cons granted_by (Forks id) xs in
+    omega arith
+within h (Restores bytes ∷ xs) =
+    let rest = within (after_one h (Restores bytes)) xs in
+    let all = sum_by-cons granted_by (Restores bytes) xs in
     omega arith
 within h (Asks id ask ∷ xs) =
     let rest = within (after_one h (Asks id ask)) xs in

@@ -28,10 +28,11 @@ Isolation = (h : Host) (events : List Happening) (id : ℕ) → id < h.openings 
     × (told_of id (replies_told events h) ≡ replies_of h.system (own id events) (slot_at id h.slots))
 
 -- The headline. In a host that was made, to which anything happened, a slot is opened, and then anything happens, more openings among it.
--- The slot's replies are those that its machine gives by itself, and while it is open it is the machine run alone for its opening,
--- its accepted keys with the counts at which they came, its executed steps and the system drive.
+-- The slot's replies are those that its machine gives by itself, and the slot is what its own events leave of its opening. While it is open it is
+-- the machine run alone for its opening, its accepted keys with the counts at which they came, its executed steps and the system drive.
 pub record StandsAlone (system : Disk) (opening : Opening) (asks : List Ask) (replies : List Reply) (now : Option MachineState) : Type 0 where
   pub replied : replies ≡ replies_of system asks (Some (opened_slot opening))
+  pub left : now ≡ slot_after system asks (Some (opened_slot opening))
   pub state : IsRunAlone system (opened_slot opening) (account_by no_account asks replies) now
 
 abbrev pub SlotAlone : Type 0

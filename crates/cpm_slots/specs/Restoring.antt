@@ -1,5 +1,5 @@
 -- Savings of slots. (own)
-use Rattle.std.specs.Prelude.{◌≡◌, ℕ, List, Option, Some, Ok}
+use Rattle.std.specs.Prelude.{◌≡◌, ℕ, List, Some, Ok}
 use Rattle.cpm_saved.specs.declared.reader.RestoreError.{RestoreError}
 use Rattle.cpm_saved.specs.declared.reader.RestoreError.TheVariants as read
 use Rattle.cpm_machine.specs.MachineState.{MachineState}

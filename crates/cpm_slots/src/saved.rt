@@ -1,7 +1,11 @@
 //! Slots that are saved as bytes, and slots that go on from a saving.
 
-ghost use Rattle.std.specs.Prelude.{◌≡◌, ◌<◌, ◌≤◌, ℕ, length, slice_get, IfErr, IfNone, IfOk, IfSome, None, OnErr, OnOk};
+ghost use Rattle.std.specs.Prelude.{◌≡◌, ◌<◌, ℕ, false, length, slice_get, IfErr, IfNone, IfOk, IfSome, List, None, OnErr};
+ghost use Rattle.cpm_decode.specs.Cache.{IsRightFor};
+ghost use Rattle.cpm_memory.specs.Contents.{Contents};
+ghost use Rattle.cpm_memory.specs.Flat.{flat_contents};
 ghost use Rattle.cpm_memory.specs.Frames.{memories};
+ghost use Rattle.cpm_machine.specs.Runner.{IsRunnerSound, state_of};
 ghost use Rattle.cpm_machine.specs.Saving.{restored, saving_with};
 ghost use Rattle.cpm_slots.specs.Restoring.{IsSavingBytes};
 ghost use Rattle.cpm_slots.specs.Slots.{slots_of, HaveTables};
@@ -48,7 +52,8 @@ impl From<RestoreError> for HostRestoreError {
 }
 
 impl Host {
-    ghost use Rattle.cpm_slots.specs.Host.{IsRestoreRefusal, IsSaveRefusal, restore_fault, slot_at, system_fault, with_slot_restored};
+    ghost use Rattle.cpm_slots.specs.Host.{IsRestoreRefusal, IsSaveRefusal, lacks_frames, lacks_slot, restore_fault, slot_at, system_fault, with_added};
+    ghost use Rattle.cpm_slots.specs.Host.{with_slot_restored};
     ghost use Rattle.cpm_slots.specs.Restoring.{IsSlotSaved};
 
     /// The bytes of a slot's whole state, with the digest of the system drive. What is restored of them is that state. It is refused where no slot of
@@ -110,12 +115,21 @@ impl Host {
         self.add_restored(runner, &memory)
     }
 
-    /// Opens a slot of this session and this memory.
+    /// Opens a slot of this session and this memory, for which there is a place. It is refused if out of memory alone.
     fn add_restored(
         &mut self,
         runner: Runner,
         memory: &FlatMemory,
-    ) -> Result<SlotId, HostRestoreError> {
+    ) -> Result<SlotId, HostRestoreError>
+        requires slot { lacks_slot self.old.host ≡ false }
+        requires frames { lacks_frames self.old.host runner.quota ≡ false }
+        requires sound { IsRunnerSound (state_of runner (flat_contents memory.now)) }
+        requires right { (contents : Contents) (stamps : List ℕ) → IsRightFor contents stamps runner.cache }
+        ensures added { IfOk result (λ id. self.new.host ≡ with_added self.old.host (state_of runner (flat_contents memory.now))) }
+        ensures number { IfOk result (λ id. id.0 ≡ self.old.host.openings) }
+        ensures refused { IfErr result (λ fault. fault ≡ HostRestoreError.OutOfMemory) }
+        ensures unchanged { OnErr result (self.new ≡ self.old) }
+    {
         if self.slots.try_reserve(1).is_err() {
             return Err(HostRestoreError::OutOfMemory);
         }

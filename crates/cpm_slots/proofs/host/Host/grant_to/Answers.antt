@@ -4,7 +4,7 @@ use Rattle.cpm_memory.specs.Frames.{memories}
 use Rattle.cpm_slots.specs.declared.event.Reply.TheVariants as reply
 use Rattle.cpm_slots.specs.Serving.{Calls, grant_call}
 use Rattle.cpm_slots.specs.Host.{Host, slot_at}
-use Rattle.cpm_slots.specs.Index.{IsAtIndex}
+use Rattle.cpm_slots.specs.Index.{IsAtIndex, IsServed}
 use Rattle.cpm_slots.specs.Slots.{slots_of}
 use Rattle.cpm_slots.proofs.CallLaws.{same-host, no-slot-reply, no-slot-host, call-reply, call-host, call-keeps}
 use Rattle.cpm_slots.proofs.host.Host.grant_to.Goals as goal
@@ -31,7 +31,8 @@ returns-in-Some-clause-reply c =
     let m = memories s.store in
     let h : Host = record { system = s.system; frames = s.frames; openings = s.openings; slots = slots_of m s.slots.items } in
     let all : (m : List (Option Contents)) → IsAtIndex c.args.id.0 (slots_of m s.slots.items) c.in-Some.index = rw c.deref.ensures.value at c.in-Some.ensures in
-    call-reply h c.args.self.now.host c.args.id.0 c.in-Some.index (grant_call c.args.stop c.args.steps) (reply.Granted c.grant_at.result) (slots_of (memories c.grant_at.new.store) c.grant_at.new.slots.items) (same-host c.self.view_is) (all m) (c.grant_at.ensures.served)
+    let served : IsServed s.system (grant_call c.args.stop c.args.steps) c.in-Some.index (reply.Granted c.grant_at.result) (slots_of m s.slots.items) (slots_of (memories c.grant_at.new.store) c.grant_at.new.slots.items) = rw c.image.ensures at c.grant_at.ensures.served in
+    call-reply h c.args.self.now.host c.args.id.0 c.in-Some.index (grant_call c.args.stop c.args.steps) (reply.Granted c.grant_at.result) (slots_of (memories c.grant_at.new.store) c.grant_at.new.slots.items) (same-host c.self.view_is) (all m) served
 
 pub returns-in-Some-clause-host : goal.returns-in-Some-clause-host
 returns-in-Some-clause-host c =
@@ -39,7 +40,8 @@ returns-in-Some-clause-host c =
     let m = memories s.store in
     let h : Host = record { system = s.system; frames = s.frames; openings = s.openings; slots = slots_of m s.slots.items } in
     let all : (m : List (Option Contents)) → IsAtIndex c.args.id.0 (slots_of m s.slots.items) c.in-Some.index = rw c.deref.ensures.value at c.in-Some.ensures in
-    call-host h c.args.self.now.host c.args.id.0 c.in-Some.index (grant_call c.args.stop c.args.steps) (reply.Granted c.grant_at.result) (slots_of (memories c.grant_at.new.store) c.grant_at.new.slots.items) (same-host c.self.view_is) c.self.invariant.0 (all m) (c.grant_at.ensures.served)
+    let served : IsServed s.system (grant_call c.args.stop c.args.steps) c.in-Some.index (reply.Granted c.grant_at.result) (slots_of m s.slots.items) (slots_of (memories c.grant_at.new.store) c.grant_at.new.slots.items) = rw c.image.ensures at c.grant_at.ensures.served in
+    call-host h c.args.self.now.host c.args.id.0 c.in-Some.index (grant_call c.args.stop c.args.steps) (reply.Granted c.grant_at.result) (slots_of (memories c.grant_at.new.store) c.grant_at.new.slots.items) (same-host c.self.view_is) c.self.invariant.0 (all m) served
 
 pub invariant_of-self : goal.invariant_of-self
 invariant_of-self c =
@@ -47,4 +49,5 @@ invariant_of-self c =
     let m = memories s.store in
     let h : Host = record { system = s.system; frames = s.frames; openings = s.openings; slots = slots_of m s.slots.items } in
     let all : (m : List (Option Contents)) → IsAtIndex c.args.id.0 (slots_of m s.slots.items) c.in-Some.index = rw c.deref.ensures.value at c.in-Some.ensures in
-    (call-keeps h c.args.id.0 c.in-Some.index (grant_call c.args.stop c.args.steps) (reply.Granted c.grant_at.result) (slots_of (memories c.grant_at.new.store) c.grant_at.new.slots.items) c.self.invariant.0 (all m) (c.grant_at.ensures.served), c.grant_at.ensures.have_tables, c.grant_at.ensures.frames ∙ c.self.invariant.2, c.grant_at.ensures.store, c.grant_at.ensures.cached)
+    let served : IsServed s.system (grant_call c.args.stop c.args.steps) c.in-Some.index (reply.Granted c.grant_at.result) (slots_of m s.slots.items) (slots_of (memories c.grant_at.new.store) c.grant_at.new.slots.items) = rw c.image.ensures at c.grant_at.ensures.served in
+    (call-keeps h c.args.id.0 c.in-Some.index (grant_call c.args.stop c.args.steps) (reply.Granted c.grant_at.result) (slots_of (memories c.grant_at.new.store) c.grant_at.new.slots.items) c.self.invariant.0 (all m) served, c.grant_at.ensures.have_tables, c.grant_at.ensures.frames ∙ c.self.invariant.2, c.grant_at.ensures.store, c.grant_at.ensures.cached)

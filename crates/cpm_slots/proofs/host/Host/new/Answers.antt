@@ -11,7 +11,7 @@ pub invariant_of-result : goal.invariant_of-result
 invariant_of-result c =
     let m = memories c.in-Ok.store in
     let empty : c.in-Ok.slots.items ≡ [] = c.in-Ok.ensures.slots in (
-      subst (λ (slots : List Slot). IsHost (hosted c.args.system c.args.frames 0 (slots_of m slots))) (sym empty) (record { ordered = tt; below = tt; few = omega arith; quotas = omega arith }),
+      subst (λ (slots : List Slot). IsHost (hosted c.new.result c.args.frames 0 (slots_of m slots))) (sym empty) (record { ordered = tt; below = tt; few = omega arith; quotas = omega arith }),
       subst (HaveTables m) (sym empty) (HaveTables-none m c.in-Ok.ensures.memories),
       c.in-Ok.ensures.frames,
       c.in-Ok.ensures.sound,
