@@ -100,16 +100,16 @@ ended_as system start steps waits_from true keys done now other same (inr x) = i
 
 -- by a script
 pub record IsPlayedOut (system : Disk) (start now : MachineState) (steps : ℕ) (c : CuedKeys) (live : LivePlay) (before written : OutputState) (unrecorded record_now : Option (List ℕ)) : Type 0 where
-  within : live.steps ≤ steps
-  keys : IsCued system start steps c.waits_from c.cues.now live.keys.items
-  given : AreGiven (key_count c.cues.now) live.steps live.keys.items
-  text : Appends before.console written.console (alone_by system live.keys.items live.steps start).session.console.screen
-  list : Appends before.list written.list (alone_by system live.keys.items live.steps start).session.console.printer
-  ending : EndsAs (alone_by system live.keys.items live.steps start) now
-  lines : Appends unrecorded record_now (recorded live.keys.items)
-  ends : HasEndedCued system start steps c.waits_from c.stops_idle live.keys.items live.steps now
-  waits : (look_of now).waiting ≡ waits_at system start live.keys.items live.steps
-  replays : GivesKeysAgain live.keys.items
+  pub within : live.steps ≤ steps
+  pub keys : IsCued system start steps c.waits_from c.cues.now live.keys.items
+  pub given : AreGiven (key_count c.cues.now) live.steps live.keys.items
+  pub text : Appends before.console written.console (alone_by system live.keys.items live.steps start).session.console.screen
+  pub list : Appends before.list written.list (alone_by system live.keys.items live.steps start).session.console.printer
+  pub ending : EndsAs (alone_by system live.keys.items live.steps start) now
+  pub lines : Appends unrecorded record_now (recorded live.keys.items)
+  pub ends : HasEndedCued system start steps c.waits_from c.stops_idle live.keys.items live.steps now
+  pub waits : (look_of now).waiting ≡ waits_at system start live.keys.items live.steps
+  pub replays : GivesKeysAgain live.keys.items
 
 pub played_cued : (system : Disk) (start now : MachineState) (steps : ℕ) (c : CuedKeys) (live : LivePlay) (before written : OutputState) (unrecorded record_now : Option (List ℕ)) (saved : Option (Vec ℕ Global)) (typing : TypingState) →
     IsPlayedOut system start now steps c live before written unrecorded record_now → IsPlayedCued system start steps c (play_of now live None saved) (play_streams typing typing before written unrecorded record_now)
@@ -135,15 +135,15 @@ played_cued system start now steps c live before written unrecorded record_now s
 
 -- by a script and then as it was typed at
 pub record IsTypedOut (system : Disk) (start now : MachineState) (steps : ℕ) (cues : List Cue) (play : TypedPlay) (typing typing_now : TypingState) (before written : OutputState) (unrecorded record_now : Option (List ℕ)) : Type 0 where
-  within : play.live.steps ≤ steps
-  given : AreGiven (length play.live.keys.items) play.live.steps play.live.keys.items
-  played : IsTypedPlay (sitting typing.is_patient system start steps cues) typing typing_now play.live.keys.items play.live.steps play.end
-  text : Appends before.console written.console (alone_by system play.live.keys.items play.live.steps start).session.console.screen
-  list : Appends before.list written.list (alone_by system play.live.keys.items play.live.steps start).session.console.printer
-  ending : EndsAs (alone_by system play.live.keys.items play.live.steps start) now
-  lines : Appends unrecorded record_now (recorded play.live.keys.items)
-  waits : (look_of now).waiting ≡ waits_at system start play.live.keys.items play.live.steps
-  replays : GivesKeysAgain play.live.keys.items
+  pub within : play.live.steps ≤ steps
+  pub given : AreGiven (length play.live.keys.items) play.live.steps play.live.keys.items
+  pub played : IsTypedPlay (sitting typing.is_patient system start steps cues) typing typing_now play.live.keys.items play.live.steps play.end
+  pub text : Appends before.console written.console (alone_by system play.live.keys.items play.live.steps start).session.console.screen
+  pub list : Appends before.list written.list (alone_by system play.live.keys.items play.live.steps start).session.console.printer
+  pub ending : EndsAs (alone_by system play.live.keys.items play.live.steps start) now
+  pub lines : Appends unrecorded record_now (recorded play.live.keys.items)
+  pub waits : (look_of now).waiting ≡ waits_at system start play.live.keys.items play.live.steps
+  pub replays : GivesKeysAgain play.live.keys.items
 
 pub played_typed : (system : Disk) (start now : MachineState) (steps : ℕ) (cues : List Cue) (play : TypedPlay) (typing typing_now : TypingState) (before written : OutputState) (unrecorded record_now : Option (List ℕ)) (saved : Option (Vec ℕ Global)) →
     IsTypedOut system start now steps cues play typing typing_now before written unrecorded record_now →

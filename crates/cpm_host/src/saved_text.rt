@@ -41,6 +41,7 @@ fn waiting_words(waits: bool) -> &'static str
 }
 
 /// What a saved machine is but for its drives.
+#[tactic(auto, unfolding(cpm_machine::specs::Serve::look_of))]
 fn machine_text(alloc: Global, saved: &SavedMachine) -> Result<String, AllocError>
     ensures { IfOk result (λ text. string_bytes text ≡ machine_text (saving_view saved.now)) }
 {

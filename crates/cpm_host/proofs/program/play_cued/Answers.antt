@@ -19,7 +19,7 @@ returns-in_err-live-clause-refusal g c =
 pub returns-in_err-saved-clause-refusal : goal.returns-in_err-saved-clause-refusal
 returns-in_err-saved-clause-refusal g c =
     let given = c.in_ok-live.ensures.given in
-    let p = err_from_is_err_and c.from_residual-2.result c.from_residual-2.ensures.1 in
+    let p = err_from_is_err_and c.from_residual-in_err-saved.result c.from_residual-in_err-saved.ensures.1 in
     rw (p.1, p.2) (λ typing. inr (record {
       play = play_of c.play_cues.new.machine c.in_ok-live.live None None;
       is_played = played_cued _ _ c.play_cues.new.machine _ _ c.in_ok-live.live _ _ _ _ None typing (record {

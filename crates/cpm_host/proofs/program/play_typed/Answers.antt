@@ -13,7 +13,7 @@ returns-in_err-play-clause-refusal g c =
 pub returns-in_err-saved-clause-refusal : goal.returns-in_err-saved-clause-refusal
 returns-in_err-saved-clause-refusal g c =
     let given = c.in_ok-play.ensures.keys in
-    let p = err_from_is_err_and c.from_residual-2.result c.from_residual-2.ensures.1 in
+    let p = err_from_is_err_and c.from_residual-in_err-saved.result c.from_residual-in_err-saved.ensures.1 in
     rw (p.1, p.2) (inr (record {
       play = play_of c.play_live.new.machine c.in_ok-play.play.live (Some c.in_ok-play.play.end) None;
       is_played = played_typed _ _ c.play_live.new.machine _ _ c.in_ok-play.play _ _ _ _ _ _ None (record {
