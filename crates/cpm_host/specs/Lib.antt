@@ -4,6 +4,4 @@ pub mod Laws
 pub mod Listing
 pub mod Program
 pub mod Refusals
-pub mod Saved
 pub mod Tails
-pub mod SavedText

@@ -61,8 +61,6 @@ impl Programs {
             tail: self.tail.clone()?,
             drives: self.drives(alloc)?,
             system: self.system_if_any(alloc)?,
-            saved: None,
-            is_saved: false,
         })
     }
 
