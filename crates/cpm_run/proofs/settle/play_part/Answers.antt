@@ -8,10 +8,10 @@ use Rattle.cpm_run.proofs.SettleLemmas.{came_sound, cues_ascii, cues_say, all_cu
 use Rattle.cpm_run.proofs.settle.play_part.Goals.{then-stops_idle, else-stops_idle, then-stops_idle-2, else-stops_idle-2}
 use Rattle.cpm_run.proofs.settle.play_part.Goals as goal
 
-pub play_cues-played-requires-clause-ascii : goal.play_cues-played-requires-clause-ascii
-play_cues-played-requires-clause-ascii g c =
+pub play_cues-played-requires : goal.play_cues-played-requires
+play_cues-played-requires g c =
     let are = all_cues c.args.part.before.items c.as_slice.result.now c.args.part.cues.items c.in_ok-cues.cues.items c.as_slice-2.result.now c.as_slice.ensures.value c.in_ok-cues.ensures c.as_slice-2.ensures.value in
-    cues_ascii c.args.system.now (part_view c.args.part) c.as_slice-2.result.now c.requires.fit (cues_say c.args.part.before.items c.args.part.cues.items c.as_slice-2.result.now are)
+    record { ascii = cues_ascii c.args.system.now (part_view c.args.part) c.as_slice-2.result.now c.requires.fit (cues_say c.args.part.before.items c.args.part.cues.items c.as_slice-2.result.now are) }
 
 pub returns-clause-played : goal.returns-clause-played
 returns-clause-played g c =
