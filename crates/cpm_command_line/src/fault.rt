@@ -51,6 +51,15 @@ pub enum UsageFault {
     /// An option was given twice.
     #[error("the argument '{0}' was given twice")]
     GivenTwice(ShownWord),
+    /// There is neither a program nor a saved machine.
+    #[error("the argument <FILE> is missing")]
+    NoProgram,
+    /// A saved machine is to go on, and a program, a processor or drives are given too.
+    #[error("'--from' goes on with a saved machine, which has its program, its processor and its drives; leave out FILE, '--z80' and '--disk'")]
+    FromWithStart,
+    /// The same, where the drives are given as places.
+    #[error("'--from' goes on with a saved machine, which has its program, its processor and its drives; leave out PLACE and '--z80'")]
+    FromWithPlace,
     /// The keys of a program are to be recorded, and come from nowhere.
     #[error("'--record' takes the keys of '--keyboard', '--keys' or '--replay'; give one of these with it")]
     RecordAlone,

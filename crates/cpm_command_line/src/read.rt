@@ -2,8 +2,8 @@
 ghost use Rattle.std.specs.Prelude.{◌≡◌, IfOk, IfErr, IsSomeAnd, None, Some, codes, map, true, false};
 ghost use Rattle.clap.specs.Words.{all_of, fault_of, found_of, one_of, rows_of, subcommand_rows_of, takes};
 ghost use Rattle.cpm_command_line.specs.CommandLine.{HasEntriesOf, HasPlayEntries, IsFlag, IsTyped, IsWhole, IsWholeAsm};
-ghost use Rattle.cpm_command_line.specs.CommandLine.{IsWholeCheck, IsWholeCom, IsWholeDebug, IsWholeList, IsWholeOf, IsWholePlay};
-ghost use Rattle.cpm_command_line.specs.CommandLine.{IsWholeRun, ReadsWordsIfAny, host_app};
+ghost use Rattle.cpm_command_line.specs.CommandLine.{IsWholeCheck, IsWholeDebug, IsWholeList, IsWholeOf, IsWholePlay};
+ghost use Rattle.cpm_command_line.specs.CommandLine.{IsWholeRun, IsWholeSaved, ReadsWordsIfAny, host_app};
 ghost use Rattle.cpm_command_line.specs.HelpWords.{is_help_line, named_by, page_of_line};
 ghost use Rattle.cpm_command_line.specs.Line.{HasUsers, IsFaultless, IsHostTask, IsPageOrMemory, IsTaskOf};
 ghost use Rattle.cpm_command_line.specs.Line.{app_of_line, asked_page, asks_by_flag, names_disk, words_of_line};
@@ -57,19 +57,21 @@ fn play_task<'a>(
         system: text_if_any(matches, "system"),
         out_folders,
         list: text_if_any(matches, "list"),
+        save: text_if_any(matches, "save"),
+        from: text_if_any(matches, "from"),
     }
 }
 
 /// The task of `com`. What it owns is made here, where memory may be refused.
 fn com_task<'a>(alloc: Global, matches: &ArgMatches<'a>) -> Result<Task<'a>, AllocError>
-    requires { IsWholeCom (rows_of (found_of matches.now)) }
+    requires { IsWholePlay (rows_of (found_of matches.now)) }
     ensures { IfOk result (HasEntriesOf (codes "com", rows_of (found_of matches.now))) }
 {
     let tail = texts_if_any(alloc, matches, "tail")?;
     let drives = texts_if_any(alloc, matches, "disk")?;
     let outs = texts_if_any(alloc, matches, "out-disk")?;
     let out_folders = texts_if_any(alloc, matches, "out-folder")?;
-    let file = Some(text_of(matches, "file"));
+    let file = text_if_any(matches, "file");
     let is_live = flag_of(matches, "keyboard");
     let task = play_task(matches, file, tail, drives, outs, out_folders, is_live);
     Ok(Task::Com(task))
@@ -169,6 +171,16 @@ fn debug_task<'a>(matches: &ArgMatches<'a>) -> Task<'a>
     }
 }
 
+/// The task of `saved`.
+fn saved_task<'a>(matches: &ArgMatches<'a>) -> Task<'a>
+    requires { IsWholeSaved (rows_of (found_of matches.now)) }
+    ensures { HasEntriesOf (codes "saved", rows_of (found_of matches.now)) result }
+{
+    Task::Saved {
+        file: text_of(matches, "file"),
+    }
+}
+
 /// The task of a subcommand's entries.
 fn task_named<'a>(
     alloc: Global,
@@ -185,7 +197,8 @@ fn task_named<'a>(
         "list" => Ok(list_task(matches)),
         "check" => Ok(check_task(matches)),
         "run" => run_task(alloc, matches),
-        _ => Ok(debug_task(matches)),
+        "debug" => Ok(debug_task(matches)),
+        _ => Ok(saved_task(matches)),
     }
 }
 

@@ -19,6 +19,7 @@ use Rattle.cpm_disk_commands.specs.declared.damage.NamedFile.{NamedFile}
 use Rattle.cpm_geom.specs.Disk.{Disk}
 use Rattle.cpm_host.specs.declared.error.HostError.{HostError}
 use Rattle.cpm_machine.specs.MachineState.{MachineState}
+use Rattle.cpm_machine.specs.Saving.{Saving}
 use Rattle.cpm_run.proofs.RunLemmas.{settled_sessions}
 use Rattle.cpm_run.specs.Run.{StoreActs, files_left, outputs_by, own_keys, record_of, record_outputs, run_of, session_output}
 use Rattle.cpm_run.specs.Settled.{SettledSession, Streams, streams}
@@ -32,8 +33,8 @@ use Rattle.cpm_store.specs.Files.{StoreName}
 use Rattle.cpm_store.specs.Log.{StoreAccess, Gave, LogLeadsBy, Wrote, writes_of}
 use Rattle.cpm_store.specs.Writes.{NamedBytes}
 use Rattle.cpm_commands.specs.Drives.{AreDrivesRead, AreReadBy, IsFileRead, IsPlaceRead, files_given, inputs_of_place, inputs_of_places}
-use Rattle.cpm_commands.specs.Left.{IsLeftFor, drive_outputs, has_no_folder, list_of_play, named_list, outputs_with, outs_of, plan_of_left, record_of_play}
-use Rattle.cpm_commands.specs.Play.{AreCuesRead, AreKeysReadBy, AreRecordedRead, IsProgramRead, IsSystemRead, ReadActs, plan_of_play, task_starts, write_acts}
+use Rattle.cpm_commands.specs.Left.{IsLeftFor, Texts, drive_outputs, has_no_folder, list_of_play, named_text, outputs_with, outs_of, plan_of_left, record_of_play, save_of_play}
+use Rattle.cpm_commands.specs.Play.{AreCuesRead, AreKeysReadBy, AreRecordedRead, IsProgramRead, IsSavedRead, IsSystemRead, ReadActs, plan_of_play, task_starts, texts_left, write_acts}
 use Rattle.cpm_commands.specs.Laws.{FollowsPlans, IsAsPlanned, IsPlanned, ProgramsFollowPlans, RunsFollowPlans}
 use Rattle.cpm_commands.specs.Plan.{Plan, PlannedName, all_planned, planned_if_any}
 use Rattle.cpm_play.specs.declared.live.PlayEnd.{PlayEnd}
@@ -45,7 +46,7 @@ use Rattle.cpm_commands.specs.declared.drives.DrivePlace.TheVariants as from
 use Rattle.cpm_commands.specs.declared.drives.PlacedFile.{PlacedFile}
 use Rattle.cpm_disk_commands.specs.declared.folder.HostFile.{HostFile}
 use Rattle.cpm_commands.specs.declared.plan.FileRole.{FileRole}
-use Rattle.cpm_commands.specs.declared.plan.FileRole.TheVariants.{Folder, Image, Plain, Script}
+use Rattle.cpm_commands.specs.declared.plan.FileRole.TheVariants.{Folder, Image, Plain, Saving as SavingFile, Script}
 
 -- ---- names that are such
 
@@ -154,10 +155,10 @@ module _ (P : StoreName → Type 0) where
   drives_such role (name ∷ names) (d ∷ drives) such =
       files_joined (named_image (Some name) d) (drive_outputs names drives) (image_such role (Some name) d (such.0, tt)) (drives_such role names drives such.1)
 
-  -- what was printed
-  pub list_such : (role : FileRole) (name : Option StoreName) (printed : Option (List ℕ)) → AreSuch (planned_if_any role name) → AreSuchFiles (named_list name printed)
-  list_such role name None such = no_files
-  list_such role name (Some bytes) such = bytes_such role name bytes such
+  -- what was printed, or the machine
+  pub text_such : (role : FileRole) (name : Option StoreName) (text : Option (List ℕ)) → AreSuch (planned_if_any role name) → AreSuchFiles (named_text name text)
+  text_such role name None such = no_files
+  text_such role name (Some bytes) such = bytes_such role name bytes such
 
 -- what is planned is among what is planned
 such_itself : (ps : List PlannedName) → AreSuch (IsPlanned ps) ps
@@ -318,6 +319,12 @@ module _ {F : Type 0} (does : F → StoreAccess → F → Type 0) (plan : Plan) 
   program_led (Some name) None s t h such = absurd h
   program_led (Some name) (Some p) s t h such = led_by name p s t such.0 h
 
+  saved_led : (name : Option StoreName) (x : Option Saving) (s t : F) → IsSavedRead does name s t x → AreInputs plan (planned_if_any SavingFile name) → IsLed s t
+  saved_led None None s t h such = none_led s t h
+  saved_led None (Some x) s t h such = absurd h
+  saved_led (Some name) None s t h such = absurd h
+  saved_led (Some name) (Some x) s t h such = led_by name h.0 s t such.0 h.1
+
   system_led : (name : Option StoreName) (d : Option Disk) (s t : F) → IsSystemRead does name s t d → AreInputs plan (planned_if_any Image name) → IsLed s t
   system_led None None s t h such = none_led s t h
   system_led None (Some d) s t h such = absurd h
@@ -343,12 +350,12 @@ planned_files P role (q ∷ qs) such = file_more P q.0 q.1 qs such.0 (planned_fi
 
 -- what is written was planned
 module _ {F : Type 0} (acts : ReadActs F) (gives_names : F → Option HostError → F → Type 0) (task : PlayTask) (places : List DrivePlace)
-    (starts : List (StoreName × Option Disk)) (printed : Option (List ℕ)) (drives : List (Option Disk)) (old seen read new : F) (unwritten : List (List ℕ × NamedFile)) where
+    (starts : List (StoreName × Option Disk)) (texts : Texts) (drives : List (Option Disk)) (old seen read new : F) (unwritten : List (List ℕ × NamedFile)) where
   abbrev played_plan : Plan
   played_plan = plan_of_play task places
 
   abbrev alone : List NamedBytes
-  alone = outputs_with (list_of_play task) (outs_of task) printed drives []
+  alone = outputs_with task texts drives []
 
   alone_led : (log : List StoreAccess) → log ≡ writes_of alone → All (IsAsPlanned played_plan) log
   alone_led log calls =
@@ -357,11 +364,17 @@ module _ {F : Type 0} (acts : ReadActs F) (gives_names : F → Option HostError 
       let folders = all_planned Folder (map (λ n. n.now) task.out_folders.items) in
       let recorded = planned_if_any Plain (record_of_play task) in
       let listed = planned_if_any Plain (list_of_play task) in
+      let saved = planned_if_any SavingFile (save_of_play task) in
       let all = such_itself played_plan.outputs in
-      let both = such_left O (images ++ folders) recorded (such_left O (images ++ folders ++ recorded) listed all) in
+      let named = such_left O (images ++ folders ++ recorded ++ listed) saved all in
+      let both = such_left O (images ++ folders) recorded (such_left O (images ++ folders ++ recorded) listed named) in
+      let printed_to = named_text (list_of_play task) texts.printed in
+      let saved_to = named_text (save_of_play task) texts.saved in
       all_written played_plan alone log calls
-      (files_joined O (named_list (list_of_play task) printed) (drive_outputs (outs_of task) drives)
-      (list_such O Plain (list_of_play task) printed (such_right O (images ++ folders ++ recorded) listed all))
+      (files_joined O (printed_to ++ saved_to) (drive_outputs (outs_of task) drives)
+      (files_joined O printed_to saved_to
+      (text_such O Plain (list_of_play task) texts.printed (such_right O (images ++ folders ++ recorded) listed named))
+      (text_such O SavingFile (save_of_play task) texts.saved (such_right O (images ++ folders ++ recorded ++ listed) saved all)))
       (drives_such O Image (outs_of task) drives (such_left O images folders both)))
 
   left_led : (outputs : List NamedBytes) (log : List StoreAccess) → log ≡ writes_of outputs → All (IsAsPlanned (plan_of_left outputs (record_of_play task))) log
@@ -372,7 +385,7 @@ module _ {F : Type 0} (acts : ReadActs F) (gives_names : F → Option HostError 
       (planned_files O Plain outputs (such_left O (all_planned Plain (map (λ q. q.0) outputs)) (planned_if_any Plain (record_of_play task)) (such_itself second.outputs)))
 
   follows : (has_none : Bool) → acts.sees_to old played_plan None seen → IsLed acts.does played_plan seen read
-      → IsLeftFor has_none (write_acts acts gives_names) task starts printed drives read new unwritten → FollowsPlans has_none acts gives_names task played_plan old new
+      → IsLeftFor has_none (write_acts acts gives_names) task starts texts drives read new unwritten → FollowsPlans has_none acts gives_names task played_plan old new
   follows true sees reads left = record {
     seen = seen;
     ended = left.0.written;
@@ -385,7 +398,7 @@ module _ {F : Type 0} (acts : ReadActs F) (gives_names : F → Option HostError 
       record {
         seen = seen;
         read = read;
-        printed = printed;
+        texts = texts;
         drives = drives;
         left = left.left;
         sees = sees;
@@ -394,7 +407,7 @@ module _ {F : Type 0} (acts : ReadActs F) (gives_names : F → Option HostError 
           seen = w.seen;
           ended = w.written.written;
           sees = w.sees;
-          calls = (w.written.calls.0, left_led (outputs_with (list_of_play task) (outs_of task) printed drives left.left) w.written.calls.0 w.written.calls.1, w.written.calls.2);
+          calls = (w.written.calls.0, left_led (outputs_with task texts drives left.left) w.written.calls.0 w.written.calls.1, w.written.calls.2);
           named = w.written.named;
         };
       }
@@ -406,6 +419,7 @@ programs_follow {F} acts gives_names ended told task io old new status h =
     let r = p.reads in
     let plan = plan_of_play task p.places in
     let I = IsPlanned plan.inputs in
+    let going = planned_if_any SavingFile (option_map (λ n. n.now) task.from) in
     let file = planned_if_any Plain (option_map (λ n. n.now) task.file) in
     let places = inputs_of_places p.places in
     let system = planned_if_any Image (option_map (λ n. n.now) task.system) in
@@ -414,15 +428,24 @@ programs_follow {F} acts gives_names ended told task io old new status h =
     let script = planned_if_any Plain keys in
     let recording = planned_if_any Plain replay in
     let ins = such_itself plan.inputs in
-    let scripted = such_left I (file ++ places ++ system ++ script) recording ins in
-    let started = such_left I (file ++ places ++ system) script scripted in
-    let first = such_left I (file ++ places) system started in
-    let program = program_led acts.does plan (option_map (λ n. n.now) task.file) p.g.program r.seen r.start.begun r.start.read
-    (such_left I file places first) in
-    let disks = drives_led acts.does plan p.places p.g.drives r.start.begun r.start.between r.start.drives (such_right I file places first) in
-    let drive = system_led acts.does plan (option_map (λ n. n.now) task.system) p.g.system r.start.between r.started r.start.system (such_right I (file ++ places) system started) in
+    let scripted = such_left I (going ++ file ++ places ++ system ++ script) recording ins in
+    let started = such_left I (going ++ file ++ places ++ system) script scripted in
+    let placed = such_left I (going ++ file ++ places) system started in
+    let first = such_left I (going ++ file) places placed in
+    let saved = saved_led acts.does plan (option_map (λ n. n.now) task.from) p.g.saved r.seen r.start.given r.start.saved (such_left I going file first) in
+    let program = program_led acts.does plan (option_map (λ n. n.now) task.file) p.g.program r.start.given r.start.begun r.start.read
+    (such_right I going file first) in
+    let disks = drives_led acts.does plan p.places p.g.drives r.start.begun r.start.between r.start.drives (such_right I (going ++ file) places placed) in
+    let drive = system_led acts.does plan (option_map (λ n. n.now) task.system) p.g.system r.start.between r.started r.start.system
+    (such_right I (going ++ file ++ places) system started) in
     let said = keys_led acts.does plan keys replay p.said r.started h.read r.keys
-    (such_both I script recording (such_right I (file ++ places ++ system) script scripted) (such_right I (file ++ places ++ system ++ script) recording ins)) in
-    let begun = led_on acts.does plan r.seen r.start.begun r.started program (led_on acts.does plan r.start.begun r.start.between r.started disks drive) in
-    let reads = led_on acts.does plan r.seen r.started h.read begun said in
-    (p.places, r.prepared.found, follows acts gives_names task p.places (task_starts task p.g) h.printed h.play.drives old r.seen h.read new h.unwritten (has_no_folder task) r.prepared.sees reads h.left)
+    (such_both I script recording (such_right I (going ++ file ++ places ++ system) script scripted)
+    (such_right I (going ++ file ++ places ++ system ++ script) recording ins)) in
+    let loaded = led_on acts.does plan r.seen r.start.given r.start.begun saved program in
+    let begun = led_on acts.does plan r.seen r.start.begun r.started loaded (led_on acts.does plan r.start.begun r.start.between r.started disks drive) in
+    let reads = led_on acts.does plan r.seen r.started h.read begun said in (
+      p.places,
+      r.prepared.found,
+      follows acts gives_names task p.places (task_starts task p.g) (texts_left h.printed h.play) h.play.drives old r.seen h.read new
+          h.unwritten (has_no_folder task) r.prepared.sees reads h.left,
+    )

@@ -6,7 +6,7 @@ use Rattle.cpm_command_line.specs.declared.task.DiskTask.{DiskTask}
 use Rattle.cpm_command_line.specs.declared.task.DiskTask.TheVariants.{New, List as Listing, Put, Get, Remove, Rename}
 use Rattle.cpm_command_line.specs.declared.task.PlayTask.{PlayTask}
 use Rattle.cpm_command_line.specs.declared.task.Task.{Task}
-use Rattle.cpm_command_line.specs.declared.task.Task.TheVariants.{Com, Boot, Asm, List as Lines, Check, Run, Debug, Disk, Help}
+use Rattle.cpm_command_line.specs.declared.task.Task.TheVariants.{Com, Boot, Asm, List as Lines, Check, Run, Debug, Saved, Disk, Help}
 use Rattle.cpm_disk_commands.specs.declared.damage.NamedFile.{NamedFile}
 use Rattle.cpm_host.specs.declared.error.HostError.{HostError}
 use Rattle.cpm_play.specs.declared.live.PlayEnd.{PlayEnd}
@@ -27,6 +27,7 @@ use Rattle.cpm_commands.specs.Plan.{Plan}
 use Rattle.cpm_commands.specs.Play.{HasPlayedTask, IsPlayRefused, ReadActs}
 use Rattle.cpm_commands.specs.Report.{IsUnprinted}
 use Rattle.cpm_commands.specs.Run.{HasRunSessions, IsRunStopped}
+use Rattle.cpm_commands.specs.Saved.{HasToldSaved, IsSavedTellingRefused}
 use Rattle.cpm_commands.specs.declared.drives.DrivePlace.{DrivePlace}
 
 -- ---- what a command goes through
@@ -115,6 +116,7 @@ IsPlainTaskDone {F} {W} acts told p (Run task) =
     p.io.unread p.io.left p.io.before.console p.io.written.console p.io.unrecorded p.io.record_now
 IsPlainTaskDone {F} {W} acts told p (Debug file cpu list) =
     HasDebugged acts.does file.now cpu (option_map (λ n. n.now) list) p.old p.new p.unread p.io.before.console p.io.written.console
+IsPlainTaskDone {F} {W} acts told p (Saved file) = HasToldSaved acts.does file.now p.old p.new p.io.before.console p.io.written.console
 IsPlainTaskDone {F} {W} acts told p (Disk task) = IsDiskTaskDone acts p task
 IsPlainTaskDone {F} {W} acts told p (Help page) = (p.new ≡ p.old) × Appends p.io.before.console p.io.written.console (text_of_page page)
 
@@ -172,5 +174,6 @@ IsTaskRefused {F} {W} acts told p (Run task) e =
     p.io.unread p.io.left p.io.before.console p.io.written.console p.io.unrecorded p.io.record_now e
 IsTaskRefused {F} {W} acts told p (Debug file cpu list) e =
     IsDebugRefused acts.does file.now cpu (option_map (λ n. n.now) list) p.old p.new p.unread p.io.before.console p.io.written.console p.out p.out_now e
+IsTaskRefused {F} {W} acts told p (Saved file) e = IsSavedTellingRefused acts.does file.now p.old p.new p.out p.out_now e
 IsTaskRefused {F} {W} acts told p (Disk task) e = IsDiskTaskRefused acts p task e
 IsTaskRefused {F} {W} acts told p (Help page) e = (p.new ≡ p.old) × IsUnprinted e

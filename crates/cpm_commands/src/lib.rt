@@ -21,6 +21,7 @@ mod record;
 mod replays;
 mod report;
 mod run;
+mod saved;
 mod task;
 mod typed;
 
@@ -37,4 +38,5 @@ pub use play::do_play_task;
 pub use record::KeyRecord;
 pub use report::LineWriter;
 pub use run::{SessionsWatcher, run_sessions};
+pub use saved::tell_saved;
 pub use task::do_task;

@@ -24,6 +24,7 @@ use crate::play::do_play_task;
 use crate::record::KeyRecord;
 use crate::report::{LineWriter, print_text};
 use crate::run::{SessionsWatcher, run_sessions};
+use crate::saved::tell_saved;
 use cpm_command_line::{Page, page_text};
 use cpm_host::{DiskTask, HostError, Task, Typist};
 use std::alloc::Global;
@@ -230,6 +231,7 @@ pub fn do_task<
         Task::Debug { file, cpu, list } => {
             plain(debug_program(alloc, file, *cpu, *list, files, input, out))
         }
+        Task::Saved { file } => plain(tell_saved(alloc, file, files, out)),
         Task::Disk(task) => plain(do_disk(alloc, task, files, out)),
         Task::Help(page) => plain(print_page(*page, out)),
     }

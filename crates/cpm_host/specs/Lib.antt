@@ -4,4 +4,6 @@ pub mod Laws
 pub mod Listing
 pub mod Program
 pub mod Refusals
+pub mod Saved
 pub mod Tails
+pub mod SavedText

@@ -7,6 +7,7 @@ mod copies;
 mod disks;
 mod hosts;
 mod machines;
+mod screens;
 mod stages;
 mod stores;
 mod texts;
@@ -68,7 +69,7 @@ impl CallOutcome {
 }
 
 /// The calls, as they are named on the command line.
-const NAMES: [&str; 45] = [
+const NAMES: [&str; 51] = [
     "command",
     "FlatMemory::new",
     "FrameStore::new",
@@ -79,9 +80,13 @@ const NAMES: [&str; 45] = [
     "Machine::new",
     "Machine::with_program",
     "Machine::with_command",
+    "Machine::save",
+    "Machine::restored",
     "Host::new",
     "Host::open",
     "Host::fork",
+    "Host::save",
+    "Host::restore",
     "assemble",
     "Config::read",
     "read_keys",
@@ -104,6 +109,8 @@ const NAMES: [&str; 45] = [
     "rename_file",
     "matching_files",
     "write_list",
+    "TextScreen::new",
+    "TextScreen::copy",
     "tail_of",
     "run_asm",
     "run_debug",
@@ -129,9 +136,13 @@ fn make(alloc: Global, name: &str) -> Result<CallOutcome, AllocError> {
         "Machine::new" => machines::machine(alloc),
         "Machine::with_program" => machines::machine_with_program(alloc),
         "Machine::with_command" => machines::machine_with_command(alloc),
+        "Machine::save" => machines::save(alloc),
+        "Machine::restored" => machines::restored(alloc),
         "Host::new" => hosts::new(alloc),
         "Host::open" => hosts::open(alloc),
         "Host::fork" => hosts::fork(alloc),
+        "Host::save" => hosts::save(alloc),
+        "Host::restore" => hosts::restore(alloc),
         "assemble" => Ok(texts::source(alloc)),
         "Config::read" => Ok(texts::configuration(alloc)),
         "read_keys" => Ok(texts::key_script(alloc)),
@@ -157,6 +168,8 @@ fn make_command(alloc: Global, name: &str) -> Result<CallOutcome, AllocError> {
         | "rename_file"
         | "matching_files"
         | "write_list" => disks::of_disk_commands(alloc, name),
+        "TextScreen::new" => Ok(screens::new(alloc)),
+        "TextScreen::copy" => screens::copy(alloc),
         "tail_of" => Ok(commands::tail(alloc)),
         "run_asm" => Ok(commands::asm(alloc)),
         "run_debug" => commands::debug(alloc),

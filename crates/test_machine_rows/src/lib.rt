@@ -5,8 +5,10 @@ mod hosts;
 mod look;
 mod machines;
 mod playing;
+mod saved;
 mod shown;
 mod timed_typist;
 
 pub use hosts::Hosts;
 pub use machines::Machines;
+pub use saved::SavedMachines;

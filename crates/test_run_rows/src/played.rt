@@ -61,6 +61,8 @@ impl Programs {
             tail: self.tail.clone()?,
             drives: self.drives(alloc)?,
             system: self.system_if_any(alloc)?,
+            saved: None,
+            is_saved: false,
         })
     }
 

@@ -30,6 +30,7 @@ fn add_task(alloc: Global, out: &mut String, task: &Task<'_>) -> Result<(), RowF
             add_program(alloc, out, "debug file", file, *cpu)?;
             add_text(alloc, out, " list", *list)
         }
+        Task::Saved { file } => add_text(alloc, out, "saved file", Some(file)),
         Task::Disk(task) => add_disk(alloc, out, task),
         Task::Help(page) => add_help(alloc, out, *page),
     }
@@ -106,7 +107,8 @@ fn add_play(
     add_count(alloc, out, " steps", task.steps)?;
     add_keys(alloc, out, task)?;
     add_flags(out, task)?;
-    add_replay(alloc, out, task)
+    add_replay(alloc, out, task)?;
+    add_saved(alloc, out, task)
 }
 
 /// Adds the keys of a machine, its drives and what is recorded.
@@ -135,6 +137,12 @@ fn add_replay(alloc: Global, out: &mut String, task: &PlayTask<'_>) -> Result<()
     add_text(alloc, out, " system", task.system)?;
     add_texts(alloc, out, " out_folders", task.out_folders.as_slice())?;
     add_text(alloc, out, " list", task.list)
+}
+
+/// Adds the file that a machine is saved to, and that of the one that it goes on from.
+fn add_saved(alloc: Global, out: &mut String, task: &PlayTask<'_>) -> Result<(), RowFault> {
+    add_text(alloc, out, " save", task.save)?;
+    add_text(alloc, out, " from", task.from)
 }
 
 /// Adds a configuration that is run.
