@@ -202,6 +202,14 @@ pub record CanFork (parent : StartInput) (at : ℕ) (names : Option ℕ) : Type 
   pub begun : saved_count parent ≤ at
   pub named : AreDrivesNamed names parent
 
+-- a whole count of the session, or of one that is forked from it, as one that begins where its counts begin in the run
+abbrev pub own_count : SessionInput → ℕ → ℕ
+own_count i count = count - saved_count i.start
+
+-- a session that is forked from this one, at this count that begins where this one's counts begin in the run, says this
+abbrev pub HasSaidFrom : Option StoreFiles → List Replay → SessionConfig → (parent : SessionInput) → (at : ℕ) → List CueText → Type 0
+HasSaidFrom files replays s parent at said = HasForkedSaid files (key_source replays s) at (known_of replays at parent) said
+
 -- its counts begin where its parent's begin in the run, which is not behind the fork
 pub record IsForkedInput (files : Option StoreFiles) (replays : List Replay) (before : List SessionInput) (name : StoreName) (at : ℕ) (i : SessionInput)
     : Type 0 where
@@ -209,9 +217,9 @@ pub record IsForkedInput (files : Option StoreFiles) (replays : List Replay) (be
   pub parent : SessionInput
   pub found : IsParent before name place parent
   pub fits : CanFork parent.start at (names_wanted i.session)
-  pub start : i.start ≡ Forks place (at - saved_count parent.start)
-  pub steps : i.steps ≡ i.session.steps - saved_count parent.start
-  pub said : let own = at - saved_count parent.start in HasForkedSaid files (key_source replays i.session) own (known_of replays own parent) i.said
+  pub start : i.start ≡ Forks place (own_count parent at)
+  pub steps : i.steps ≡ own_count parent i.session.steps
+  pub said : HasSaidFrom files replays i.session parent (own_count parent at) i.said
 
 -- ---- for each
 
@@ -275,8 +283,7 @@ fork_need s parent at = ForkOf (string_bytes s.name) parent at (names_wanted s)
 -- of a session that is forked from the one that was found, at a whole count
 abbrev pub forked_needs : List Replay → SessionConfig → (at : ℕ) → Option SessionInput → List Need
 forked_needs replays s at None = []
-forked_needs replays s at (Some parent) =
-    fork_need s parent.start at ∷ keys_from replays (key_source replays s) parent (at - saved_count parent.start)
+forked_needs replays s at (Some parent) = fork_need s parent.start at ∷ keys_from replays (key_source replays s) parent (own_count parent at)
 
 abbrev pub saving_need : SessionConfig → (saving : StoreName) → Need
 saving_need s saving = SavingIn saving (string_bytes s.name) (names_wanted s)
@@ -303,6 +310,18 @@ pub record IsForkMisnamed (parent : StartInput) (at : ℕ) (names : Option ℕ) 
   pub saving : Saving
   pub from : parent ≡ Restores saving
   pub misnamed : IsMisnamed names saving.state drives count
+
+-- it can't, as the error says, with the forked session's name as it is shown: it is before the saving, or else another number of files is named
+abbrev pub IsForkFault : (session : StoreName) → (parent : StartInput) → (at : ℕ) → (names : Option ℕ) → ReadError → Type 0
+IsForkFault session parent at names (ForkedEarly shown told count) =
+    (shown.bytes ≡ shown_of (chars session)) × (told ≡ at) × (count ≡ saved_count parent) × (at < count)
+IsForkFault session parent at names (SavedDrives shown drives count) =
+    (shown.bytes ≡ shown_of (chars session)) × IsForkMisnamed parent at names drives count
+IsForkFault session parent at names _ = ⊥
+
+-- how a session is refused that is forked so: for that, or if out of memory
+abbrev pub IsForkRefusal : SessionConfig → (parent : StartInput) → (at : ℕ) → ReadError → Type 0
+IsForkRefusal s parent at e = (e ≡ OutOfMemory) ⊎ IsForkFault (string_bytes s.name) parent at (names_wanted s) e
 
 -- the file holds what is needed, or the fork can be made
 abbrev pub IsMet : Option StoreFiles → Need → Type 0
@@ -338,10 +357,7 @@ IsFault files (RecordingIn name at) (Script shown line fault) = (shown.bytes ≡
 IsFault files (SavingIn name session names) (error.Saving refusal) = (refusal.name.bytes ≡ shown_of (chars name)) × IsNoSavingIn files name refusal.damage
 IsFault files (SavingIn name session names) (SavedDrives shown drives count) =
     (shown.bytes ≡ shown_of (chars session)) × IsMisnamedIn files name names drives count
-IsFault files (ForkOf session parent at names) (ForkedEarly shown told count) =
-    (shown.bytes ≡ shown_of (chars session)) × (told ≡ at) × (count ≡ saved_count parent) × (at < count)
-IsFault files (ForkOf session parent at names) (SavedDrives shown drives count) =
-    (shown.bytes ≡ shown_of (chars session)) × IsForkMisnamed parent at names drives count
+IsFault files (ForkOf session parent at names) e = IsForkFault session parent at names e
 IsFault files need _ = ⊥
 
 -- the first of the needs that isn't met is refused so

@@ -1,5 +1,5 @@
 -- What is read for the sessions of a configuration, as the calls of a store in their order. All of it is own.
-use Rattle.std.specs.Prelude.{◌≡◌, ◌≤◌, ◌<◌, ◌⊎◌, ◌-◌, ℕ, List, [], ◌∷◌, ◌++◌, length, map, chars}
+use Rattle.std.specs.Prelude.{◌≡◌, ◌≤◌, ◌⊎◌, ℕ, List, [], ◌∷◌, ◌++◌, length, map, chars}
 use Rattle.std.specs.Prelude.{Option, Some, None, IsSomeAnd, Result, Ok, Err, IfErr, OnOk, String, string_bytes}
 use Rattle.std.specs.declared.alloc.Global.{Global}
 use Rattle.cpm_command_line.specs.Shown.{shown_of}
@@ -17,12 +17,12 @@ use Rattle.cpm_script.specs.Fork.{forked_cues}
 use Rattle.cpm_script.specs.declared.fault.LineFault.{LineFault}
 use Rattle.cpm_store.specs.Files.{CountsFailure, StoreFiles, StoreName}
 use Rattle.cpm_store.specs.Log.{StoreAccess, AreNoWrites, Gave, Missed, LogLeadsBy, Then}
-use Rattle.cpm_batch.specs.Inputs.{CanFork, ForkOf, Forks, ForkedScriptIn, ImageIn, IsFileFault, IsForkMisnamed, IsImage, IsParent, Need, Opens, RecordingIn}
-use Rattle.cpm_batch.specs.Inputs.{Restores, SavingIn, ScriptIn, SessionInput, known_of, needed_name, needs_of, saved_count}
+use Rattle.cpm_batch.specs.Inputs.{CanFork, ForkOf, Forks, ForkedScriptIn, ImageIn, IsFileFault, IsForkFault, IsImage, IsParent, Need, Opens, RecordingIn}
+use Rattle.cpm_batch.specs.Inputs.{Restores, SavingIn, ScriptIn, SessionInput, known_of, needed_name, needs_of, own_count}
 use Rattle.cpm_batch.specs.Savings.{AreAllNamed, IsMisnamed, names_wanted}
 use Rattle.cpm_batch.specs.Sources.{IsRecordingOf, NoSource, RecordingFile, ScriptFile, SourceOfKeys, key_source, recording_fault}
 use Rattle.cpm_batch.specs.declared.error.ReadError.{ReadError}
-use Rattle.cpm_batch.specs.declared.error.ReadError.TheVariants.{File, ForkedEarly, Image, OutOfMemory, SavedDrives, Script}
+use Rattle.cpm_batch.specs.declared.error.ReadError.TheVariants.{File, Image, OutOfMemory, SavedDrives, Script}
 use Rattle.cpm_batch.specs.declared.error.ReadError.TheVariants as error
 use Rattle.cpm_batch.specs.declared.source.Replay.{Replay}
 
@@ -77,6 +77,10 @@ IsForkedSaidRead NoSource at before said log = (said ≡ []) × (log ≡ [])
 IsForkedSaidRead (ScriptFile name) at before said log = IsForkedScriptRead name at before said log
 IsForkedSaidRead (RecordingFile name) at before said log = IsRecordingRead name at said log
 
+-- that of a session that is forked from this one, at this count that begins where this one's counts begin in the run
+abbrev pub IsSaidReadFrom : List Replay → SessionConfig → (parent : SessionInput) → (at : ℕ) → List CueText → List StoreAccess → Type 0
+IsSaidReadFrom replays s parent at said log = IsForkedSaidRead (key_source replays s) at (known_of replays at parent) said log
+
 -- the reads of a session that is opened: its drives, then its script, or the recording in place of that
 pub record IsOpenedRead (replays : List Replay) (cpu : Cpu) (quota : ℕ) (names : List (String Global)) (i : SessionInput) (log : List StoreAccess)
     : Type 0 where
@@ -97,8 +101,8 @@ pub record IsForkedRead (replays : List Replay) (before : List SessionInput) (na
   pub parent : SessionInput
   pub found : IsParent before name place parent
   pub fits : CanFork parent.start at (names_wanted i.session)
-  pub start : i.start ≡ Forks place (at - saved_count parent.start)
-  pub calls : let own = at - saved_count parent.start in IsForkedSaidRead (key_source replays i.session) own (known_of replays own parent) i.said log
+  pub start : i.start ≡ Forks place (own_count parent at)
+  pub calls : IsSaidReadFrom replays i.session parent (own_count parent at) i.said log
 
 -- those of a session that begins so
 abbrev pub IsInputReadOf : List Replay → (before : List SessionInput) → Origin → SessionInput → List StoreAccess → Type 0
@@ -181,10 +185,7 @@ IsFaultRead (SavingIn name session names) (error.Saving refusal) log =
     (refusal.name.bytes ≡ shown_of (chars name)) × IsNoSavingRead name refusal.damage log
 IsFaultRead (SavingIn name session names) (SavedDrives shown drives count) log =
     (shown.bytes ≡ shown_of (chars session)) × IsMisnamedRead name names drives count log
-IsFaultRead (ForkOf session parent at names) (ForkedEarly shown told count) log =
-    (shown.bytes ≡ shown_of (chars session)) × (told ≡ at) × (count ≡ saved_count parent) × (at < count) × (log ≡ [])
-IsFaultRead (ForkOf session parent at names) (SavedDrives shown drives count) log =
-    (shown.bytes ≡ shown_of (chars session)) × IsForkMisnamed parent at names drives count × (log ≡ [])
+IsFaultRead (ForkOf session parent at names) e log = IsForkFault session parent at names e × (log ≡ [])
 IsFaultRead need _ log = ⊥
 
 -- a read of each of the needs in order, up to the first that isn't met, and none after it

@@ -1,14 +1,14 @@
 //! Reading what a session needs that is forked from an earlier one.
-ghost use Rattle.std.specs.Prelude.{◌≡◌, ◌<◌, ◌≤◌, ◌∷◌, [], IfErr, IfOk, IfSome, OnOk, Option, is_some, length, map, true};
+ghost use Rattle.std.specs.Prelude.{◌≡◌, ◌<◌, ◌≤◌, ◌∷◌, [], IfErr, IfOk, IfSome, OnOk, Some, ℕ, is_some, length, map, true};
 ghost use Rattle.cpm_config.specs.Rules.{parent_in, session_view};
 ghost use Rattle.cpm_script.specs.Cues.{all_said, cue_text};
 ghost use Rattle.cpm_store.specs.Log.{LogLeadsBy};
-ghost use Rattle.cpm_batch.specs.Inputs.{AllInputs, ForkedScriptIn, HasForkedSaid, IsForkedInput, IsForkedScriptIn, IsNeedRefusal};
-ghost use Rattle.cpm_batch.specs.Inputs.{CanFork, fork_need, forked_key_needs, forked_needs, given, known_before, known_of, session_named, session_place, start_view};
+ghost use Rattle.cpm_batch.specs.Inputs.{AllInputs, CanFork, ForkedScriptIn, Forks, HasForkedSaid, HasSaidFrom, IsForkedInput, IsForkedScriptIn};
+ghost use Rattle.cpm_batch.specs.Inputs.{IsForkRefusal, IsNeedRefusal, forked_key_needs, forked_needs, given, known_before, known_of};
+ghost use Rattle.cpm_batch.specs.Inputs.{own_count, saved_count, session_named, session_place, start_view};
 ghost use Rattle.cpm_batch.specs.Savings.{names_wanted};
-ghost use Rattle.cpm_store.specs.Files.{StoreFiles};
 ghost use Rattle.cpm_batch.specs.Sources.{key_source};
-ghost use Rattle.cpm_batch.specs.Reads.{IsForkedRead, IsForkedSaidRead, IsForkedScriptRead, OnlyRead, StopsAmongNeeds};
+ghost use Rattle.cpm_batch.specs.Reads.{IsForkedRead, IsForkedSaidRead, IsForkedScriptRead, IsSaidReadFrom, OnlyRead, StopsAmongNeeds};
 ghost use Rattle.cpm_script.specs.Script.{most_keys};
 
 use crate::error::ReadError;
@@ -121,8 +121,7 @@ fn check_fork(
     at: u64,
 ) -> Result<(), ReadError>
     ensures fits { OnOk result (CanFork (start_view parent.now) at (names_wanted session.now)) }
-    ensures refusal { (files : Option StoreFiles) → IfErr result (IsNeedRefusal files (fork_need session.now (start_view parent.now) at ∷ [])) }
-    ensures stops { IfErr result (λ e. StopsAmongNeeds (fork_need session.now (start_view parent.now) at ∷ []) e []) }
+    ensures refusal { IfErr result (IsForkRefusal session.now (start_view parent.now) at) }
 {
     let Start::Restored(saved) = parent else {
         return Ok(());
@@ -136,6 +135,45 @@ fn check_fork(
         });
     }
     check_names(alloc, session, saved)
+}
+
+/// What a session needs that is forked from this one, which stands at this place, at a whole count of steps.
+fn read_forked_from<'a, S: Store>(
+    alloc: Global,
+    store: &mut S,
+    session: &'a SessionConfig,
+    replays: &[Replay<'_>],
+    parent: &Input,
+    place: usize,
+    at: u64,
+) -> Result<Input<'a>, ReadError>
+    requires few { (own : ℕ) → known_of replays.now own (given parent.now) ≤ most_keys }
+    ensures fits { OnOk result (CanFork (given parent.now).start at (names_wanted session.entry.now)) }
+    ensures start { IfOk result (λ i. (given i).start ≡ Forks place (own_count (given parent.now) at)) }
+    ensures steps { IfOk result (λ i. i.steps ≡ own_count (given parent.now) session.entry.now.steps) }
+    ensures said { IfOk result (λ i. HasSaidFrom (S.files store.old) replays.now session.entry.now (given parent.now) (own_count (given parent.now) at) (given i).said) }
+    ensures log { IfOk result (λ i. LogLeadsBy S.does (IsSaidReadFrom replays.now session.entry.now (given parent.now) (own_count (given parent.now) at) (given i).said) store.old store.new) }
+    ensures session { IfOk result (λ i. i.session.now ≡ session.entry.now) }
+    ensures refusal { let needs = forked_needs replays.now session.entry.now at (Some (given parent.now)) in
+        IfErr result (IsNeedRefusal (S.files store.old) needs) }
+    ensures refused_log { let needs = forked_needs replays.now session.entry.now at (Some (given parent.now)) in
+        IfErr result (λ e. LogLeadsBy S.does (StopsAmongNeeds needs e) store.old store.new) }
+    ensures store { OnlyRead S.does S.files S.failed result store.old store.new }
+{
+    check_fork(alloc, session, &parent.start, at)?;
+    let saved = parent.start.saved_count();
+    let own = at - saved;
+    let known = known_of(parent, replays, own);
+    let cues = read_forked_cues_of(alloc, store, session, replays, own, known)?;
+    Ok(Input {
+        session,
+        start: Start::Forked {
+            parent: place,
+            at: own,
+        },
+        steps: session.steps.saturating_sub(saved),
+        cues,
+    })
 }
 
 /// What a session needs that is forked from the one of a name, which isn't forked and stands before it, at a whole count of steps.
@@ -162,19 +200,5 @@ pub(crate) fn read_forked<'a, S: Store>(
     let Some(place) = session_place(before, name) else {
         unreachable!()
     };
-    let parent = &before[place];
-    check_fork(alloc, session, &parent.start, at)?;
-    let begun = parent.start.saved_count();
-    let own = at - begun;
-    let first = known_of(parent, replays, own);
-    let cues = read_forked_cues_of(alloc, store, session, replays, own, first)?;
-    Ok(Input {
-        session,
-        start: Start::Forked {
-            parent: place,
-            at: own,
-        },
-        steps: session.steps.saturating_sub(begun),
-        cues,
-    })
+    read_forked_from(alloc, store, session, replays, &before[place], place, at)
 }
