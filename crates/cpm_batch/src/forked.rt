@@ -3,7 +3,8 @@ ghost use Rattle.std.specs.Prelude.{◌≡◌, ◌<◌, ◌≤◌, ◌∷◌, []
 ghost use Rattle.cpm_config.specs.Rules.{parent_in, session_view};
 ghost use Rattle.cpm_script.specs.Cues.{all_said, cue_text};
 ghost use Rattle.cpm_store.specs.Log.{LogLeadsBy};
-ghost use Rattle.cpm_batch.specs.Inputs.{AllInputs, CanFork, ForkedScriptIn, Forks, HasForkedSaid, HasSaidFrom, IsForkedInput, IsForkedScriptIn};
+ghost use Rattle.cpm_batch.specs.Held.{IsForkedScriptIn};
+ghost use Rattle.cpm_batch.specs.Inputs.{AllInputs, CanFork, ForkedScriptIn, Forks, HasForkedSaid, HasSaidFrom, IsForkedInput};
 ghost use Rattle.cpm_batch.specs.Inputs.{IsForkRefusal, IsNeedRefusal, forked_key_needs, forked_needs, given, known_before, known_of};
 ghost use Rattle.cpm_batch.specs.Inputs.{own_count, saved_count, session_named, session_place, start_view};
 ghost use Rattle.cpm_batch.specs.Savings.{names_wanted};

@@ -1,9 +1,10 @@
 //! Reading what a session needs that goes on from a saving, and how many files are named for its drives.
 ghost use Rattle.std.specs.Prelude.{◌≡◌, ◌∷◌, [], IfErr, IfOk, OnOk};
 ghost use Rattle.cpm_store.specs.Log.{LogLeadsBy};
+ghost use Rattle.cpm_batch.specs.Held.{IsSavingIn};
 ghost use Rattle.cpm_batch.specs.Inputs.{IsNeedRefusal, IsRestoredInput, given, restored_needs, saving_need};
 ghost use Rattle.cpm_batch.specs.Reads.{IsRestoredRead, IsSavingRead, OnlyRead, StopsAmongNeeds};
-ghost use Rattle.cpm_batch.specs.Savings.{AreAllNamed, IsMisnamedTold, IsSavingIn, names_wanted, saving_view};
+ghost use Rattle.cpm_batch.specs.Savings.{AreAllNamed, IsMisnamedTold, names_wanted, saving_view};
 
 use crate::error::ReadError;
 use crate::input::{Input, Start, read_bytes, read_cues_of};
