@@ -162,6 +162,17 @@ module _ {S : Type 0} {does : S → StoreAccess → S → Type 0} {files : S →
     counted = omega (arith, h.counted, g.counted);
   }
 
+  -- no read at all, with an error that is no file's
+  pub only_read_none : {X : Type 0} {e : ReadError} {s : S} → (IsFileFault e → ⊥) → OnlyRead {X = X} does files failed (Err e) s s
+  only_read_none other = record {
+    device = λ f. absurd (other f);
+    same = refl;
+    unwritten = ([], tt, refl);
+    uncounted = tt;
+    memory = λ _. refl;
+    counted = omega arith;
+  }
+
   -- the same of a call above that answers the error of one below
   pub only_read_failed : {X Y : Type 0} {e : ReadError} {s t : S} → OnlyRead {X = X} does files failed (Err e) s t → OnlyRead {X = Y} does files failed (Err e) s t
   only_read_failed h = record { device = h.device; same = h.same; unwritten = h.unwritten; uncounted = tt; memory = h.memory; counted = h.counted }
