@@ -10,7 +10,7 @@ use Rattle.cpm_store.proofs.LogLemmas.{ran_one}
 use Rattle.cpm_batch.specs.Held.{IsSavingIn}
 use Rattle.cpm_batch.specs.Inputs.{IsFault, IsFileFault, IsForkFault, IsForkRefusal, IsNeedRefusal, Need, Restores, SavingIn, StartInput, saved_count, saving_need}
 use Rattle.cpm_batch.specs.Reads.{IsFaultRead, IsSavingRead, StopsAmongNeeds}
-use Rattle.cpm_batch.specs.Savings.{AreAllNamed, IsMisnamedTold, IsSavingRefusal, names_wanted}
+use Rattle.cpm_batch.specs.Savings.{AreAllNamed, IsMisnamedTold, IsUnreadSaving, names_wanted}
 use Rattle.cpm_batch.specs.declared.error.ReadError.{ReadError}
 use Rattle.cpm_batch.specs.declared.error.ReadError.TheVariants as error
 
@@ -24,22 +24,22 @@ saving_read does name names bytes x s t call read named =
 -- ---- what is refused of the bytes of a file
 
 -- they are no saving
-pub unread_refused : (files : Option StoreFiles) (s : SessionConfig) (name : StoreName) (bytes : List ℕ) (e : ReadError) → Finds files name bytes → IsSavingRefusal name bytes e → IsNeedRefusal files (saving_need s name ∷ []) e
+pub unread_refused : (files : Option StoreFiles) (s : SessionConfig) (name : StoreName) (bytes : List ℕ) (e : ReadError) → Finds files name bytes → IsUnreadSaving name bytes e → IsNeedRefusal files (saving_need s name ∷ []) e
 unread_refused files s name bytes (error.Saving refusal) found h = inr (inl (h.0, record { bytes = bytes; found = found; read = h.1 }))
 unread_refused files s name bytes error.OutOfMemory found h = inl refl
 unread_refused files s name bytes _ found h = absurd h
 
-unread_stops : (s : SessionConfig) (name : StoreName) (bytes : List ℕ) (e : ReadError) → IsSavingRefusal name bytes e → StopsAmongNeeds (saving_need s name ∷ []) e (Gave name bytes ∷ [])
+unread_stops : (s : SessionConfig) (name : StoreName) (bytes : List ℕ) (e : ReadError) → IsUnreadSaving name bytes e → StopsAmongNeeds (saving_need s name ∷ []) e (Gave name bytes ∷ [])
 unread_stops s name bytes (error.Saving refusal) h = inr (inl (h.0, record { bytes = bytes; read = h.1; calls = refl }))
 unread_stops s name bytes error.OutOfMemory h = inl (refl, (tt, tt))
 unread_stops s name bytes _ h = absurd h
 
-pub unread_stopped : {S : Type 0} (does : S → StoreAccess → S → Type 0) (session : SessionConfig) (name : StoreName) (bytes : List ℕ) (e : ReadError) (s t : S) → does s (Gave name bytes) t → IsSavingRefusal name bytes e
+pub unread_stopped : {S : Type 0} (does : S → StoreAccess → S → Type 0) (session : SessionConfig) (name : StoreName) (bytes : List ℕ) (e : ReadError) (s t : S) → does s (Gave name bytes) t → IsUnreadSaving name bytes e
     → LogLeadsBy does (StopsAmongNeeds (saving_need session name ∷ []) e) s t
 unread_stopped does session name bytes e s t call h = (Gave name bytes ∷ [], unread_stops session name bytes e h, ran_one does (Gave name bytes) s t call)
 
 -- no file was missed
-pub unread_file : (name : StoreName) (bytes : List ℕ) (e : ReadError) → IsSavingRefusal name bytes e → IsFileFault e → ⊥
+pub unread_file : (name : StoreName) (bytes : List ℕ) (e : ReadError) → IsUnreadSaving name bytes e → IsFileFault e → ⊥
 unread_file name bytes (error.File shown) h f = absurd h
 unread_file name bytes _ h f = absurd f
 

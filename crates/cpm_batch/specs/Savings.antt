@@ -40,7 +40,7 @@ IsMisnamedTold session s error.OutOfMemory = ⊤
 IsMisnamedTold session s _ = ⊥
 
 -- how the bytes of a file are refused: they are no saving, for their first part that can't be read, with the name of the file as it is shown
-abbrev pub IsSavingRefusal : StoreName → (bytes : List ℕ) → ReadError → Type 0
-IsSavingRefusal name bytes (error.Saving refusal) = (refusal.name.bytes ≡ shown_of (chars name)) × (restored bytes ≡ Err refusal.damage)
-IsSavingRefusal name bytes error.OutOfMemory = ⊤
-IsSavingRefusal name bytes _ = ⊥
+abbrev pub IsUnreadSaving : StoreName → (bytes : List ℕ) → ReadError → Type 0
+IsUnreadSaving name bytes (error.Saving refusal) = (refusal.name.bytes ≡ shown_of (chars name)) × (restored bytes ≡ Err refusal.damage)
+IsUnreadSaving name bytes error.OutOfMemory = ⊤
+IsUnreadSaving name bytes _ = ⊥

@@ -8,7 +8,7 @@ ghost use Rattle.cpm_batch.specs.Savings.{AreAllNamed, IsMisnamedTold, names_wan
 
 use crate::error::ReadError;
 use crate::input::{Input, Start, read_bytes, read_cues_of};
-use crate::saved::{SavedMachine, saved_machine_of};
+use crate::saved::{SavedMachine, restored_machine};
 use crate::source::Replay;
 use cpm_command_line::shown;
 use cpm_config::SessionConfig;
@@ -53,7 +53,7 @@ fn read_saving<S: Store>(
     ensures store { OnlyRead S.does S.files S.failed result store.old store.new }
 {
     let bytes = read_bytes(alloc, store, name)?;
-    let saved = saved_machine_of(alloc, name, bytes.as_slice())?;
+    let saved = restored_machine(alloc, name, bytes.as_slice())?;
     check_names(alloc, session, &saved)?;
     Ok(saved)
 }
