@@ -4,7 +4,7 @@ use Rattle.std.specs.Prelude.{Option, Some, Ok, Err, IfErr, IfOk, OnOk, Result, 
 use Rattle.cpm_config.specs.declared.config.SessionConfig.{SessionConfig}
 use Rattle.cpm_store.specs.Files.{StoreFiles, StoreName}
 use Rattle.cpm_store.specs.Log.{LogLeadsBy, StoreAccess}
-use Rattle.cpm_batch.specs.Inputs.{CanFork, ForkOf, Forks, HasSaidFrom, IsFault, IsFileFault, IsForkFault, IsForkRefused, IsForkedInput, IsNeedRefusal, Need, SessionInput, StartInput, fork_need, forked_needs, given, own_count}
+use Rattle.cpm_batch.specs.Inputs.{CanFork, ForkOf, Forks, HasSaidFrom, IsFault, IsFileFault, IsForkFault, IsForkGivenUp, IsForkedInput, IsNeedRefusal, Need, SessionInput, StartInput, fork_need, forked_needs, given, own_count}
 use Rattle.cpm_batch.specs.Reads.{IsFaultRead, IsForkedRead, IsSaidReadFrom, OnlyRead, StopsAmongNeeds}
 use Rattle.cpm_batch.specs.Savings.{names_wanted}
 use Rattle.cpm_batch.specs.declared.error.ReadError.{ReadError}
@@ -62,10 +62,10 @@ fork_unread session parent at names (error.ForkedEarly shown told count) h = (h,
 fork_unread session parent at names (error.SavedDrives shown drives count) h = (h, refl)
 fork_unread session parent at names _ h = absurd h
 
-pub fork_refused : (files : Option StoreFiles) (s : SessionConfig) (parent : StartInput) (at : ℕ) (needs : List Need) (e : ReadError) → IsForkRefused s parent at e → IsNeedRefusal files (fork_need s parent at ∷ needs) e
+pub fork_refused : (files : Option StoreFiles) (s : SessionConfig) (parent : StartInput) (at : ℕ) (needs : List Need) (e : ReadError) → IsForkGivenUp s parent at e → IsNeedRefusal files (fork_need s parent at ∷ needs) e
 fork_refused files s parent at needs e h = ⊎_elim (λ m. inl m) (λ f. inr (inl (fork_fault files (string_bytes s.name) parent at (names_wanted s) e f))) h
 
-pub fork_stopped : {S : Type 0} (does : S → StoreAccess → S → Type 0) (session : SessionConfig) (parent : StartInput) (at : ℕ) (needs : List Need) (e : ReadError) (s : S) → IsForkRefused session parent at e
+pub fork_stopped : {S : Type 0} (does : S → StoreAccess → S → Type 0) (session : SessionConfig) (parent : StartInput) (at : ℕ) (needs : List Need) (e : ReadError) (s : S) → IsForkGivenUp session parent at e
     → LogLeadsBy does (StopsAmongNeeds (fork_need session parent at ∷ needs) e) s s
 fork_stopped does session parent at needs e s h =
     ([], ⊎_elim (λ m. inl (m, tt)) (λ f. inr (inl (fork_unread (string_bytes session.name) parent at (names_wanted session) e f))) h, refl)
@@ -74,6 +74,6 @@ no_file : (session : StoreName) (parent : StartInput) (at : ℕ) (names : Option
 no_file session parent at names (error.File shown) h f = absurd h
 no_file session parent at names _ h f = absurd f
 
-pub fork_file : (s : SessionConfig) (parent : StartInput) (at : ℕ) (e : ReadError) → IsForkRefused s parent at e → IsFileFault e → ⊥
+pub fork_file : (s : SessionConfig) (parent : StartInput) (at : ℕ) (e : ReadError) → IsForkGivenUp s parent at e → IsFileFault e → ⊥
 fork_file s parent at e h f =
     ⊎_elim (λ m. subst IsFileFault m f) (λ g. no_file (string_bytes s.name) parent at (names_wanted s) e g f) h

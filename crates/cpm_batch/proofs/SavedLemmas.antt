@@ -8,7 +8,7 @@ use Rattle.cpm_store.specs.Files.{Finds, StoreFiles, StoreName}
 use Rattle.cpm_store.specs.Log.{Gave, LogLeadsBy, StoreAccess}
 use Rattle.cpm_store.proofs.LogLemmas.{ran_one}
 use Rattle.cpm_batch.specs.Held.{IsSavingIn}
-use Rattle.cpm_batch.specs.Inputs.{IsFault, IsFileFault, IsForkFault, IsForkRefused, IsNeedRefusal, Need, Restores, SavingIn, StartInput, saved_count, saving_need}
+use Rattle.cpm_batch.specs.Inputs.{IsFault, IsFileFault, IsForkFault, IsForkGivenUp, IsNeedRefusal, Need, Restores, SavingIn, StartInput, saved_count, saving_need}
 use Rattle.cpm_batch.specs.Reads.{IsFaultRead, IsSavingRead, StopsAmongNeeds}
 use Rattle.cpm_batch.specs.Savings.{AreAllNamed, IsMisnamedTold, IsUnreadSaving, names_wanted}
 use Rattle.cpm_batch.specs.declared.error.ReadError.{ReadError}
@@ -66,7 +66,7 @@ misnamed_file s m _ h f = absurd f
 -- ---- forks
 
 -- one of a saving, behind it, for which another number of files is named
-pub fork_misnamed : (s : SessionConfig) (x : Saving) (parent : StartInput) (at : ℕ) (e : ReadError) → parent ≡ Restores x → x.state.count ≤ at → IsMisnamedTold s x.state e → IsForkRefused s parent at e
+pub fork_misnamed : (s : SessionConfig) (x : Saving) (parent : StartInput) (at : ℕ) (e : ReadError) → parent ≡ Restores x → x.state.count ≤ at → IsMisnamedTold s x.state e → IsForkGivenUp s parent at e
 fork_misnamed s x parent at (error.SavedDrives shown drives count) is behind h =
     inr (h.0, record { begun = subst (λ (p : StartInput). saved_count p ≤ at) (sym is) behind; saving = x; from = is; misnamed = h.1 })
 fork_misnamed s x parent at error.OutOfMemory is behind h = inl refl

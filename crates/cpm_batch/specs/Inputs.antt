@@ -262,8 +262,8 @@ IsForkFault session parent at names (SavedDrives shown drives count) =
 IsForkFault session parent at names _ = ⊥
 
 -- how a session is refused that is forked so: for that, or if out of memory
-abbrev pub IsForkRefused : SessionConfig → (parent : StartInput) → (at : ℕ) → ReadError → Type 0
-IsForkRefused s parent at e = (e ≡ OutOfMemory) ⊎ IsForkFault (string_bytes s.name) parent at (names_wanted s) e
+abbrev pub IsForkGivenUp : SessionConfig → (parent : StartInput) → (at : ℕ) → ReadError → Type 0
+IsForkGivenUp s parent at e = (e ≡ OutOfMemory) ⊎ IsForkFault (string_bytes s.name) parent at (names_wanted s) e
 
 -- the file holds what is needed, or the fork can be made
 abbrev pub IsMet : Option StoreFiles → Need → Type 0

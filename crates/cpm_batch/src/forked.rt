@@ -5,7 +5,7 @@ ghost use Rattle.cpm_script.specs.Cues.{all_said, cue_text};
 ghost use Rattle.cpm_store.specs.Log.{LogLeadsBy};
 ghost use Rattle.cpm_batch.specs.Held.{IsForkedScriptIn};
 ghost use Rattle.cpm_batch.specs.Inputs.{AllInputs, CanFork, ForkedScriptIn, Forks, HasForkedSaid, HasSaidFrom, IsForkedInput};
-ghost use Rattle.cpm_batch.specs.Inputs.{IsForkRefused, IsNeedRefusal, forked_key_needs, forked_needs, given, known_before, known_of};
+ghost use Rattle.cpm_batch.specs.Inputs.{IsForkGivenUp, IsNeedRefusal, forked_key_needs, forked_needs, given, known_before, known_of};
 ghost use Rattle.cpm_batch.specs.Inputs.{own_count, saved_count, session_named, session_place, start_view};
 ghost use Rattle.cpm_batch.specs.Savings.{names_wanted};
 ghost use Rattle.cpm_batch.specs.Sources.{key_source};
@@ -122,7 +122,7 @@ fn check_fork(
     at: u64,
 ) -> Result<(), ReadError>
     ensures fits { OnOk result (CanFork (start_view parent.now) at (names_wanted session.now)) }
-    ensures refusal { IfErr result (IsForkRefused session.now (start_view parent.now) at) }
+    ensures refusal { IfErr result (IsForkGivenUp session.now (start_view parent.now) at) }
 {
     let Start::Restored(saved) = parent else {
         return Ok(());
