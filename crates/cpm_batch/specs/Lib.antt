@@ -1,3 +1,4 @@
+pub mod Savings
 pub mod Inputs
 pub mod Outputs
 pub mod Reads
