@@ -3,7 +3,7 @@ use Rattle.std.specs.Vec.Iter.{into_iter_items}
 use Rattle.cpm_slots.specs.HostWithStore.{HostWithStore}
 use Rattle.cpm_play.specs.declared.player.Player.{Player}
 use Rattle.cpm_run.proofs.SlotLemmas.{first_closed, first_closes}
-use Rattle.cpm_run.proofs.play.next_closed.Goals as goal
+use Rattle.cpm_run.proofs.finish.next_closed.Goals as goal
 
 pub returns-in-Ok : goal.returns-in-Ok
 returns-in-Ok c = λ p ps s is at.

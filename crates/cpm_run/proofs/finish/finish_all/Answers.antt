@@ -1,6 +1,6 @@
 use Rattle.std.specs.Vec.Iter.{into_iter_items}
 use Rattle.cpm_run.proofs.FinishLemmas.{finished_early, finishing_more, none_there}
-use Rattle.cpm_run.proofs.play.finish_all.Goals as goal
+use Rattle.cpm_run.proofs.finish.finish_all.Goals as goal
 
 pub returns-in_default : goal.returns-in_default
 returns-in_default c =
