@@ -214,7 +214,6 @@ pub record IsClosed (p : ScriptedSlot) (ps : List Player) (s : MachineState) (is
   pub saved : saved_bytes left.saved ≡ saving_if is_saved old.system s
   pub others_play : rest ≡ ps
   pub others : (id : ℕ) → id ≢ p.id.0 → slot_at id new.slots ≡ slot_at id old.slots
-  pub system : new.system ≡ old.system
 
 -- what is reported of a session, by what is left of it
 abbrev pub report_by : SessionConfig → EndedSlot → ReportEntry

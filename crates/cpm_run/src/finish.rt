@@ -59,9 +59,10 @@ fn next_closed(
     players: &mut IntoIter<Player>,
     is_saved: bool,
 ) -> Result<Option<EndedSlot>, AllocError>
-    ensures { IfOk result (λ left. (p : ScriptedSlotValue) (ps : List PlayerValue) (s : MachineState) → into_iter_items players.old ≡ Playing p ∷ ps
+    ensures closed { IfOk result (λ left. (p : ScriptedSlotValue) (ps : List PlayerValue) (s : MachineState) → into_iter_items players.old ≡ Playing p ∷ ps
         → slot_at p.id.0 host.old.host.slots ≡ Some s
         → IsClosed p ps s is_saved host.old.host host.new.host left (into_iter_items players.new)) }
+    ensures system { host.new.host.system ≡ host.old.host.system }
 {
     let Some(Player::Playing(slot)) = players.next() else {
         return Ok(None);
