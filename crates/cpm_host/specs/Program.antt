@@ -27,8 +27,7 @@ use Rattle.cpm_machine.specs.declared.opening.OpenError.TheVariants.{BadDrives}
 use Rattle.cpm_machine.specs.declared.opening.Opening.{Opening}
 use Rattle.cpm_play.specs.Cued.{AreAscii, HasEndedCued, IsCued, IsCutOff, key_count}
 use Rattle.cpm_play.specs.Live.{AreGiven}
-use Rattle.cpm_play.specs.Pacing.{state_left}
-use Rattle.cpm_play.specs.Playing.{alone_by, waits_at}
+use Rattle.cpm_play.specs.Playing.{alone_by, waits_at, state_left}
 use Rattle.cpm_play.specs.Sitting.{IsPlayCut, IsTypedPlay, sitting}
 use Rattle.cpm_play.specs.declared.cued.CuedKeys.{CuedKeys}
 use Rattle.cpm_play.specs.declared.live.LiveError.{LiveError}
