@@ -178,7 +178,7 @@ fn open(
 }
 
 /// A line to a slot.
-fn act_slot(
+pub(crate) fn act_slot(
     alloc: Global,
     host: &mut Host,
     verb: &str,
@@ -286,7 +286,7 @@ fn close(alloc: Global, host: &mut Host, id: SlotId) -> Result<RowAnswer, RowFau
 }
 
 /// `take SLOT`, or `take SLOT N`.
-fn take(
+pub(crate) fn take(
     alloc: Global,
     host: &mut Host,
     shown: &mut TakenBytes,
@@ -301,7 +301,7 @@ fn take(
 }
 
 /// `list SLOT`, or `list SLOT N`.
-fn take_list(
+pub(crate) fn take_list(
     alloc: Global,
     host: &mut Host,
     shown: &mut TakenBytes,
