@@ -112,8 +112,8 @@ pub data IsSavedDebugRefused {F W : Type 0} (does : F → StoreAccess → F → 
   NoSystem : (saving : Saving) (given : F) → IsSavingGiven does file old given saving → IsSystemUnread does system given new e → out_now ≡ out
       → IsSavedDebugRefused does file system list old new unread before printed out out_now e
   -- the listing can't be read
-  NoListing : (saving : Saving) (disk : Option Disk) (given between : F) → IsSavingGiven does file old given saving → IsSystemRead does system given between disk
-      → IsListingUnread does list between new e → out_now ≡ out
+  NoListing : (saving : Saving) (disk : Option Disk) (given between : F) → IsSavingGiven does file old given saving
+      → IsSystemRead does system given between disk → IsListingUnread does list between new e → out_now ≡ out
       → IsSavedDebugRefused does file system list old new unread before printed out out_now e
   -- all were read
   NotDebugged : (saving : Saving) (disk : Option Disk) (listing : List ℕ) → IsSavedDebugRead does file system list old new saving disk listing

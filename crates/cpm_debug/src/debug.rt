@@ -79,8 +79,8 @@ fn converse<R: BufRead, W: Write>(
 }
 
 /// Answers the orders of the lines that it reads with a machine over this system drive, each before it reads the next, up to `Q`, to the end of the input, or
-/// to 1,000,000 lines. A line is dropped, and ends the dialog, where it doesn't end within the first 16,777,216 bytes. What the machine already did isn't asked:
-/// it may have been stopped anywhere.
+/// to 1,000,000 lines. A line is dropped, and ends the dialog, where it doesn't end within the first 16,777,216 bytes. The machine may have been stopped
+/// anywhere.
 ///
 /// The orders are `S n`, `G addr n`, `D addr`, `L addr`, `R`, `K text`, `O` and `Q`. After the answer to `S`, `G` and `R` comes the line of the
 /// assembler's listing that shows the bytes at the program's PC, if it has one. An empty listing has none.
