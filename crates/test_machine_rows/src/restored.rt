@@ -27,6 +27,8 @@ struct Beside {
     host: Host,
     digest: SystemDigest,
     slots: Vec<SlotId>,
+    /// Whether the next slot is forked, and the fork goes on in its place.
+    forks: bool,
 }
 
 impl Scene for RestoredSlots {
@@ -156,12 +158,13 @@ impl Beside {
                 host,
                 digest,
                 slots: Vec::new(alloc),
+                forks: false,
             }),
             Err(_) => Err(RowFault::Unready),
         }
     }
 
-    /// One more slot, from the bytes of the machine.
+    /// One more slot, from the bytes of the machine: each second one is a fork of the slot that was restored.
     fn add(&mut self, alloc: Global, machine: &Machine) -> Result<(), RowFault> {
         if self.slots.len() >= MOST_BESIDE {
             let oldest = self.slots.remove(0);
@@ -173,8 +176,25 @@ impl Beside {
         let Ok(id) = self.host.restore(alloc, bytes.as_slice()) else {
             return Err(RowFault::Unready);
         };
+        let id = if self.forks {
+            self.fork_of(alloc, id)?
+        } else {
+            id
+        };
+        self.forks = !self.forks;
         self.slots.push(id)?;
         Ok(())
+    }
+
+    /// A fork of a slot, in its place.
+    fn fork_of(&mut self, alloc: Global, id: SlotId) -> Result<SlotId, RowFault> {
+        let Ok(fork) = self.host.fork(alloc, id) else {
+            return Err(RowFault::Unready);
+        };
+        if self.host.close(id).is_err() {
+            return Err(RowFault::Absent);
+        }
+        Ok(fork)
     }
 
     /// Whether all slots have the bytes of the machine.
