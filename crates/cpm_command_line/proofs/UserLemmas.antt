@@ -30,6 +30,6 @@ users_of words (Asm source out listing) has = tt
 users_of words (Listed file cpu) has = tt
 users_of words (Check image) has = tt
 users_of words (Run task) has = tt
-users_of words (Debug file cpu listing) has = tt
+users_of words (Debug task) has = tt
 users_of words (Saved file) has = tt
 users_of words (Help page) has = tt

@@ -226,7 +226,7 @@ run_whole words e =
     }
 
 debug_plain : IsPlain debug_built.rules
-debug_plain = plain_by_ids debug_built.rules refl (operand_word _ _, (flag_word _, (value_word _, (help_word, tt))))
+debug_plain = plain_by_ids debug_built.rules refl (free_word _ _, (flag_word _, (value_word _, (value_word _, (value_word _, (help_word, tt))))))
 
 debug_shorts : HasHelpShorts debug_built.rules
 debug_shorts x a is = help_found x a is
@@ -234,9 +234,7 @@ debug_shorts x a is = help_found x a is
 debug_whole : (words : List Text) → level_fault debug_built [] nothing_held words false [] ≡ [] → IsWholeDebug (rows_after debug_built.rules [] words)
 debug_whole words e =
     let rows = rows_after debug_built.rules [] words in
-    let file = one_given (is_given (codes "file") rows) (leaf_checked debug_built debug_plain debug_shorts words e) in
     record {
-      file = given_first debug_built debug_plain debug_shorts words e file_rule (inl refl) file;
       z80 = pick_of rows (default_text debug_built debug_plain debug_shorts words e z80_rule (inr (inl refl)) tt);
     }
 

@@ -97,10 +97,10 @@ run_app = with_rule (with_rule (with_rule (with_rule (with_rule (with_rule (with
     (flag (codes "stop-idle"))) (value_option (codes "record-all"))) (flag (codes "raw"))) (repeated_option (codes "within")))
     (flag (codes "outputs-here"))) (count_option (codes "pace"))) (repeated_option (codes "replay"))
 
--- own: `debug FILE [--z80] [--list FILE]`
+-- own: `debug [FILE] [--z80] [--list FILE] [--from FILE] [--system IMAGE]`
 abbrev pub debug_app : App
-debug_app = with_rule (with_rule (with_rule (new_app (codes "debug"))
-    (operand (codes "file"))) (flag (codes "z80"))) (value_option (codes "list"))
+debug_app = with_rule (with_rule (with_rule (with_rule (with_rule (new_app (codes "debug"))
+    (word_left_out (codes "file"))) (flag (codes "z80"))) (value_option (codes "list"))) (value_option (codes "from"))) (value_option (codes "system"))
 
 -- own: `saved FILE`
 abbrev pub saved_app : App
@@ -215,10 +215,12 @@ HasEntriesOf given (Run task) =
     × (one_of (codes "outputs-here") given.1 ≡ Some (bool_text task.has_outputs_here))
     × ReadsCountIfAny (one_of (codes "pace") given.1) task.pace
     × ReadsWordsIfAny (all_of (codes "replay") given.1) task.replays.items
-HasEntriesOf given (Debug file cpu list) =
-    (given.0 ≡ codes "debug") × (first_of (codes "file") given.1 ≡ Some file.now)
-    × (one_of (codes "z80") given.1 ≡ Some (flag_text cpu))
-    × (first_of (codes "list") given.1 ≡ option_map (λ t. t.now) list)
+HasEntriesOf given (Debug task) =
+    (given.0 ≡ codes "debug") × (first_of (codes "file") given.1 ≡ option_map (λ t. t.now) task.file)
+    × (one_of (codes "z80") given.1 ≡ Some (flag_text task.cpu))
+    × (first_of (codes "list") given.1 ≡ option_map (λ t. t.now) task.list)
+    × (first_of (codes "from") given.1 ≡ option_map (λ t. t.now) task.from)
+    × (first_of (codes "system") given.1 ≡ option_map (λ t. t.now) task.system)
 HasEntriesOf given (Saved file) =
     (given.0 ≡ codes "saved") × (first_of (codes "file") given.1 ≡ Some file.now)
 HasEntriesOf given (Disk task) = ⊥
@@ -285,7 +287,6 @@ pub record IsWholeRun (rows : List Row) : Type 0 where
 
 -- the entries of `debug` are whole
 pub record IsWholeDebug (rows : List Row) : Type 0 where
-  pub file : IsSome (first_of (codes "file") rows)
   pub z80 : IsPick (one_of (codes "z80") rows)
 
 -- own: the entries of `saved` are whole

@@ -3,15 +3,16 @@ use Rattle.std.specs.Prelude.{◌&&◌, ◌||◌, ◌==◌, Bool, ℕ, false, if
 use Rattle.cpm_flags.specs.declared.regs.Cpu.{Cpu}
 use Rattle.cpm_flags.specs.declared.regs.Cpu.TheVariants.{I8080, Z80}
 use Rattle.cpm_command_line.specs.declared.fault.UsageFault.{UsageFault}
-use Rattle.cpm_command_line.specs.declared.fault.UsageFault.TheVariants.{FolderWithoutDisk, FolderWithoutDrive, FromWithPlace, FromWithStart}
+use Rattle.cpm_command_line.specs.declared.fault.UsageFault.TheVariants.{FolderWithoutDisk, FolderWithoutDrive, FromWithPlace, FromWithProgram, FromWithStart}
 use Rattle.cpm_command_line.specs.declared.fault.UsageFault.TheVariants.{NoProgram, OutWithoutDisk, OutWithoutDrive}
 use Rattle.cpm_command_line.specs.declared.fault.UsageFault.TheVariants.{PaceUntyped, PaceZero, PartialWithoutOut}
 use Rattle.cpm_command_line.specs.declared.fault.UsageFault.TheVariants.{ProgressAtKeyboard, ProgressAtPrompt, RecordAlone, RecordUntyped}
-use Rattle.cpm_command_line.specs.declared.fault.UsageFault.TheVariants.{TooManyDisks, TooManyPlaces, TwoScripts}
+use Rattle.cpm_command_line.specs.declared.fault.UsageFault.TheVariants.{SystemWithoutFrom, TooManyDisks, TooManyPlaces, TwoScripts}
+use Rattle.cpm_command_line.specs.declared.task.DebugTask.{DebugTask}
 use Rattle.cpm_command_line.specs.declared.task.PlayTask.{PlayTask}
 use Rattle.cpm_command_line.specs.declared.task.RunTask.{RunTask}
 use Rattle.cpm_command_line.specs.declared.task.Task.{Task}
-use Rattle.cpm_command_line.specs.declared.task.Task.TheVariants.{Boot, Com, Run}
+use Rattle.cpm_command_line.specs.declared.task.Task.TheVariants.{Boot, Com, Debug, Run}
 
 -- own: a pace of no steps in a second
 abbrev pub is_zero_pace : Option ℕ → Bool
@@ -81,9 +82,19 @@ fault_of_run task =
     else (if is_some task.pace && not (is_some task.keyboard) then Some PaceUntyped
     else None)))
 
+-- own: what is wrong first with the words and the options of `debug`. It has a program, or a saved machine, which has a program and a processor
+-- of its own; and only a saved machine has another system drive than a blank one
+abbrev pub fault_of_debug : DebugTask → Option UsageFault
+fault_of_debug task =
+    if not (is_some task.file || is_some task.from) then Some NoProgram
+    else (if is_some task.from && (is_some task.file || is_z80 task.cpu) then Some FromWithProgram
+    else (if is_some task.system && not (is_some task.from) then Some SystemWithoutFrom
+    else None))
+
 -- own: what is wrong first with the options of a task
 abbrev pub task_fault : Task → Option UsageFault
 task_fault (Com task) = fault_of_com task
 task_fault (Boot task) = fault_of_boot task
 task_fault (Run task) = fault_of_run task
+task_fault (Debug task) = fault_of_debug task
 task_fault _ = None

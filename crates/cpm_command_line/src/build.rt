@@ -123,9 +123,11 @@ const HOST_COMMANDS: [NamedCommand; 8] = [
     (
         "debug",
         &[
-            Argument::Word("file", "FILE"),
+            Argument::WordIfAny("file", "FILE"),
             Argument::Flag("z80"),
             Argument::Value("list", "FILE"),
+            Argument::Value("from", "FILE"),
+            Argument::Value("system", "IMAGE"),
         ],
     ),
     ("saved", &[Argument::Word("file", "FILE")]),

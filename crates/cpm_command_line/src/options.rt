@@ -1,11 +1,11 @@
 //! Options that don't go together, in a task that the reader of command lines takes.
 ghost use Rattle.std.specs.Prelude.{◌≡◌};
-ghost use Rattle.cpm_command_line.specs.Options.{fault_of_boot, fault_of_com, fault_of_play, fault_of_run};
+ghost use Rattle.cpm_command_line.specs.Options.{fault_of_boot, fault_of_com, fault_of_debug, fault_of_play, fault_of_run};
 ghost use Rattle.cpm_command_line.specs.Options.{fault_of_folders, fault_of_outs};
 ghost use Rattle.cpm_command_line.specs.Options.{has_start, is_z80, is_zero_pace, task_fault, written_at_most};
 
 use crate::fault::UsageFault;
-use crate::task::{PlayTask, RunTask, Task};
+use crate::task::{DebugTask, PlayTask, RunTask, Task};
 use cpm_flags::Cpu;
 
 /// How many drives can have an image: A to D.
@@ -144,6 +144,21 @@ fn run_fault(task: &RunTask<'_>) -> Option<UsageFault>
     }
 }
 
+/// What is wrong first with the words and the options of `debug`.
+fn debug_fault(task: &DebugTask<'_>) -> Option<UsageFault>
+    ensures { result ≡ fault_of_debug task.now }
+{
+    if task.file.is_none() && task.from.is_none() {
+        Some(UsageFault::NoProgram)
+    } else if task.from.is_some() && (task.file.is_some() || is_z80(task.cpu)) {
+        Some(UsageFault::FromWithProgram)
+    } else if task.system.is_some() && task.from.is_none() {
+        Some(UsageFault::SystemWithoutFrom)
+    } else {
+        None
+    }
+}
+
 /// What is wrong first with the options of the task.
 pub(crate) fn options_fault(task: &Task<'_>) -> Option<UsageFault>
     ensures { result ≡ task_fault task.now }
@@ -152,6 +167,7 @@ pub(crate) fn options_fault(task: &Task<'_>) -> Option<UsageFault>
         Task::Com(com) => com_fault(com),
         Task::Boot(boot) => boot_fault(boot),
         Task::Run(run) => run_fault(run),
+        Task::Debug(debug) => debug_fault(debug),
         _ => None,
     }
 }

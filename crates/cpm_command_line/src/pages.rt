@@ -231,17 +231,27 @@ are those that 'cpmhost help com' lists, but for Exited, and one more:
 /// The page of `debug`.
 pub const DEBUG_PAGE: &str = "\
 Usage: cpmhost debug FILE [--z80] [--list FILE]
+       cpmhost debug --from FILE [--list FILE] [--system IMAGE]
 
-Run the program in FILE as the lines of standard input say.
+Run the program in FILE, or the machine that was saved in FILE, as the lines of
+standard input say.
 
 Options:
   --z80       run it on the Z80; it is the 8080 unless this is given
   --list FILE
               read a listing of the program, as asm writes it, from FILE
+  --from FILE
+              go on with the machine that com or boot wrote to FILE by --save,
+              with its registers, memory, drives, keys and count of steps, in
+              place of a program. Nothing is written to FILE
+  --system IMAGE
+              the image of the disk in the system drive of that machine, which
+              must be the same; a blank disk unless this is given
   -h, --help  print this page
 
 Examples:
   cpmhost debug hello.com --list hello.lst
+  cpmhost debug --from turbo.sav
 
 Lines that debug reads, where HHHH is an address of four hexadecimal digits:
   S N         make N steps

@@ -15,7 +15,7 @@ use crate::disk::disk_task;
 use crate::entries::{count_if_any, cpu_of, flag_of, text_if_any, text_of, texts_if_any};
 use crate::fault::{UsageError, UsageRefusal, answer};
 use crate::options::options_fault;
-use crate::task::{PlayTask, RunTask, Task};
+use crate::task::{DebugTask, PlayTask, RunTask, Task};
 use crate::usage::{Page, is_help_line, page_of_help_line, page_of_line};
 use clap::ArgMatches;
 use std::alloc::{AllocError, Global};
@@ -163,12 +163,13 @@ fn debug_task<'a>(matches: &ArgMatches<'a>) -> Task<'a>
     requires { IsWholeDebug (rows_of (found_of matches.now)) }
     ensures { HasEntriesOf (codes "debug", rows_of (found_of matches.now)) result }
 {
-    let cpu = cpu_of(matches);
-    Task::Debug {
-        file: text_of(matches, "file"),
-        cpu,
+    Task::Debug(DebugTask {
+        file: text_if_any(matches, "file"),
+        cpu: cpu_of(matches),
         list: text_if_any(matches, "list"),
-    }
+        from: text_if_any(matches, "from"),
+        system: text_if_any(matches, "system"),
+    })
 }
 
 /// The task of `saved`.

@@ -28,13 +28,8 @@ pub enum Task<'a> {
     },
     /// `run ..`: run the sessions of a configuration.
     Run(RunTask<'a>),
-    /// `debug FILE [--z80] [--list FILE]`: run the program in FILE on that processor, as lines of standard
-    /// input say. `list` is a listing as `asm` writes it, which is read.
-    Debug {
-        file: &'a str,
-        cpu: Cpu,
-        list: Option<&'a str>,
-    },
+    /// `debug ..`: run a program, or go on with a saved machine, as lines of standard input say.
+    Debug(DebugTask<'a>),
     /// `saved FILE`: tell what the machine is that is saved in FILE.
     Saved {
         file: &'a str,
@@ -137,6 +132,25 @@ pub struct RunTask<'a> {
     pub pace: Option<u64>,
     /// The recordings whose keys are pressed in place of the scripts of sessions, each as NAME=FILE.
     pub replays: Vec<&'a str>,
+}
+
+/// A machine that is debugged: one that begins a program, or one that was saved.
+///
+/// `debug FILE [--z80] [--list FILE]`: the program in FILE on that processor.
+///
+/// `debug --from FILE [--list FILE] [--system IMAGE]`: the machine that is saved in FILE.
+#[derive(Drop)]
+pub struct DebugTask<'a> {
+    /// The file that the program is in. There is one without `from`, and else none.
+    pub file: Option<&'a str>,
+    /// The processor that it runs on. With `from` it is the 8080 here, and that of the saved machine counts.
+    pub cpu: Cpu,
+    /// The file of a listing as `asm` writes it, which is read, where one was given.
+    pub list: Option<&'a str>,
+    /// The file of a saved machine, in place of a program and a processor.
+    pub from: Option<&'a str>,
+    /// The image of the system drive of that machine, where one was given. Only with `from`.
+    pub system: Option<&'a str>,
 }
 
 /// A command of `disk` with its words. The files are those of `user`, from 0 to 15.

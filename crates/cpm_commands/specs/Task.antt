@@ -18,7 +18,7 @@ use Rattle.cpm_store.specs.Files.{StoreFiles, StoreName}
 use Rattle.cpm_store.specs.Log.{StoreAccess}
 use Rattle.cpm_commands.specs.Asm.{HasAssembled, IsAsmRefused}
 use Rattle.cpm_commands.specs.Check.{HasChecked, IsCheckRefused}
-use Rattle.cpm_commands.specs.Debug.{HasDebugged, IsDebugRefused}
+use Rattle.cpm_commands.specs.Debug.{IsDebugTaskDone, IsDebugTaskRefused}
 use Rattle.cpm_commands.specs.Disk.{ArePut, HasChanged, HasListedDisk, HasMadeDisk, HasRemoved, HasRenamedOn}
 use Rattle.cpm_commands.specs.Disk.{IsChangeRefused, IsDiskListRefused, IsNewRefused, IsNotRemoved, IsPutStopped, IsRenameRefused}
 use Rattle.cpm_commands.specs.Get.{HasGot, IsGetRefused}
@@ -114,8 +114,7 @@ IsPlainTaskDone {F} {W} acts told p (Check image) = HasChecked acts.does image.n
 IsPlainTaskDone {F} {W} acts told p (Run task) =
     HasRunSessions (store_acts acts) acts.sees_to acts.gives_names acts.tells_name told.ended told.told_illegal task p.old p.new
     p.io.unread p.io.left p.io.before.console p.io.written.console p.io.unrecorded p.io.record_now
-IsPlainTaskDone {F} {W} acts told p (Debug file cpu list) =
-    HasDebugged acts.does file.now cpu (option_map (λ n. n.now) list) p.old p.new p.unread p.io.before.console p.io.written.console
+IsPlainTaskDone {F} {W} acts told p (Debug task) = IsDebugTaskDone acts.does task p.old p.new p.unread p.io.before.console p.io.written.console
 IsPlainTaskDone {F} {W} acts told p (Saved file) = HasToldSaved acts.does file.now p.old p.new p.io.before.console p.io.written.console
 IsPlainTaskDone {F} {W} acts told p (Disk task) = IsDiskTaskDone acts p task
 IsPlainTaskDone {F} {W} acts told p (Help page) = (p.new ≡ p.old) × Appends p.io.before.console p.io.written.console (text_of_page page)
@@ -129,7 +128,7 @@ plays_programs _ = false
 
 -- it takes its orders from standard input
 abbrev pub reads_orders : Task → Bool
-reads_orders (Debug file cpu list) = true
+reads_orders (Debug task) = true
 reads_orders _ = false
 
 -- The command that the words name, by their values, and no other; and the exit status.
@@ -172,8 +171,8 @@ IsTaskRefused {F} {W} acts told p (Check image) e = IsCheckRefused acts.does ima
 IsTaskRefused {F} {W} acts told p (Run task) e =
     IsRunStopped (store_acts acts) acts.sees_to acts.gives_names acts.tells_name told.ended told.told_illegal task p.old p.new
     p.io.unread p.io.left p.io.before.console p.io.written.console p.io.unrecorded p.io.record_now e
-IsTaskRefused {F} {W} acts told p (Debug file cpu list) e =
-    IsDebugRefused acts.does file.now cpu (option_map (λ n. n.now) list) p.old p.new p.unread p.io.before.console p.io.written.console p.out p.out_now e
+IsTaskRefused {F} {W} acts told p (Debug task) e =
+    IsDebugTaskRefused acts.does task p.old p.new p.unread p.io.before.console p.io.written.console p.out p.out_now e
 IsTaskRefused {F} {W} acts told p (Saved file) e = IsSavedTellingRefused acts.does file.now p.old p.new p.out p.out_now e
 IsTaskRefused {F} {W} acts told p (Disk task) e = IsDiskTaskRefused acts p task e
 IsTaskRefused {F} {W} acts told p (Help page) e = (p.new ≡ p.old) × IsUnprinted e

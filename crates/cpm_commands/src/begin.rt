@@ -60,7 +60,7 @@ fn read_saved<F: CommandFiles>(
 }
 
 /// The system drive in a file, if one is named.
-fn read_system<F: CommandFiles>(
+pub(crate) fn read_system<F: CommandFiles>(
     alloc: Global,
     name: Option<&str>,
     files: &mut F,

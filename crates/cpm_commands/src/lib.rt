@@ -27,7 +27,7 @@ mod typed;
 
 pub use asm::assemble_file;
 pub use check::check_image;
-pub use debug::debug_program;
+pub use debug::{debug_program, debug_saved, do_debug_task};
 pub use disk::{PutOptions, list_disk, new_disk, put_files, remove_from_disk, rename_on_disk};
 pub use files::CommandFiles;
 pub use get::{GetOptions, get_files};

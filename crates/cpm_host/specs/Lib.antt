@@ -1,5 +1,6 @@
 pub mod Asm
 pub mod AsmListing
+pub mod Debugged
 pub mod Laws
 pub mod Listing
 pub mod Program

@@ -4,6 +4,7 @@
 
 mod asm;
 mod asm_listing;
+mod debug;
 mod error;
 mod input;
 pub mod laws;
@@ -18,8 +19,8 @@ pub use asm::{ProgramListing, run_asm, run_asm_listed};
 pub use cpm_batch::{ReadError, Replay, SavedMachine, SavingRefusal};
 pub use cpm_check::{CheckError, run_check};
 pub use cpm_command_line::{
-    DiskTask, Page, PlayTask, RunTask, ShownWord, Task, UsageError, UsageFault, UsageRefusal,
-    VERSION, asks_version, command, page_text, shown,
+    DebugTask, DiskTask, Page, PlayTask, RunTask, ShownWord, Task, UsageError, UsageFault,
+    UsageRefusal, VERSION, asks_version, command, page_text, shown,
 };
 pub use cpm_config::{Config, ConfigError, Origin, SessionConfig};
 pub use cpm_debug::{DebugError, run_debug};
@@ -36,6 +37,7 @@ pub use cpm_script::{
     Cue, Key, LineFault, MOST_KEYS, ScriptError, key_line, read_keys, read_recording,
 };
 pub use cpm_store::{MemoryStore, Store, StoreError};
+pub use debug::debug_start;
 pub use error::HostError;
 pub use input::{MOST_FILE, read_whole};
 pub use list::run_list;

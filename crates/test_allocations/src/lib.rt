@@ -7,6 +7,7 @@ mod copies;
 mod disks;
 mod hosts;
 mod machines;
+mod savings;
 mod screens;
 mod stages;
 mod stores;
@@ -114,6 +115,7 @@ const NAMES: [&str; 51] = [
     "tail_of",
     "run_asm",
     "run_debug",
+    "debug_start",
     "run_list",
     "cues_of",
     "run_program by a script",
@@ -121,6 +123,9 @@ const NAMES: [&str; 51] = [
     "run_program by a script and typed keys",
     "run_program at the prompt",
     "run_asm_listed",
+    "run_program that is saved",
+    "saved_machine_of",
+    "run_saved",
 ];
 
 /// Makes the call of this name, if there is one.
@@ -173,6 +178,7 @@ fn make_command(alloc: Global, name: &str) -> Result<CallOutcome, AllocError> {
         "tail_of" => Ok(commands::tail(alloc)),
         "run_asm" => Ok(commands::asm(alloc)),
         "run_debug" => commands::debug(alloc),
+        "debug_start" => savings::debugged(alloc),
         "run_list" => Ok(commands::list()),
         "cues_of" => Ok(waiting::cues(alloc)),
         "run_program by a script" => waiting::program(alloc),
@@ -180,6 +186,9 @@ fn make_command(alloc: Global, name: &str) -> Result<CallOutcome, AllocError> {
         "run_program by a script and typed keys" => waiting::program_typed_at(alloc),
         "run_program at the prompt" => waiting::prompt(alloc),
         "run_asm_listed" => Ok(waiting::listed_source(alloc)),
+        "run_program that is saved" => savings::played(alloc),
+        "saved_machine_of" => savings::read(alloc),
+        "run_saved" => savings::told(alloc),
         _ => Ok(CallOutcome::Wrong),
     }
 }

@@ -95,7 +95,7 @@ pub fn letter(alloc: Global) -> Result<Vec<u8>, AllocError> {
 }
 
 /// A machine that has begun to print its letter.
-fn begun(alloc: Global) -> Result<Machine, AllocError> {
+pub fn begun(alloc: Global) -> Result<Machine, AllocError> {
     let program = letter(alloc)?;
     let opening = opening(alloc, Cpu::I8080, 256)?;
     match Machine::with_program(alloc, opening, program) {

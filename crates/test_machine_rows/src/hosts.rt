@@ -9,7 +9,7 @@ use cpm_slots::{Event, Host, HostRestoreError, LEAST_FRAMES, MOST_FRAMES, Reply,
 use std::alloc::{AllocError, Global};
 use test_images::Images;
 use test_language::{
-    RowAnswer, RowFault, RowLine, Scene, Word, address, byte, bytes_of, number, write_bytes,
+    RowAnswer, RowFault, RowLine, Scene, Word, address, byte, bytes_of, count, number, write_bytes,
 };
 
 /// The byte of the reply that is no event's.
@@ -116,6 +116,7 @@ impl Hosts {
             ("run", []) => run(alloc, host, self.events.as_slice()),
             ("save", [slot]) => save(alloc, host, slot_of(*slot)?, &mut self.saved),
             ("restore", []) => restore(alloc, host, self.saved.as_slice()),
+            ("put", [place, value]) => put(&mut self.saved, count(*place)?, byte(*value)?),
             ("alike", [one, other]) => alike(alloc, host, slot_of(*one)?, slot_of(*other)?),
             ("take", [slot, room @ ..]) => {
                 take(alloc, host, &mut self.shown, slot_of(*slot)?, room)
@@ -178,7 +179,7 @@ fn open(
 }
 
 /// A line to a slot.
-fn act_slot(
+pub(crate) fn act_slot(
     alloc: Global,
     host: &mut Host,
     verb: &str,
@@ -227,6 +228,17 @@ fn save(
             RowAnswer::words(alloc, length)
         }
         Err(error) => RowAnswer::refused(alloc, error),
+    }
+}
+
+/// `put PLACE BYTE`: what was saved last has this byte there.
+fn put(saved: &mut Vec<u8>, place: usize, value: u8) -> Result<RowAnswer, RowFault> {
+    match saved.get_mut(place) {
+        Some(byte) => {
+            *byte = value;
+            Ok(RowAnswer::Done)
+        }
+        None => Err(RowFault::Number),
     }
 }
 
@@ -286,7 +298,7 @@ fn close(alloc: Global, host: &mut Host, id: SlotId) -> Result<RowAnswer, RowFau
 }
 
 /// `take SLOT`, or `take SLOT N`.
-fn take(
+pub(crate) fn take(
     alloc: Global,
     host: &mut Host,
     shown: &mut TakenBytes,
@@ -301,7 +313,7 @@ fn take(
 }
 
 /// `list SLOT`, or `list SLOT N`.
-fn take_list(
+pub(crate) fn take_list(
     alloc: Global,
     host: &mut Host,
     shown: &mut TakenBytes,

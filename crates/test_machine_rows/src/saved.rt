@@ -18,7 +18,7 @@ impl Scene for SavedMachines {
     }
 
     fn is_alone(verb: &str) -> bool {
-        verb == "prefixes" || Machines::is_alone(verb)
+        matches!(verb, "prefixes" | "every-prefix") || Machines::is_alone(verb)
     }
 
     fn takes_text(verb: &str) -> bool {
@@ -27,7 +27,8 @@ impl Scene for SavedMachines {
 
     fn act(&mut self, alloc: Global, line: &RowLine<'_>) -> Result<RowAnswer, RowFault> {
         match (line.verb(), line.arguments()) {
-            ("prefixes", []) => return self.prefixes(alloc),
+            ("prefixes", []) => return self.prefixes(alloc, false),
+            ("every-prefix", []) => return self.prefixes(alloc, true),
             ("mutations", [count]) => return self.mutations(alloc, number(*count)?),
             _ => {}
         }
@@ -48,11 +49,12 @@ impl SavedMachines {
         Ok(machine.save(alloc, &DIGEST)?)
     }
 
-    /// `prefixes`: whether the first bytes of its saving are refused, however many they are.
-    fn prefixes(&self, alloc: Global) -> Result<RowAnswer, RowFault> {
+    /// `prefixes`: whether the first bytes of its saving are refused, however many they are. Behind its front only one of so many lengths is tried: each, where
+    /// it is `every-prefix`.
+    fn prefixes(&self, alloc: Global, is_every: bool) -> Result<RowAnswer, RowFault> {
         let bytes = self.bytes(alloc)?;
         for length in 0..bytes.len() {
-            let is_tried = length < FRONT || length % STRIDE == 0;
+            let is_tried = is_every || length < FRONT || length % STRIDE == 0;
             if is_tried && !is_refused(alloc, &bytes.as_slice()[..length]) {
                 return RowAnswer::truth(alloc, false);
             }
