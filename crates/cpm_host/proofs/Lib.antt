@@ -4,4 +4,5 @@ pub mod DebugLemmas
 pub mod InputLemmas
 pub mod ListLemmas
 pub mod ProgramLemmas
+pub mod SavedTextLemmas
 pub mod TailLemmas

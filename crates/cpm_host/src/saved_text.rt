@@ -90,8 +90,8 @@ fn tell_drive<W: Write>(
     write_text(out, line.as_bytes())?;
     match list_files(alloc, image, letter) {
         Ok(listing) => Ok(write_list(alloc, image.format(), &listing, None, out)?),
-        Err(DiskCommandError::OutOfMemory) => Err(HostError::OutOfMemory),
-        Err(_) => write_text(out, b"its directory is damaged\n"),
+        Err(DiskCommandError::Damaged { .. }) => write_text(out, b"its directory is damaged\n"),
+        Err(_) => Err(HostError::OutOfMemory),
     }
 }
 
