@@ -27,8 +27,7 @@ use Rattle.cpm_machine.specs.declared.opening.OpenError.TheVariants.{BadDrives}
 use Rattle.cpm_machine.specs.declared.opening.Opening.{Opening}
 use Rattle.cpm_play.specs.Cued.{AreAscii, HasEndedCued, IsCued, IsCutOff, key_count}
 use Rattle.cpm_play.specs.Live.{AreGiven}
-use Rattle.cpm_play.specs.Pacing.{state_left}
-use Rattle.cpm_play.specs.Playing.{alone_by, waits_at}
+use Rattle.cpm_play.specs.Playing.{alone_by, waits_at, state_left}
 use Rattle.cpm_play.specs.Sitting.{IsPlayCut, IsTypedPlay, sitting}
 use Rattle.cpm_play.specs.declared.cued.CuedKeys.{CuedKeys}
 use Rattle.cpm_play.specs.declared.live.LiveError.{LiveError}
@@ -39,7 +38,8 @@ use Rattle.cpm_run.specs.Settled.{AreUntouched, Streams}
 use Rattle.cpm_store.specs.Files.{StoreName}
 use Rattle.cpm_run.specs.declared.error.RunError.TheVariants.{FileRefused}
 use Rattle.cpm_host.specs.Refusals.{host_error_of_live}
-use Rattle.cpm_host.specs.Saved.{is_of_system, saved_if, saving_view}
+use Rattle.cpm_batch.specs.Savings.{saving_view}
+use Rattle.cpm_host.specs.Saved.{is_of_system, saved_if}
 use Rattle.cpm_host.specs.declared.error.HostError.{HostError}
 use Rattle.cpm_host.specs.declared.error.HostError.TheVariants.{OpeningRefused, OutOfMemory, ProgramTooLong, RunRefused, SavedElsewhere}
 use Rattle.cpm_host.specs.declared.program.ProgramPlay.{ProgramPlay}

@@ -1,11 +1,11 @@
 use Rattle.std.proofs.Common.{◌∙◌, sym}
 use Rattle.std.proofs.lemmas.Result.{err_from_is_err_and}
-use Rattle.cpm_play.proofs.PlayLemmas.{come-start, played-all, room-all, some-left}
+use Rattle.cpm_play.proofs.PlayLemmas.{played-all, room-all, some-left}
 use Rattle.cpm_play.proofs.rounds.play.Goals as goal
 use Rattle.cpm_play.proofs.rounds.play.Goals.{then-may_fork, else-may_fork}
 
 pub loop-alloc-init : goal.loop-alloc-init
-loop-alloc-init g c = record { none = λ no. sym c.has_fork-may_fork.ensures ∙ no; come = come-start c.args.host.now.host c.args.players.now c.requires.ready c.requires.differ c.slots_are_orderly.ensures }
+loop-alloc-init g c = record { none = λ no. sym c.has_fork-may_fork.ensures ∙ no; come = c.in_ok-take_waiting.ensures.come }
 
 pub loop-alloc-smaller : goal.loop-alloc-smaller
 loop-alloc-smaller g c =
