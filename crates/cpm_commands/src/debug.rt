@@ -1,9 +1,9 @@
 //! The command `debug`.
 ghost use Rattle.std.specs.Prelude.{◌≡◌, IfErr, IfOk, OnOk, option_map};
+ghost use Rattle.cpm_batch.specs.Savings.{saving_view};
 ghost use Rattle.cpm_commands.specs.Debug.{HasDebugged, HasDebuggedSaved, IsDebugRefused, IsDebugTaskDone, IsDebugTaskRefused};
 ghost use Rattle.cpm_commands.specs.Debug.{IsListingRead, IsListingUnread, IsSavedDebugRefused, going_on};
 ghost use Rattle.cpm_host.specs.Program.{program_given};
-ghost use Rattle.cpm_host.specs.Saved.{saving_view};
 
 use crate::begin::read_system;
 use crate::files::{CommandFiles, read_file};

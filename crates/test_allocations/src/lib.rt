@@ -70,7 +70,7 @@ impl CallOutcome {
 }
 
 /// The calls, as they are named on the command line.
-const NAMES: [&str; 51] = [
+const NAMES: [&str; 55] = [
     "command",
     "FlatMemory::new",
     "FrameStore::new",

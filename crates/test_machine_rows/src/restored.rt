@@ -3,6 +3,7 @@
 use crate::hosts::{act_slot, take, take_list};
 use crate::machines::Machines;
 use crate::shown::TakenBytes;
+use cpm_geom::Image;
 use cpm_machine::{Machine, SystemDigest, digest_of};
 use cpm_slots::{Host, SlotId};
 use std::alloc::{AllocError, Global};
@@ -67,15 +68,12 @@ impl Scene for RestoredSlots {
 impl RestoredSlots {
     /// Has one more slot go on from the bytes of the machine, in the place of the oldest where there are many.
     fn restore(&mut self, alloc: Global) -> Result<(), RowFault> {
-        let Some(machine) = &self.machines.machine else {
-            return Err(RowFault::Absent);
-        };
         if self.beside.is_none() {
-            self.beside = Some(Beside::new(alloc, &self.machines)?);
+            self.beside = Some(Beside::new(alloc, &self.machines.system)?);
         }
-        match &mut self.beside {
-            Some(beside) => beside.add(alloc, machine),
-            None => Err(RowFault::Absent),
+        match (&self.machines.machine, &mut self.beside) {
+            (Some(machine), Some(beside)) => beside.add(alloc, machine),
+            _ => Err(RowFault::Absent),
         }
     }
 
@@ -150,10 +148,10 @@ impl RestoredSlots {
 }
 
 impl Beside {
-    /// No slot yet, in a host with the machine's system drive.
-    fn new(alloc: Global, machines: &Machines) -> Result<Beside, RowFault> {
-        let digest = digest_of(&machines.system);
-        match Host::new(alloc, machines.system.copy(alloc)?, FRAMES) {
+    /// No slot yet, in a host with this system drive.
+    fn new(alloc: Global, system: &Image) -> Result<Beside, RowFault> {
+        let digest = digest_of(system);
+        match Host::new(alloc, system.copy(alloc)?, FRAMES) {
             Ok(host) => Ok(Beside {
                 host,
                 digest,

@@ -131,11 +131,12 @@ fn is_exact_with(
 
 /// Whether bytes are refused, or are the saving of what they say.
 fn is_exact(alloc: Global, bytes: &[u8]) -> Result<bool, RowFault> {
-    match Machine::restored(alloc, bytes) {
-        Ok((digest, machine)) => Ok(machine.save(alloc, &digest)?.as_slice() == bytes),
-        Err(RestoreError::Damaged(_)) => Ok(true),
-        Err(RestoreError::OutOfMemory) => Err(RowFault::Unready),
-    }
+    let (digest, machine) = match Machine::restored(alloc, bytes) {
+        Ok(restored) => restored,
+        Err(RestoreError::Damaged(_)) => return Ok(true),
+        Err(RestoreError::OutOfMemory) => return Err(RowFault::Unready),
+    };
+    Ok(machine.save(alloc, &digest)?.as_slice() == bytes)
 }
 
 /// The machine of another one's bytes, whose own bytes are these.

@@ -1,7 +1,8 @@
 use Rattle.std.proofs.Common.{◌≡◌, ◌∙◌, List, Ok, ap, refl, subst, sym, ℕ}
 use Rattle.std.proofs.lemmas.Result.{err_from_is_err_and}
 use Rattle.cpm_host.specs.Program.{program_given}
-use Rattle.cpm_host.specs.Saved.{IsSavingRefusal, saving_view}
+use Rattle.cpm_batch.specs.Savings.{saving_view}
+use Rattle.cpm_host.specs.Saved.{IsSavingRefusal}
 use Rattle.cpm_machine.specs.Saving.{restored}
 use Rattle.cpm_commands.specs.Debug.IsSavedDebugRefused.{NoListing, NoSaving, NoSystem, Unread}
 use Rattle.cpm_commands.proofs.DebugLemmas.{debugged_of, undebugged_of}

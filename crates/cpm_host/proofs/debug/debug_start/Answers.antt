@@ -7,7 +7,7 @@ use Rattle.cpm_host.proofs.debug.debug_start.Goals as goal
 
 pub returns-in_err-machine-clause-refusal : goal.returns-in_err-machine-clause-refusal
 returns-in_err-machine-clause-refusal g c =
-    let p = err_from_is_err_and c.from_residual-in_err-machine.result c.from_residual-in_err-machine.ensures.1 in
+    let p = err_from_is_err_and c.from_residual.result c.from_residual.ensures.1 in
     rw (p.1, p.2) (NotBegun c.in_err-machine.ensures.refusal refl)
 
 pub returns-in_err-debug_machine-clause-refusal : goal.returns-in_err-debug_machine-clause-refusal
