@@ -1,8 +1,7 @@
 -- What the sessions of a configuration need, and what is read for them. All of it is own.
 use Rattle.std.specs.Prelude.{⊤, ◌≡◌, ◌≤◌, ◌<◌, ◌⊎◌, ◌-◌, ℕ, is_some, if◌then◌else◌, List, [], ◌∷◌, ◌++◌, length, map, chars, slice_get}
-use Rattle.std.specs.Prelude.{Option, Some, None, IsSomeAnd, option_and_then, option_map, Ok, Err, String, string_bytes}
+use Rattle.std.specs.Prelude.{Option, Some, None, IsSomeAnd, option_and_then, option_map, String, string_bytes}
 use Rattle.std.specs.Option.{option_map_or}
-use Rattle.std.specs.List.{concat}
 use Rattle.std.specs.declared.alloc.Global.{Global}
 use Rattle.cpm_command_line.specs.Shown.{shown_of}
 use Rattle.cpm_config.specs.Rules.{place_of, session_view}
@@ -11,16 +10,14 @@ use Rattle.cpm_config.specs.declared.config.Origin.{Origin}
 use Rattle.cpm_config.specs.declared.config.Origin.TheVariants as origin
 use Rattle.cpm_config.specs.declared.config.SessionConfig.{SessionConfig}
 use Rattle.cpm_flags.specs.declared.regs.Cpu.{Cpu}
-use Rattle.cpm_geom.specs.Disk.{Disk, IsDisk}
-use Rattle.cpm_geom.specs.Geometry.{format_of_length}
+use Rattle.cpm_geom.specs.Disk.{Disk}
 use Rattle.cpm_machine.specs.Saving.{Saving}
 use Rattle.cpm_refusals.specs.declared.code.RefusalCode.{RefusalCode}
 use Rattle.cpm_refusals.specs.declared.code.RefusalCode.TheVariants as code
-use Rattle.cpm_script.specs.Cues.{Awaited, Counted, CueText, Pressed, all_said, cues}
-use Rattle.cpm_script.specs.Fork.{forked_cues, keys_before}
-use Rattle.cpm_script.specs.declared.fault.LineFault.{LineFault}
+use Rattle.cpm_script.specs.Cues.{Awaited, Counted, CueText, Pressed, all_said}
+use Rattle.cpm_script.specs.Fork.{keys_before}
 use Rattle.cpm_script.specs.declared.script.Key.{Key}
-use Rattle.cpm_store.specs.Files.{StoreFiles, Finds, StoreName}
+use Rattle.cpm_store.specs.Files.{StoreFiles, StoreName}
 use Rattle.cpm_batch.specs.declared.error.ReadError.{ReadError}
 use Rattle.cpm_batch.specs.declared.error.ReadError.TheVariants.{File, ForkedEarly, Image, OutOfMemory, SavedDrives, Script}
 use Rattle.cpm_batch.specs.declared.error.ReadError.TheVariants as error
@@ -28,65 +25,10 @@ use Rattle.cpm_batch.specs.declared.input.Input.{Input}
 use Rattle.cpm_batch.specs.declared.input.Start.{Start}
 use Rattle.cpm_batch.specs.declared.input.Start.TheVariants as start
 use Rattle.cpm_batch.specs.declared.source.Replay.{Replay}
-use Rattle.cpm_batch.specs.Savings.{AreAllNamed, IsMisnamed, IsMisnamedIn, IsNoSavingIn, IsSavingIn, names_wanted, saving_view}
-use Rattle.cpm_batch.specs.Sources.{IsRecordingOf, NoSource, RecordingFile, ScriptFile, SourceOfKeys, key_source, recording_fault, replay_of}
-
--- ---- what files hold, where the store tells it
-
--- the disk's sectors, one after the other, are these bytes
-pub record IsImage (bytes : List ℕ) (d : Disk) : Type 0 where
-  pub format : format_of_length (length bytes) ≡ Some d.format
-  pub sectors : concat d.sectors ≡ bytes
-  pub whole : IsDisk d
-
--- the file has the image of the disk
-pub record IsImageIn (files : Option StoreFiles) (name : StoreName) (d : Disk) : Type 0 where
-  pub bytes : List ℕ
-  pub found : Finds files name bytes
-  pub image : IsImage bytes d
-
--- the file has a key script that says this
-pub record IsScriptIn (files : Option StoreFiles) (name : StoreName) (said : List CueText) : Type 0 where
-  pub text : List ℕ
-  pub found : Finds files name text
-  pub read : cues text ≡ Ok said
-
--- the file has a key script that says this for a session that is forked at this count of steps, after so many keys that its parent had before
-pub record IsForkedScriptIn (files : Option StoreFiles) (name : StoreName) (at before : ℕ) (said : List CueText) : Type 0 where
-  pub text : List ℕ
-  pub found : Finds files name text
-  pub read : forked_cues at before text ≡ Ok said
-
--- the file has a recording that says this, all of it at this count or later
-pub record IsRecordingIn (files : Option StoreFiles) (name : StoreName) (at : ℕ) (said : List CueText) : Type 0 where
-  pub text : List ℕ
-  pub found : Finds files name text
-  pub read : IsRecordingOf at text said
-
--- the file has so many bytes, which no image has
-pub record IsNoImageIn (files : Option StoreFiles) (name : StoreName) (count : ℕ) : Type 0 where
-  pub bytes : List ℕ
-  pub found : Finds files name bytes
-  pub size : count ≡ length bytes
-  pub format : format_of_length (length bytes) ≡ None
-
--- the file's first line with a fault has this number
-pub record IsNoScriptIn (files : Option StoreFiles) (name : StoreName) (line : ℕ) (fault : LineFault) : Type 0 where
-  pub text : List ℕ
-  pub found : Finds files name text
-  pub read : cues text ≡ Err (line, fault)
-
--- the same of a session that is forked at this count of steps, after so many keys
-pub record IsNoForkedScriptIn (files : Option StoreFiles) (name : StoreName) (at before line : ℕ) (fault : LineFault) : Type 0 where
-  pub text : List ℕ
-  pub found : Finds files name text
-  pub read : forked_cues at before text ≡ Err (line, fault)
-
--- the same of a recording whose keys come at this count or later
-pub record IsNoRecordingIn (files : Option StoreFiles) (name : StoreName) (at line : ℕ) (fault : LineFault) : Type 0 where
-  pub text : List ℕ
-  pub found : Finds files name text
-  pub read : recording_fault at text ≡ Some (line, fault)
+use Rattle.cpm_batch.specs.Held.{IsForkedScriptIn, IsImageIn, IsMisnamedIn, IsNoForkedScriptIn, IsNoImageIn, IsNoRecordingIn, IsNoSavingIn}
+use Rattle.cpm_batch.specs.Held.{IsNoScriptIn, IsRecordingIn, IsSavingIn, IsScriptIn}
+use Rattle.cpm_batch.specs.Savings.{AreAllNamed, IsMisnamed, names_wanted, saving_view}
+use Rattle.cpm_batch.specs.Sources.{NoSource, RecordingFile, ScriptFile, SourceOfKeys, key_source, replay_of}
 
 -- ---- what is read for a session
 
@@ -320,8 +262,8 @@ IsForkFault session parent at names (SavedDrives shown drives count) =
 IsForkFault session parent at names _ = ⊥
 
 -- how a session is refused that is forked so: for that, or if out of memory
-abbrev pub IsForkRefusal : SessionConfig → (parent : StartInput) → (at : ℕ) → ReadError → Type 0
-IsForkRefusal s parent at e = (e ≡ OutOfMemory) ⊎ IsForkFault (string_bytes s.name) parent at (names_wanted s) e
+abbrev pub IsForkGivenUp : SessionConfig → (parent : StartInput) → (at : ℕ) → ReadError → Type 0
+IsForkGivenUp s parent at e = (e ≡ OutOfMemory) ⊎ IsForkFault (string_bytes s.name) parent at (names_wanted s) e
 
 -- the file holds what is needed, or the fork can be made
 abbrev pub IsMet : Option StoreFiles → Need → Type 0

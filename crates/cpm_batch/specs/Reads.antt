@@ -17,7 +17,8 @@ use Rattle.cpm_script.specs.Fork.{forked_cues}
 use Rattle.cpm_script.specs.declared.fault.LineFault.{LineFault}
 use Rattle.cpm_store.specs.Files.{CountsFailure, StoreFiles, StoreName}
 use Rattle.cpm_store.specs.Log.{StoreAccess, AreNoWrites, Gave, Missed, LogLeadsBy, Then}
-use Rattle.cpm_batch.specs.Inputs.{CanFork, ForkOf, Forks, ForkedScriptIn, ImageIn, IsFileFault, IsForkFault, IsImage, IsParent, Need, Opens, RecordingIn}
+use Rattle.cpm_batch.specs.Held.{IsImage}
+use Rattle.cpm_batch.specs.Inputs.{CanFork, ForkOf, Forks, ForkedScriptIn, ImageIn, IsFileFault, IsForkFault, IsParent, Need, Opens, RecordingIn}
 use Rattle.cpm_batch.specs.Inputs.{Restores, SavingIn, ScriptIn, SessionInput, known_of, needed_name, needs_of, own_count}
 use Rattle.cpm_batch.specs.Savings.{AreAllNamed, IsMisnamed, names_wanted}
 use Rattle.cpm_batch.specs.Sources.{IsRecordingOf, NoSource, RecordingFile, ScriptFile, SourceOfKeys, key_source, recording_fault}

@@ -1,12 +1,11 @@
 -- Savings that sessions go on from. All of it is own.
-use Rattle.std.specs.Prelude.{⊤, ◌≡◌, ◌≢◌, ℕ, List, length, count_by, is_some, chars, Option, Some, Ok, Err, IfSome, option_map, string_bytes}
+use Rattle.std.specs.Prelude.{⊤, ◌≡◌, ◌≢◌, ℕ, List, length, count_by, is_some, chars, Option, Some, Err, IfSome, option_map, string_bytes}
 use Rattle.cpm_command_line.specs.Shown.{shown_of}
 use Rattle.cpm_config.specs.declared.config.SessionConfig.{SessionConfig}
 use Rattle.cpm_drives.specs.Disks.{images_of}
 use Rattle.cpm_machine.specs.MachineState.{MachineState}
 use Rattle.cpm_machine.specs.Saving.{Saving, restored, saving_with}
-use Rattle.cpm_saved.specs.declared.part.SavingDamage.{SavingDamage}
-use Rattle.cpm_store.specs.Files.{Finds, StoreFiles, StoreName}
+use Rattle.cpm_store.specs.Files.{StoreName}
 use Rattle.cpm_batch.specs.declared.error.ReadError.{ReadError}
 use Rattle.cpm_batch.specs.declared.error.ReadError.TheVariants as error
 use Rattle.cpm_batch.specs.declared.saved.SavedMachine.{SavedMachine}
@@ -41,30 +40,7 @@ IsMisnamedTold session s error.OutOfMemory = ⊤
 IsMisnamedTold session s _ = ⊥
 
 -- how the bytes of a file are refused: they are no saving, for their first part that can't be read, with the name of the file as it is shown
-abbrev pub IsSavingRefusal : StoreName → (bytes : List ℕ) → ReadError → Type 0
-IsSavingRefusal name bytes (error.Saving refusal) = (refusal.name.bytes ≡ shown_of (chars name)) × (restored bytes ≡ Err refusal.damage)
-IsSavingRefusal name bytes error.OutOfMemory = ⊤
-IsSavingRefusal name bytes _ = ⊥
-
--- ---- what files hold, where the store tells it
-
--- the file has a saving, with as many drives as files are named for their images, where any are
-pub record IsSavingIn (files : Option StoreFiles) (name : StoreName) (names : Option ℕ) (x : Saving) : Type 0 where
-  pub bytes : List ℕ
-  pub found : Finds files name bytes
-  pub read : restored bytes ≡ Ok x
-  pub named : AreAllNamed names x.state
-
--- the file has no saving: this part of it can't be read
-pub record IsNoSavingIn (files : Option StoreFiles) (name : StoreName) (damage : SavingDamage) : Type 0 where
-  pub bytes : List ℕ
-  pub found : Finds files name bytes
-  pub read : restored bytes ≡ Err damage
-
--- the file has a saving with this many drives, and another number of files is named for their images
-pub record IsMisnamedIn (files : Option StoreFiles) (name : StoreName) (names : Option ℕ) (drives count : ℕ) : Type 0 where
-  pub bytes : List ℕ
-  pub found : Finds files name bytes
-  pub saving : Saving
-  pub read : restored bytes ≡ Ok saving
-  pub misnamed : IsMisnamed names saving.state drives count
+abbrev pub IsUnreadSaving : StoreName → (bytes : List ℕ) → ReadError → Type 0
+IsUnreadSaving name bytes (error.Saving refusal) = (refusal.name.bytes ≡ shown_of (chars name)) × (restored bytes ≡ Err refusal.damage)
+IsUnreadSaving name bytes error.OutOfMemory = ⊤
+IsUnreadSaving name bytes _ = ⊥

@@ -3,8 +3,9 @@ ghost use Rattle.std.specs.Prelude.{◌≡◌, ◌<◌, ◌≤◌, ◌∷◌, []
 ghost use Rattle.cpm_config.specs.Rules.{parent_in, session_view};
 ghost use Rattle.cpm_script.specs.Cues.{all_said, cue_text};
 ghost use Rattle.cpm_store.specs.Log.{LogLeadsBy};
-ghost use Rattle.cpm_batch.specs.Inputs.{AllInputs, CanFork, ForkedScriptIn, Forks, HasForkedSaid, HasSaidFrom, IsForkedInput, IsForkedScriptIn};
-ghost use Rattle.cpm_batch.specs.Inputs.{IsForkRefusal, IsNeedRefusal, forked_key_needs, forked_needs, given, known_before, known_of};
+ghost use Rattle.cpm_batch.specs.Held.{IsForkedScriptIn};
+ghost use Rattle.cpm_batch.specs.Inputs.{AllInputs, CanFork, ForkedScriptIn, Forks, HasForkedSaid, HasSaidFrom, IsForkedInput};
+ghost use Rattle.cpm_batch.specs.Inputs.{IsForkGivenUp, IsNeedRefusal, forked_key_needs, forked_needs, given, known_before, known_of};
 ghost use Rattle.cpm_batch.specs.Inputs.{own_count, saved_count, session_named, session_place, start_view};
 ghost use Rattle.cpm_batch.specs.Savings.{names_wanted};
 ghost use Rattle.cpm_batch.specs.Sources.{key_source};
@@ -121,7 +122,7 @@ fn check_fork(
     at: u64,
 ) -> Result<(), ReadError>
     ensures fits { OnOk result (CanFork (start_view parent.now) at (names_wanted session.now)) }
-    ensures refusal { IfErr result (IsForkRefusal session.now (start_view parent.now) at) }
+    ensures refusal { IfErr result (IsForkGivenUp session.now (start_view parent.now) at) }
 {
     let Start::Restored(saved) = parent else {
         return Ok(());
@@ -151,8 +152,10 @@ fn read_forked_from<'a, S: Store>(
     ensures fits { OnOk result (CanFork (given parent.now).start at (names_wanted session.entry.now)) }
     ensures start { IfOk result (λ i. (given i).start ≡ Forks place (own_count (given parent.now) at)) }
     ensures steps { IfOk result (λ i. i.steps ≡ own_count (given parent.now) session.entry.now.steps) }
-    ensures said { IfOk result (λ i. HasSaidFrom (S.files store.old) replays.now session.entry.now (given parent.now) (own_count (given parent.now) at) (given i).said) }
-    ensures log { IfOk result (λ i. LogLeadsBy S.does (IsSaidReadFrom replays.now session.entry.now (given parent.now) (own_count (given parent.now) at) (given i).said) store.old store.new) }
+    ensures said { let own = own_count (given parent.now) at in
+        IfOk result (λ i. HasSaidFrom (S.files store.old) replays.now session.entry.now (given parent.now) own (given i).said) }
+    ensures log { let own = own_count (given parent.now) at in
+        IfOk result (λ i. LogLeadsBy S.does (IsSaidReadFrom replays.now session.entry.now (given parent.now) own (given i).said) store.old store.new) }
     ensures session { IfOk result (λ i. i.session.now ≡ session.entry.now) }
     ensures refusal { let needs = forked_needs replays.now session.entry.now at (Some (given parent.now)) in
         IfErr result (IsNeedRefusal (S.files store.old) needs) }

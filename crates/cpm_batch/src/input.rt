@@ -4,8 +4,10 @@ ghost use Rattle.cpm_config.specs.Rules.{config_view, fork_field_fault, forks_fa
 ghost use Rattle.cpm_script.specs.Cues.{all_said};
 ghost use Rattle.cpm_store.specs.Files.{Finds};
 ghost use Rattle.cpm_store.specs.Log.{Gave, Missed, LogLeadsBy};
-ghost use Rattle.cpm_batch.specs.Inputs.{AllImages, AllInputs, AreInputs, HasInput, HasSaid, ImageIn, IsImageIn, IsMissed, IsNeedRefusal};
-ghost use Rattle.cpm_batch.specs.Inputs.{IsOpenedInput, IsReadRefusal, IsScriptIn, IsSessionRefusal, ScriptIn, given, image_needs, key_needs, needs_of, saved_count, start_view};
+ghost use Rattle.cpm_batch.specs.Held.{IsImageIn, IsScriptIn};
+ghost use Rattle.cpm_batch.specs.Inputs.{AllImages, AllInputs, AreInputs, HasInput, HasSaid, ImageIn, IsMissed, IsNeedRefusal};
+ghost use Rattle.cpm_batch.specs.Inputs.{IsOpenedInput, IsReadRefusal, IsSessionRefusal, ScriptIn, given, image_needs, key_needs, needs_of};
+ghost use Rattle.cpm_batch.specs.Inputs.{saved_count, start_view};
 ghost use Rattle.cpm_batch.specs.Reads.{AreImagesRead, AreInputsRead, AreRead, IsImageRead, IsInputRead, IsOpenedRead};
 ghost use Rattle.cpm_batch.specs.Sources.{key_source};
 ghost use Rattle.cpm_batch.specs.Reads.{IsSaidRead, IsScriptRead, OnlyRead, StopsAmongNeeds, StopsAmongSessions, StopsReading};

@@ -1,13 +1,14 @@
 //! Reading what a session needs that goes on from a saving, and how many files are named for its drives.
 ghost use Rattle.std.specs.Prelude.{◌≡◌, ◌∷◌, [], IfErr, IfOk, OnOk};
 ghost use Rattle.cpm_store.specs.Log.{LogLeadsBy};
+ghost use Rattle.cpm_batch.specs.Held.{IsSavingIn};
 ghost use Rattle.cpm_batch.specs.Inputs.{IsNeedRefusal, IsRestoredInput, given, restored_needs, saving_need};
 ghost use Rattle.cpm_batch.specs.Reads.{IsRestoredRead, IsSavingRead, OnlyRead, StopsAmongNeeds};
-ghost use Rattle.cpm_batch.specs.Savings.{AreAllNamed, IsMisnamedTold, IsSavingIn, names_wanted, saving_view};
+ghost use Rattle.cpm_batch.specs.Savings.{AreAllNamed, IsMisnamedTold, names_wanted, saving_view};
 
 use crate::error::ReadError;
 use crate::input::{Input, Start, read_bytes, read_cues_of};
-use crate::saved::{SavedMachine, saved_machine_of};
+use crate::saved::{SavedMachine, restored_machine};
 use crate::source::Replay;
 use cpm_command_line::shown;
 use cpm_config::SessionConfig;
@@ -52,7 +53,7 @@ fn read_saving<S: Store>(
     ensures store { OnlyRead S.does S.files S.failed result store.old store.new }
 {
     let bytes = read_bytes(alloc, store, name)?;
-    let saved = saved_machine_of(alloc, name, bytes.as_slice())?;
+    let saved = restored_machine(alloc, name, bytes.as_slice())?;
     check_names(alloc, session, &saved)?;
     Ok(saved)
 }

@@ -1,7 +1,7 @@
 //! Machines that were saved in files.
 ghost use Rattle.std.specs.Prelude.{◌≡◌, IfErr, IfOk, Ok, count_by, is_some};
 ghost use Rattle.cpm_machine.specs.Saving.{bytes_of_saving, restored};
-ghost use Rattle.cpm_batch.specs.Savings.{IsSavingRefusal, drive_count, saving_view};
+ghost use Rattle.cpm_batch.specs.Savings.{IsUnreadSaving, drive_count, saving_view};
 
 use crate::error::ReadError;
 use cpm_command_line::{ShownWord, shown};
@@ -131,9 +131,9 @@ fn part_name(part: SavingPart) -> &'static str {
 }
 
 /// The machine that was saved in a file of this name, by its bytes. `Saving` names the part that makes them no saving.
-pub fn saved_machine_of(alloc: Global, name: &str, bytes: &[u8]) -> Result<SavedMachine, ReadError>
+pub(crate) fn restored_machine(alloc: Global, name: &str, bytes: &[u8]) -> Result<SavedMachine, ReadError>
     ensures read { IfOk result (λ s. restored bytes.now ≡ Ok (saving_view s)) }
-    ensures refusal { IfErr result (IsSavingRefusal name.now bytes.now) }
+    ensures refusal { IfErr result (IsUnreadSaving name.now bytes.now) }
 {
     match Machine::restored(alloc, bytes) {
         Ok((digest, machine)) => Ok(SavedMachine { digest, machine }),

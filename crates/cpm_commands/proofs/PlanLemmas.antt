@@ -4,15 +4,15 @@ use Rattle.std.specs.List.{concat, flat_map, zip}
 use Rattle.std.proofs.Common.{◌≡◌, ◌∙◌, ◌&&◌, ◌==◌, ℕ, zero, suc, Bool, true, false, if◌then◌else◌, List, [], ◌∷◌, ◌++◌, ap, arith, drop, get_or, length, map, refl, string_bytes, subst, sym}
 use Rattle.std.proofs.Common.{Option, is_some, Some, None, option_map, String, Global, All}
 use Rattle.std.proofs.lemmas.List.Elements.{All-append, All-cons, All-contains_itself, All-head, All-map, All-nil, All-tail}
-use Rattle.cpm_batch.specs.Inputs.{SessionInput, known_of}
+use Rattle.cpm_batch.specs.Inputs.{SessionInput, known_of, own_count}
 use Rattle.cpm_batch.specs.Sources.{NoSource, RecordingFile, ScriptFile, SourceOfKeys, key_file, key_source}
 use Rattle.cpm_batch.specs.declared.source.Replay.{Replay}
-use Rattle.cpm_batch.specs.Outputs.{SessionOutput, files_of, files_of_all, image_at, image_outputs, named_bytes, named_image, named_images}
+use Rattle.cpm_batch.specs.Outputs.{SessionOutput, files_of, files_of_all, image_at, image_outputs, named_bytes, named_image, named_images, named_saving}
 use Rattle.cpm_batch.specs.Reads.{AreImagesRead, AreInputsRead, AreRead, IsForkedSaidRead, IsInputReadOf, IsSaidRead}
 use Rattle.cpm_command_line.specs.declared.task.RunTask.{RunTask}
 use Rattle.cpm_config.specs.declared.config.Config.{Config}
 use Rattle.cpm_config.specs.declared.config.Origin.{Origin}
-use Rattle.cpm_config.specs.declared.config.Origin.TheVariants.{Opened, Forked}
+use Rattle.cpm_config.specs.declared.config.Origin.TheVariants.{Opened, Forked, Restored}
 use Rattle.cpm_config.specs.declared.config.SessionConfig.{SessionConfig}
 use Rattle.cpm_command_line.specs.declared.task.PlayTask.{PlayTask}
 use Rattle.cpm_disk_commands.specs.declared.damage.NamedFile.{NamedFile}
@@ -40,7 +40,7 @@ use Rattle.cpm_commands.specs.Plan.{Plan, PlannedName, all_planned, planned_if_a
 use Rattle.cpm_play.specs.declared.live.PlayEnd.{PlayEnd}
 use Rattle.cpm_run.specs.declared.ending.Ending.{Ending}
 use Rattle.cpm_run.specs.declared.report.SessionReport.{SessionReport}
-use Rattle.cpm_commands.specs.Run.{HasRunAll, drives_named, images_named, plan_by, record_mark, record_marks, session_inputs, session_outputs}
+use Rattle.cpm_commands.specs.Run.{HasRunAll, beginning_named, images_named, plan_by, record_mark, record_marks, session_inputs, session_outputs}
 use Rattle.cpm_commands.specs.declared.drives.DrivePlace.{DrivePlace}
 use Rattle.cpm_commands.specs.declared.drives.DrivePlace.TheVariants as from
 use Rattle.cpm_commands.specs.declared.drives.PlacedFile.{PlacedFile}
@@ -113,14 +113,24 @@ module _ (P : StoreName → Type 0) where
       let at = λ (place : ℕ). image_at_such role names.items drives place such in
       files_joined (image_at names.items drives 0) _ (at 0) (files_joined (image_at names.items drives 1) _ (at 1) (files_joined (image_at names.items drives 2) _ (at 2) (at 3)))
 
+  saving_such : (role : FileRole) (name : Option StoreName) (saved : Option (List ℕ)) → AreSuch (planned_if_any role name) → AreSuchFiles (named_saving name saved)
+  saving_such role name None such = no_files
+  saving_such role name (Some bytes) such = bytes_such role name bytes such
+
   files_such : (o : SessionOutput) → AreSuch (session_outputs o.session) → AreSuchFiles (files_of o)
   files_such o such =
       let s = o.session in
-      let listed = planned_if_any Plain (option_map string_bytes s.list) in
+      let list_name = option_map string_bytes s.list in
+      let save_name = option_map string_bytes s.save in
+      let listed = planned_if_any Plain list_name in
       let imaged = all_planned Image (images_named s.out) in
+      let saved = planned_if_any SavingFile save_name in
+      let behind = such_right listed (imaged ++ saved) such.1 in
       file_more (string_bytes s.console) o.console _ such.0
-      (files_joined (named_bytes (option_map string_bytes s.list) o.list) (named_images s.out o.drives)
-      (bytes_such Plain (option_map string_bytes s.list) o.list (such_left listed imaged such.1)) (images_such Image s.out o.drives (such_right listed imaged such.1)))
+      (files_joined (named_bytes list_name o.list) (named_images s.out o.drives ++ named_saving save_name o.saved)
+      (bytes_such Plain list_name o.list (such_left listed (imaged ++ saved) such.1))
+      (files_joined (named_images s.out o.drives) (named_saving save_name o.saved) (images_such Image s.out o.drives (such_left imaged saved behind))
+      (saving_such SavingFile save_name o.saved (such_right imaged saved behind))))
 
   -- those that sessions leave
   pub left_such : (f : SettledSession → MachineState) (ss : List SettledSession) → AreSuch (flat_map session_outputs (map (λ s. s.session) ss))
@@ -199,7 +209,7 @@ module _ (plan : Plan) where
   forked_read role (RecordingFile name) at before cues log h such = one_read name h.text log h.calls such.0
 
   input_read : (replays : List Replay) (before : List SessionInput) (o : Origin) (i : SessionInput) (log : List StoreAccess) → IsInputReadOf replays before o i log
-      → AreInputs (all_planned Image (drives_named o) ++ planned_if_any Plain (key_file (key_source replays i.session))) → All (IsAsPlanned plan) log
+      → AreInputs (beginning_named o ++ planned_if_any Plain (key_file (key_source replays i.session))) → All (IsAsPlanned plan) log
   input_read replays before (Opened cpu quota drives) i log h such =
       let P = IsPlanned plan.inputs in
       let named = all_planned Image (map string_bytes drives.items) in
@@ -207,7 +217,12 @@ module _ (plan : Plan) where
       let keys = planned_if_any Plain (key_file source) in
       joined log h.calls.first h.calls.rest h.calls.order (images_read Image drives.items h.drives h.calls.first h.calls.begins (such_left P named keys such))
       (said_read Plain source i.said h.calls.rest h.calls.goes_on (such_right P named keys such))
-  input_read replays before (Forked parent at) i log h such = forked_read Plain (key_source replays i.session) at (known_of replays at h.parent) i.said log h.calls such
+  input_read replays before (Forked parent at) i log h such =
+      let own = own_count h.parent at in
+      forked_read Plain (key_source replays i.session) own (known_of replays own h.parent) i.said log h.calls such
+  input_read replays before (Restored saving) i log h such =
+      joined log h.calls.first h.calls.rest h.calls.order (one_read (string_bytes saving) h.calls.begins.bytes h.calls.first h.calls.begins.calls such.0)
+      (said_read Plain (key_source replays i.session) i.said h.calls.rest h.calls.goes_on such.1)
 
   inputs_read : (replays : List Replay) (before is : List SessionInput) (log : List StoreAccess) → AreInputsRead replays before is log
       → AreInputs (flat_map (session_inputs replays) (map (λ i. i.session) is)) → All (IsAsPlanned plan) log

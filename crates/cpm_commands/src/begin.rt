@@ -4,7 +4,7 @@ ghost use Rattle.cpm_commands.specs.Play.{AreCuesRead, AreCuesRefused, AreKeysRe
 ghost use Rattle.cpm_commands.specs.Play.{IsProgramRead, IsProgramUnread, IsSavedRead, IsSavedUnread, IsStartRead, IsStartRefused};
 ghost use Rattle.cpm_commands.specs.Play.{IsSystemRead, IsSystemUnread, IsTailOf};
 ghost use Rattle.cpm_host.specs.Program.{AreFit, program_given};
-ghost use Rattle.cpm_host.specs.Saved.{saving_view};
+ghost use Rattle.cpm_batch.specs.Savings.{saving_view};
 ghost use Rattle.cpm_host.specs.Tails.{IsTailRefusal};
 
 use crate::disk::read_image;

@@ -38,7 +38,8 @@ use Rattle.cpm_run.specs.Settled.{AreUntouched, Streams}
 use Rattle.cpm_store.specs.Files.{StoreName}
 use Rattle.cpm_run.specs.declared.error.RunError.TheVariants.{FileRefused}
 use Rattle.cpm_host.specs.Refusals.{host_error_of_live}
-use Rattle.cpm_host.specs.Saved.{is_of_system, saved_if, saving_view}
+use Rattle.cpm_batch.specs.Savings.{saving_view}
+use Rattle.cpm_host.specs.Saved.{is_of_system, saved_if}
 use Rattle.cpm_host.specs.declared.error.HostError.{HostError}
 use Rattle.cpm_host.specs.declared.error.HostError.TheVariants.{OpeningRefused, OutOfMemory, ProgramTooLong, RunRefused, SavedElsewhere}
 use Rattle.cpm_host.specs.declared.program.ProgramPlay.{ProgramPlay}

@@ -4,7 +4,7 @@ use Rattle.std.specs.Cmp.Lexicographic.{pointwise}
 use Rattle.cpm_command_line.specs.Shown.{shown_of}
 use Rattle.cpm_geom.specs.Disk.{Disk}
 use Rattle.cpm_machine.specs.MachineState.{MachineState}
-use Rattle.cpm_machine.specs.Saving.{Saving, bytes_of_saving, restored, saving_with}
+use Rattle.cpm_machine.specs.Saving.{bytes_of_saving, restored, saving_with}
 use Rattle.cpm_machine.specs.SystemDigest.{system_digest}
 use Rattle.cpm_saved.specs.declared.reader.RestoreError.{RestoreError}
 use Rattle.cpm_saved.specs.declared.reader.RestoreError.TheVariants.{Damaged}
@@ -12,11 +12,6 @@ use Rattle.cpm_saved.specs.declared.reader.RestoreError.TheVariants as read
 use Rattle.cpm_store.specs.Files.{StoreName}
 use Rattle.cpm_host.specs.declared.error.HostError.{HostError}
 use Rattle.cpm_host.specs.declared.error.HostError.TheVariants.{OutOfMemory, SavingRefused}
-use Rattle.cpm_host.specs.declared.saved.SavedMachine.{SavedMachine}
-
--- a saved machine as what a saving is
-abbrev pub saving_view : SavedMachine → Saving
-saving_view s = saving_with s.digest s.machine
 
 -- the digest is that of this system drive
 abbrev pub is_of_system : (digest : List ℕ) → Disk → Bool

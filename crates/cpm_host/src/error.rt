@@ -4,8 +4,8 @@ ghost use Rattle.cpm_host.specs.declared.error.HostError.TheVariants.{OutOfMemor
 ghost use Rattle.cpm_host.specs.Refusals.{code_of_command, host_error_of, host_error_of_check, host_error_of_config, host_error_of_debug};
 ghost use Rattle.cpm_host.specs.Refusals.{host_error_of_disk_command, host_error_of_live, host_error_of_opening, host_error_of_run};
 
-use crate::saved::SavingRefusal;
 use cpm_asm::AsmErrorKind;
+use cpm_batch::SavingRefusal;
 use cpm_check::CheckError;
 use cpm_command_line::{ShownWord, UsageError, UsageRefusal};
 use cpm_config::ConfigError;

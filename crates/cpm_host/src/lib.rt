@@ -15,7 +15,7 @@ mod start;
 mod tail;
 
 pub use asm::{ProgramListing, run_asm, run_asm_listed};
-pub use cpm_batch::{ReadError, Replay};
+pub use cpm_batch::{ReadError, Replay, SavedMachine, SavingRefusal};
 pub use cpm_check::{CheckError, run_check};
 pub use cpm_command_line::{
     DiskTask, Page, PlayTask, RunTask, ShownWord, Task, UsageError, UsageFault, UsageRefusal,
@@ -40,7 +40,7 @@ pub use error::HostError;
 pub use input::{MOST_FILE, read_whole};
 pub use list::run_list;
 pub use program::{ProgramPlay, Source, cues_of, recorded_cues_of, run_program};
-pub use saved::{SavedMachine, SavingRefusal, saved_machine_of};
+pub use saved::saved_machine_of;
 pub use saved_text::run_saved;
 pub use start::ProgramStart;
 pub use tail::tail_of;

@@ -1,12 +1,12 @@
 //! The command `saved`: what a saved machine is, as text.
 ghost use Rattle.std.specs.Prelude.{◌≡◌, IfErr, IfOk, OnOk, string_bytes};
 ghost use Rattle.std.specs.Io.KnownBytes.{Appends};
-ghost use Rattle.cpm_host.specs.Saved.{saving_view};
+ghost use Rattle.cpm_batch.specs.Savings.{saving_view};
 ghost use Rattle.cpm_host.specs.SavedText.{AreDrivesTold, HasAppended, IsDriveToldIfAny, IsSavedTold, IsUntold, machine_text};
 ghost use Rattle.cpm_host.specs.SavedText.{processor_word, program_words, waiting_words};
 
 use crate::error::HostError;
-use crate::saved::SavedMachine;
+use cpm_batch::SavedMachine;
 use cpm_disk_commands::{DiskCommandError, list_files, write_list};
 use cpm_flags::Cpu;
 use cpm_geom::Image;

@@ -6,7 +6,8 @@ ghost use Rattle.cpm_host.specs.Program.{IsProgramFit, IsProgramRefusal, begin_f
 ghost use Rattle.cpm_host.specs.Program.{program_given, program_length, system_disk, with_tail_if_any};
 
 use crate::error::HostError;
-use crate::saved::SavedMachine;
+use crate::saved::machine_over;
+use cpm_batch::SavedMachine;
 use cpm_flags::Cpu;
 use cpm_geom::{Format, Image};
 use cpm_machine::{MOST_DRIVES, MOST_PROGRAM, MOST_QUOTA, Machine, OpenError, Opening, Tail};
@@ -100,7 +101,7 @@ pub(crate) fn machine_of(alloc: Global, start: ProgramStart) -> Result<(Machine,
     } = start;
     let system = disk_or_blank(alloc, system)?;
     if let Some(saved) = saved {
-        let machine = saved.over(&system)?;
+        let machine = machine_over(saved, &system)?;
         return Ok((machine, system));
     }
     let opening = Opening {

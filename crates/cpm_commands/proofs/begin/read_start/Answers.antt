@@ -1,6 +1,6 @@
 use Rattle.std.proofs.Common.{None, option_map}
 use Rattle.std.proofs.lemmas.Result.{err_from_is_err_and}
-use Rattle.cpm_host.specs.Saved.{saving_view}
+use Rattle.cpm_batch.specs.Savings.{saving_view}
 use Rattle.cpm_commands.specs.Play.IsStartRefused.{NoDrives, NoSystem, TooLong, TooMany, Unread}
 use Rattle.cpm_commands.proofs.begin.read_start.Goals as goal
 

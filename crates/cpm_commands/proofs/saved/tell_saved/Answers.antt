@@ -1,6 +1,7 @@
 use Rattle.std.proofs.Common.{◌∙◌, List, OnOk, Result, Err, Ok, ap, inr, refl, subst, sym, ℕ}
 use Rattle.std.proofs.lemmas.Result.{IfErr-weaker, err_from_is_err_and}
-use Rattle.cpm_host.specs.Saved.{IsSavingRefusal, saving_view}
+use Rattle.cpm_batch.specs.Savings.{saving_view}
+use Rattle.cpm_host.specs.Saved.{IsSavingRefusal}
 use Rattle.cpm_host.specs.declared.error.HostError.{HostError}
 use Rattle.cpm_machine.specs.Saving.{restored}
 use Rattle.cpm_commands.specs.Saved.IsSavingUntold.{NoSaving, NotPrinted}
