@@ -1,5 +1,4 @@
-use Rattle.std.proofs.Common.{◌≡◌, ◌∙◌, ◌+◌, ◌<◌, ◌≤◌, List, Some, length, refl, sym, ap, subst, arith, inr, slice_get}
-use Rattle.std.proofs.lemmas.Option.{slice_get_within}
+use Rattle.std.proofs.Common.{◌≡◌, ◌∙◌, ◌+◌, ◌-◌, ◌<◌, List, Some, length, refl, sym, ap, subst, arith, rules, slice_get}
 use Rattle.cpm_script.specs.declared.script.Key.{Key}
 use Rattle.cpm_slots.specs.Host.{Host, slot_at}
 use Rattle.cpm_slots.specs.HostWithStore.{HostWithStore}
@@ -8,8 +7,7 @@ use Rattle.cpm_play.specs.declared.scripted_slot.ScriptedSlot.{ScriptedSlot}
 use Rattle.cpm_play.specs.Pacing.{due_at}
 use Rattle.cpm_play.specs.ScriptedSlots.{IsResting, Moves, script_keys, steps_of}
 use Rattle.cpm_play.proofs.HostLemmas.{moves-ask, moves-on}
-use Rattle.cpm_play.proofs.PaceLemmas.{IsDue, due-key}
-use Rattle.cpm_play.proofs.ScriptedSlotLemmas.{early-key, resting-key}
+use Rattle.cpm_play.proofs.ScriptedSlotLemmas.{early-key, pressed-within, resting-key}
 use Rattle.cpm_play.proofs.turn.press_due.Goals as goal
 
 pub loop-key-preserved : goal.loop-key-preserved
@@ -42,7 +40,16 @@ returns-then-not-runs-clause-playing c = λ steps start r.
     subst (λ (x : Host). IsResting steps start c.loop-key.slot x) (sym same) (c.loop-key.invariant.playing steps start r)
 
 pub overflow_add-slot : goal.overflow_add-slot
-overflow_add-slot c = search rules
+overflow_add-slot c =
+    let l = c.loop-key in
+    let within = pressed-within (script_keys l.slot) l.slot.pace c.in-Some.key
+    (ap (λ (ks : List Key). due_at l.slot.pace.done (slice_get ks l.slot.pace.pressed)) (sym c.deref.ensures.value) ∙ sym c.in-Some.ensures) in
+    search (rules, within)
 
 pub loop-key-smaller : goal.loop-key-smaller
-loop-key-smaller c = search rules
+loop-key-smaller c =
+    let l = c.loop-key in
+    let within = pressed-within (script_keys l.slot) l.slot.pace c.in-Some.key
+    (ap (λ (ks : List Key). due_at l.slot.pace.done (slice_get ks l.slot.pace.pressed)) (sym c.deref.ensures.value) ∙ sym c.in-Some.ensures) in
+    let less : length (script_keys l.slot) - (l.slot.pace.pressed + 1) < length (script_keys l.slot) - l.slot.pace.pressed = omega (arith, within) in
+    less
