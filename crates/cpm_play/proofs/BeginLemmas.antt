@@ -153,6 +153,7 @@ module _ (old h new : Host) (given players : List Player) (place : ℕ) (slot ne
 
   -- the others
   others-after : (i : ℕ) (p q : Player) → i ≢ place → slice_get players i ≡ Some q → BegunAs i place old.slots given players h p q → BegunAs i (place + 1) old.slots given after new p q
+  unfolding playing-in
   others-after i p (Playing other) ne at begun = record {
     start = begun.start;
     started = begun.started;

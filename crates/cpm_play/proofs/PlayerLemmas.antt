@@ -84,7 +84,7 @@ ids-kept (suc i) (Waiting f ∷ xs) a b at same = ids-kept i xs a b at same
 
 -- ---- a session that rests, in another host
 
-pub playing-in : (steps : ℕ) (start : MachineState) (slot : ScriptedSlot) (old new : Host) → new.system ≡ old.system → slot_at slot.id.0 new.slots ≡ slot_at slot.id.0 old.slots → IsPlaying steps start slot old → IsPlaying steps start slot new
+unfoldable pub playing-in : (steps : ℕ) (start : MachineState) (slot : ScriptedSlot) (old new : Host) → new.system ≡ old.system → slot_at slot.id.0 new.slots ≡ slot_at slot.id.0 old.slots → IsPlaying steps start slot old → IsPlaying steps start slot new
 playing-in steps start slot old new system same playing = record {
   now = playing.now;
   stands = same ∙ playing.stands;
@@ -93,6 +93,7 @@ playing-in steps start slot old new system same playing = record {
 }
 
 resting-in : (steps : ℕ) (start : MachineState) (slot : ScriptedSlot) (old new : Host) → new.system ≡ old.system → slot_at slot.id.0 new.slots ≡ slot_at slot.id.0 old.slots → IsResting steps start slot old → IsResting steps start slot new
+unfolding playing-in
 resting-in steps start slot old new system same resting = record { playing = playing-in steps start slot old new system same resting.playing; quiet = resting.quiet }
 
 -- one that is open has a number that was given

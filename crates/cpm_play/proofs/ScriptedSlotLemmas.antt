@@ -3,6 +3,7 @@ use Rattle.std.proofs.Common.{◌≡◌, ℕ, ◌+◌, ◌<◌, ◌≤◌, min, 
 use Rattle.std.specs.Prelude.{option_map}
 use Rattle.std.proofs.Math.Seq.{drop-nil, take-nil}
 use Rattle.std.proofs.lemmas.List.{length-take-le}
+use Rattle.std.proofs.lemmas.Option.{slice_get_within}
 use Rattle.cpm_console.specs.declared.device.Device.{Device}
 use Rattle.cpm_console.specs.declared.device.Device.TheVariants as device
 use Rattle.cpm_console.specs.Terminal.{waiting_on}
@@ -62,6 +63,10 @@ resting-key steps byte start p q old new due left runs is moved resting =
           (on-key old.system (script_keys p) steps byte start p.pace p.console.items p.list.items s key left (runs s playing.stands) playing.on);
       quiet = record { screen = resting.quiet.screen; printer = resting.quiet.printer };
     })
+
+-- there is a key that is due
+pub pressed-within : (keys : List Key) (pace : Pace) (byte : ℕ) → due_at pace.done (slice_get keys pace.pressed) ≡ Some byte → pace.pressed < length keys
+pressed-within keys pace byte due = let is : IsDue keys pace byte = due-key (slice_get keys pace.pressed) keys pace byte refl due in slice_get_within keys pace.pressed is.key is.at
 
 -- keys that come before a count, and one more that does
 before-more : (at : ℕ) (keys : List Key) (key : Key) → key.count < at → AllBefore at keys → AllBefore at (keys ++ key ∷ [])

@@ -72,12 +72,15 @@ fn next_closed(
     };
     let saved = saving_if(alloc, host, slot.id, is_saved)?;
     match host.close(slot.id) {
-        Ok(closed) => Ok(Some(EndedSlot {
-            slot,
-            ending,
-            drives: closed.drives,
-            saved,
-        })),
+        Ok(closed) => {
+            let drives = closed.drives;
+            Ok(Some(EndedSlot {
+                slot,
+                ending,
+                drives,
+                saved,
+            }))
+        }
         Err(_) => Ok(None),
     }
 }

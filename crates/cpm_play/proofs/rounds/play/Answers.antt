@@ -23,7 +23,7 @@ loop-alloc-preserved g c = record {
 
 pub returns-in_err-round-clause-refused : goal.returns-in_err-round-clause-refused
 returns-in_err-round-clause-refused g c =
-    let p = err_from_is_err_and c.from_residual.result c.from_residual.ensures.1 in
+    let p = err_from_is_err_and c.from_residual-in_err-round.result c.from_residual-in_err-round.ensures.1 in
     rw (p.1, p.2) (c.in_err-round.ensures.refused c.args.host.now.host c.args.players.now c.requires.ready c.loop-alloc.invariant.come)
 
 pub returns-clause-played : goal.returns-clause-played

@@ -50,8 +50,8 @@ loop-place-preserved c =
           }
     ]
 
-pub returns-clause-come : goal.returns-clause-come
-returns-clause-come c =
+pub returns : goal.returns
+returns c =
     let test = c.loop-place-test.false in
     let long = c.loop-place.invariant.begun.long in
-    begun-all c.args.host.now.host c.loop-place.host.host c.args.players.now c.loop-place.players c.loop-place.place c.requires.differ (omega (arith, test, long)) c.loop-place.invariant.begun
+    record { come = begun-all c.args.host.now.host c.loop-place.host.host c.args.players.now c.loop-place.players c.loop-place.place c.requires.differ (omega (arith, test, long)) c.loop-place.invariant.begun }
