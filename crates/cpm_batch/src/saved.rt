@@ -144,7 +144,11 @@ fn unread(name: &str, error: RestoreError) -> ReadError
 }
 
 /// The machine that was saved in a file of this name, by its bytes. `Saving` names the part that makes them no saving.
-pub(crate) fn restored_machine(alloc: Global, name: &str, bytes: &[u8]) -> Result<SavedMachine, ReadError>
+pub(crate) fn restored_machine(
+    alloc: Global,
+    name: &str,
+    bytes: &[u8],
+) -> Result<SavedMachine, ReadError>
     ensures read { IfOk result (λ s. restored bytes.now ≡ Ok (saving_view s)) }
     ensures refusal { IfErr result (IsUnreadSaving name.now bytes.now) }
 {

@@ -1,4 +1,4 @@
-use Rattle.std.proofs.Common.{◌∙◌, ap, refl, sym, map, Some}
+use Rattle.std.proofs.Common.{◌∙◌, ap, refl, sym}
 use Rattle.std.proofs.lemmas.Result.{IfErr-weaker}
 use Rattle.cpm_batch.specs.Inputs.{forked_needs, given}
 use Rattle.cpm_batch.proofs.ForkedLemmas.{forked_input, forked_log}
