@@ -1,11 +1,11 @@
 -- Sessions that are forked from ones that were read.
-use Rattle.std.proofs.Common.{◌≡◌, ◌∙◌, ◌≤◌, ◌⊎◌, ⊎_elim, inl, inr, ℕ, List, [], ◌∷◌, map, refl, subst, sym, ap, arith}
-use Rattle.std.specs.Prelude.{Option, Some, Ok, Err, IfErr, IfOk, OnOk, Result, string_bytes}
+use Rattle.std.proofs.Common.{◌≡◌, ◌∙◌, ⊎_elim, inl, inr, ℕ, List, [], ◌∷◌, map, refl, subst, sym, ap}
+use Rattle.std.specs.Prelude.{Option, Ok, Err, IfOk, OnOk, Result, string_bytes}
 use Rattle.cpm_config.specs.declared.config.SessionConfig.{SessionConfig}
 use Rattle.cpm_store.specs.Files.{StoreFiles, StoreName}
 use Rattle.cpm_store.specs.Log.{LogLeadsBy, StoreAccess}
-use Rattle.cpm_batch.specs.Inputs.{CanFork, ForkOf, Forks, HasSaidFrom, IsFault, IsFileFault, IsForkFault, IsForkGivenUp, IsForkedInput, IsNeedRefusal, Need, SessionInput, StartInput, fork_need, forked_needs, given, own_count}
-use Rattle.cpm_batch.specs.Reads.{IsFaultRead, IsForkedRead, IsSaidReadFrom, OnlyRead, StopsAmongNeeds}
+use Rattle.cpm_batch.specs.Inputs.{CanFork, ForkOf, Forks, HasSaidFrom, IsFault, IsFileFault, IsForkFault, IsForkGivenUp, IsForkedInput, IsNeedRefusal, Need, SessionInput, StartInput, fork_need, given, own_count}
+use Rattle.cpm_batch.specs.Reads.{IsFaultRead, IsForkedRead, IsSaidReadFrom, StopsAmongNeeds}
 use Rattle.cpm_batch.specs.Savings.{names_wanted}
 use Rattle.cpm_batch.specs.declared.error.ReadError.{ReadError}
 use Rattle.cpm_batch.specs.declared.error.ReadError.TheVariants as error

@@ -38,7 +38,6 @@ sound_opened replays files (origin.Forked parent at) before i is h = record {
   few = few_of files replays before (origin.Forked parent at) i h;
   opened = λ opened. let no = sym (ap (λ (x : Origin). is_opened (origin_view x)) is) ∙ opened in absurd (cc);
 }
-
 sound_opened replays files (origin.Restored saving) before i is h = record {
   few = few_of files replays before (origin.Restored saving) i h;
   opened = λ opened. subst IsOpened (sym h.start) tt;

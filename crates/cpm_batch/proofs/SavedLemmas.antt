@@ -1,16 +1,15 @@
 -- Savings that were read, and those that were not.
-use Rattle.std.proofs.Common.{◌≡◌, ◌∙◌, ◌≤◌, ◌⊎◌, inl, inr, ℕ, List, [], ◌∷◌, refl, subst, sym, ap}
-use Rattle.std.specs.Prelude.{Option, Ok, IfErr, string_bytes}
+use Rattle.std.proofs.Common.{◌≡◌, ◌≤◌, inl, inr, ℕ, List, [], ◌∷◌, refl, subst, sym}
+use Rattle.std.specs.Prelude.{Option, Ok}
 use Rattle.cpm_config.specs.declared.config.SessionConfig.{SessionConfig}
 use Rattle.cpm_machine.specs.MachineState.{MachineState}
 use Rattle.cpm_machine.specs.Saving.{Saving, restored}
 use Rattle.cpm_store.specs.Files.{Finds, StoreFiles, StoreName}
 use Rattle.cpm_store.specs.Log.{Gave, LogLeadsBy, StoreAccess}
 use Rattle.cpm_store.proofs.LogLemmas.{ran_one}
-use Rattle.cpm_batch.specs.Held.{IsSavingIn}
-use Rattle.cpm_batch.specs.Inputs.{IsFault, IsFileFault, IsForkFault, IsForkGivenUp, IsNeedRefusal, Need, Restores, SavingIn, StartInput, saved_count, saving_need}
-use Rattle.cpm_batch.specs.Reads.{IsFaultRead, IsSavingRead, StopsAmongNeeds}
-use Rattle.cpm_batch.specs.Savings.{AreAllNamed, IsMisnamedTold, IsUnreadSaving, names_wanted}
+use Rattle.cpm_batch.specs.Inputs.{IsFileFault, IsForkGivenUp, IsNeedRefusal, Restores, StartInput, saved_count, saving_need}
+use Rattle.cpm_batch.specs.Reads.{IsSavingRead, StopsAmongNeeds}
+use Rattle.cpm_batch.specs.Savings.{AreAllNamed, IsMisnamedTold, IsUnreadSaving}
 use Rattle.cpm_batch.specs.declared.error.ReadError.{ReadError}
 use Rattle.cpm_batch.specs.declared.error.ReadError.TheVariants as error
 

@@ -1,6 +1,6 @@
 //! Machines that were saved in files.
-ghost use Rattle.std.specs.Prelude.{◌≡◌, IfErr, IfOk, Ok, count_by, is_some};
-ghost use Rattle.cpm_machine.specs.Saving.{bytes_of_saving, restored};
+ghost use Rattle.std.specs.Prelude.{◌≡◌, IfErr, IfOk, List, Ok, count_by, is_some, ℕ};
+ghost use Rattle.cpm_machine.specs.Saving.{IsUnrestored, bytes_of_saving, restored};
 ghost use Rattle.cpm_batch.specs.Savings.{IsUnreadSaving, drive_count, saving_view};
 
 use crate::error::ReadError;
@@ -130,17 +130,31 @@ fn part_name(part: SavingPart) -> &'static str {
     }
 }
 
+/// The refusal of the saving in a file of this name.
+fn unread(name: &str, error: RestoreError) -> ReadError
+    ensures { (bytes : List ℕ) → IsUnrestored (restored bytes) error → IsUnreadSaving name.now bytes result }
+{
+    match error {
+        RestoreError::Damaged(damage) => ReadError::Saving(SavingRefusal {
+            name: shown(name),
+            damage,
+        }),
+        RestoreError::OutOfMemory => ReadError::OutOfMemory,
+    }
+}
+
 /// The machine that was saved in a file of this name, by its bytes. `Saving` names the part that makes them no saving.
-pub(crate) fn restored_machine(alloc: Global, name: &str, bytes: &[u8]) -> Result<SavedMachine, ReadError>
+pub(crate) fn restored_machine(
+    alloc: Global,
+    name: &str,
+    bytes: &[u8],
+) -> Result<SavedMachine, ReadError>
     ensures read { IfOk result (λ s. restored bytes.now ≡ Ok (saving_view s)) }
     ensures refusal { IfErr result (IsUnreadSaving name.now bytes.now) }
 {
-    match Machine::restored(alloc, bytes) {
-        Ok((digest, machine)) => Ok(SavedMachine { digest, machine }),
-        Err(RestoreError::Damaged(damage)) => Err(ReadError::Saving(SavingRefusal {
-            name: shown(name),
-            damage,
-        })),
-        Err(RestoreError::OutOfMemory) => Err(ReadError::OutOfMemory),
-    }
+    let (digest, machine) = match Machine::restored(alloc, bytes) {
+        Ok(restored) => restored,
+        Err(error) => return Err(unread(name, error)),
+    };
+    Ok(SavedMachine { digest, machine })
 }

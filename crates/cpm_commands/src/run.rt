@@ -71,10 +71,7 @@ fn script_names(
 }
 
 /// Adds what a session begins with: its drives where it is opened, and the saving that it goes on from.
-fn add_beginning<'a>(
-    files: &mut Vec<PlannedFile<'a>>,
-    origin: &'a Origin,
-) -> Result<(), AllocError>
+fn add_beginning<'a>(files: &mut Vec<PlannedFile<'a>>, origin: &'a Origin) -> Result<(), AllocError>
     ensures { OnOk result (named_files files.new.items ≡ named_files files.old.items ++ beginning_named origin.entry.now) }
 {
     match origin {

@@ -35,7 +35,9 @@ pub enum Origin {
         at: u64,
     },
     /// It goes on from the saving in this file.
-    Restored { saving: String },
+    Restored {
+        saving: String,
+    },
 }
 
 /// A session of a run.

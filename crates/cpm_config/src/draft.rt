@@ -37,7 +37,9 @@ pub(crate) enum OriginDraft<'a> {
         parent: &'a str,
         at: i64,
     },
-    Restored { saving: &'a str },
+    Restored {
+        saving: &'a str,
+    },
 }
 
 /// A session's entries.

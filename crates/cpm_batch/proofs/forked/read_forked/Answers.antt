@@ -1,4 +1,4 @@
-use Rattle.std.proofs.Common.{◌∙◌, ap, refl, sym, map, Some}
+use Rattle.std.proofs.Common.{◌∙◌, ap, refl, sym}
 use Rattle.std.proofs.lemmas.Result.{IfErr-weaker}
 use Rattle.cpm_batch.specs.Inputs.{forked_needs, given}
 use Rattle.cpm_batch.proofs.ForkedLemmas.{forked_input, forked_log}
@@ -17,7 +17,7 @@ pub read_forked_from-requires : goal.read_forked_from-requires
 read_forked_from-requires g c =
     let p = parent_read c.args.replays.now (g.S.Store.files c.args.store.now) c.args.before.now c.args.name.now c.in-Some.place c.index-before-place.result c.requires.before c.requires.parent
     (sym c.in-Some.is ∙ c.session_place.ensures.place) c.in-Some.ensures.within c.index-before-place.is in
-    p.few
+    record { few = p.few }
 
 pub returns-clause-input : goal.returns-clause-input
 returns-clause-input g c =

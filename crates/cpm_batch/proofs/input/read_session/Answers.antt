@@ -29,16 +29,16 @@ returns-in-Forked-clause-refused_log g c =
 
 pub returns-in-Restored-clause-log : goal.returns-in-Restored-clause-log
 returns-in-Restored-clause-log g c =
-    restored_read g.S.Store.does c.args.replays.now c.read_restored.result (map given c.args.before.now) c.args.session.now c.in-Restored.saving c.as_str.result.now c.args.store.now c.read_restored.new.store
-    c.in-Restored.is c.as_str.ensures.value c.read_restored.ensures.session c.read_restored.ensures.log
+    restored_read g.S.Store.does c.args.replays.now c.read_restored.result (map given c.args.before.now) c.args.session.now c.in-Restored.saving c.as_str-in-Restored.result.now c.args.store.now c.read_restored.new.store
+    c.in-Restored.is c.as_str-in-Restored.ensures.value c.read_restored.ensures.session c.read_restored.ensures.log
 
 pub returns-in-Restored-clause-refusal : goal.returns-in-Restored-clause-refusal
 returns-in-Restored-clause-refusal g c =
     let files = g.S.Store.files c.args.store.now in
-    let needs = restored_needs_are c.args.replays.now (map given c.args.before.now) c.args.session.now c.in-Restored.saving c.as_str.result.now c.in-Restored.is c.as_str.ensures.value in
+    let needs = restored_needs_are c.args.replays.now (map given c.args.before.now) c.args.session.now c.in-Restored.saving c.as_str-in-Restored.result.now c.in-Restored.is c.as_str-in-Restored.ensures.value in
     IfErr-weaker c.read_restored.result _ _ (λ e h. refusal_as files files _ _ e refl needs h) c.read_restored.ensures.refusal
 
 pub returns-in-Restored-clause-refused_log : goal.returns-in-Restored-clause-refused_log
 returns-in-Restored-clause-refused_log g c =
-    let needs = restored_needs_are c.args.replays.now (map given c.args.before.now) c.args.session.now c.in-Restored.saving c.as_str.result.now c.in-Restored.is c.as_str.ensures.value in
+    let needs = restored_needs_are c.args.replays.now (map given c.args.before.now) c.args.session.now c.in-Restored.saving c.as_str-in-Restored.result.now c.in-Restored.is c.as_str-in-Restored.ensures.value in
     IfErr-weaker c.read_restored.result _ _ (λ e h. stopped_as g.S.Store.does _ _ e c.args.store.now c.read_restored.new.store needs h) c.read_restored.ensures.refused_log
