@@ -25,6 +25,7 @@ use Rattle.cpm_play.specs.declared.scripted_slot.ScriptedSlot.{ScriptedSlot}
 use Rattle.cpm_run.specs.Ending.{ending_of}
 use Rattle.cpm_run.specs.Playing.{IsClosed, saved_bytes, saving_if}
 use Rattle.cpm_run.specs.Run.{restoring_fault}
+use Rattle.cpm_run.specs.declared.ending.Ending.{Ending}
 use Rattle.cpm_run.specs.declared.error.StartFault.{StartFault}
 use Rattle.cpm_run.specs.declared.error.StartFault.TheVariants.{Elsewhere, Unopened}
 use Rattle.cpm_run.specs.declared.finish.EndedSlot.{EndedSlot}
@@ -35,7 +36,7 @@ fault_of None e r other = absurd (other r)
 fault_of (Some f) e r other = ap (λ (x : OpenError). Some x) (sym r)
 
 -- why a saving is refused
-why_of : HostRestoreError → StartFault
+pub why_of : HostRestoreError → StartFault
 why_of restore.OtherSystem = Elsewhere
 why_of restore.NoSlot = Unopened NoSlot
 why_of restore.NoFrames = Unopened NoFrames
@@ -88,9 +89,9 @@ first_closed p left ps rest all s is_saved old looked saved new c is first at re
     let behind : rest ≡ ps = cc in
     let here : slot_at left.slot.id.0 old.slots ≡ Some s = ap (λ (x : ScriptedSlot). slot_at x.id.0 old.slots) same ∙ at in
     let there : slot_at left.slot.id.0 looked.slots ≡ Some s = ap (λ (h : Host). slot_at left.slot.id.0 h.slots) stays ∙ here in
-    let then : slot_at left.slot.id.0 saved.slots ≡ Some s = ap (λ (h : Host). slot_at left.slot.id.0 h.slots) kept ∙ there in
+    let still : slot_at left.slot.id.0 saved.slots ≡ Some s = ap (λ (h : Host). slot_at left.slot.id.0 h.slots) kept ∙ there in
     let of_it : (c.look ≡ look_of s) × (c.drives ≡ images_of s.session.disks) =
-    subst (λ (o : Option MachineState). IfSome o (λ s. (c.look ≡ look_of s) × (c.drives ≡ images_of s.session.disks))) then closed in
+    subst (λ (o : Option MachineState). IfSome o (λ s. (c.look ≡ look_of s) × (c.drives ≡ images_of s.session.disks))) still closed in
     let unchanged : saved ≡ old = kept ∙ stays in
     let so : new ≡ after_ask old p.id.0 Closes = closes ∙ ap (λ (h : Host). after_ask h left.slot.id.0 Closes) unchanged ∙ ap (λ (x : ScriptedSlot). after_ask old x.id.0 Closes) same in
     record {
@@ -103,6 +104,13 @@ first_closed p left ps rest all s is_saved old looked saved new c is first at re
       others_play = behind;
       others = λ id away. ap (λ (h : Host). slot_at id h.slots) so ∙ apart old p.id.0 id Closes away;
     }
+
+-- an open slot has an ending
+pub ending_there : (p q : ScriptedSlot) (ps rest all : List Player) (s : MachineState) (h : Host) (ending : Option Ending) → all ≡ Playing p ∷ ps → all ≡ Playing q ∷ rest → slot_at p.id.0 h.slots ≡ Some s
+    → ((t : MachineState) → slot_at q.id.0 h.slots ≡ Some t → ending ≡ Some (ending_of t)) → ((e : Ending) → ending ≡ Some e → ⊥) → ⊥
+ending_there p q ps rest all s h ending is first at reads none =
+    let same : q ≡ p = cc in
+    none (ending_of s) (reads s (ap (λ (x : ScriptedSlot). slot_at x.id.0 h.slots) same ∙ at))
 
 abbrev IsDone : Reply → Type 0
 IsDone reply.Done = ⊤

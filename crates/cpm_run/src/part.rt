@@ -150,6 +150,7 @@ fn steps_at(typed: &Option<(usize, TypedPlay)>, place: usize, steps: u64) -> u64
 }
 
 /// How many keys are pending where a session begins that isn't forked.
+#[tactic(auto, unfolding(cpm_machine::specs::Serve::look_of))]
 pub(crate) fn pending_keys(start: &Start) -> usize
     ensures { result ≡ length (opening_of (start_view start.now)).session.console.keys }
 {
