@@ -114,6 +114,7 @@ host_error_of_run (run.RecordUnwritable reason) = RunRefused (run.RecordUnwritab
 host_error_of_run (run.WriteFault name) = RunRefused (run.WriteFault name)
 host_error_of_run run.OutOfMemory = OutOfMemory
 host_error_of_run (run.SessionRefused name fault) = RunRefused (run.SessionRefused name fault)
+host_error_of_run (run.SavedElsewhere name) = RunRefused (run.SavedElsewhere name)
 host_error_of_run (run.FramesExceeded name quotas frames) = RunRefused (run.FramesExceeded name quotas frames)
 
 -- what a refused check of an image comes to

@@ -10,7 +10,7 @@ use Rattle.cpm_commands.proofs.debug.debug_saved.Goals as goal
 
 pub returns-in_err-bytes-clause-refusal : goal.returns-in_err-bytes-clause-refusal
 returns-in_err-bytes-clause-refusal g c =
-    let p = err_from_is_err_and c.from_residual-in_err-bytes.result c.from_residual-in_err-bytes.ensures.1 in
+    let p = err_from_is_err_and c.from_residual.result c.from_residual.ensures.1 in
     rw (p.1, p.2) (Unread c.in_err-bytes.ensures.refusal.0 c.in_err-bytes.ensures.refusal.1 refl)
 
 pub returns-in_err-saved-clause-refusal : goal.returns-in_err-saved-clause-refusal
