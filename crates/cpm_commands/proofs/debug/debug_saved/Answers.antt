@@ -1,4 +1,4 @@
-use Rattle.std.proofs.Common.{◌≡◌, ◌∙◌, List, Ok, ap, refl, subst, sym, ℕ}
+use Rattle.std.proofs.Common.{◌∙◌, List, ap, refl, subst, sym, ℕ}
 use Rattle.std.proofs.lemmas.Result.{err_from_is_err_and}
 use Rattle.cpm_host.specs.Program.{program_given}
 use Rattle.cpm_batch.specs.Savings.{saving_view}
