@@ -1,4 +1,4 @@
-use Rattle.std.proofs.Common.{◌≡◌, ◌∙◌, List, Ok, ap, refl, subst, sym, ℕ}
+use Rattle.std.proofs.Common.{◌∙◌, List, ap, refl, subst, sym, ℕ}
 use Rattle.std.proofs.lemmas.Result.{err_from_is_err_and}
 use Rattle.cpm_host.specs.Program.{program_given}
 use Rattle.cpm_batch.specs.Savings.{saving_view}
@@ -10,7 +10,7 @@ use Rattle.cpm_commands.proofs.debug.debug_saved.Goals as goal
 
 pub returns-in_err-bytes-clause-refusal : goal.returns-in_err-bytes-clause-refusal
 returns-in_err-bytes-clause-refusal g c =
-    let p = err_from_is_err_and c.from_residual-in_err-bytes.result c.from_residual-in_err-bytes.ensures.1 in
+    let p = err_from_is_err_and c.from_residual.result c.from_residual.ensures.1 in
     rw (p.1, p.2) (Unread c.in_err-bytes.ensures.refusal.0 c.in_err-bytes.ensures.refusal.1 refl)
 
 pub returns-in_err-saved-clause-refusal : goal.returns-in_err-saved-clause-refusal
