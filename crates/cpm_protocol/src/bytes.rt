@@ -1,0 +1,43 @@
+//! Bytes as JSON text: a character stands for the byte of its number.
+ghost use Rattle.std.specs.Prelude.{◌≡◌, IfOk, chars, string_bytes, true};
+ghost use Rattle.cpm_protocol.specs.Bytes.{byte_text, is_byte_character, is_byte_text};
+
+use std::alloc::{AllocError, Global};
+
+/// Whether a character stands for a byte.
+fn is_byte_character(c: char) -> bool
+    ensures { result ≡ is_byte_character c }
+{
+    (c as u32) < 256
+}
+
+/// Whether each character of a text stands for a byte.
+pub fn is_byte_text(text: &str) -> bool
+    ensures { result ≡ is_byte_text text.now }
+{
+    text.chars().all(|c| is_byte_character(c))
+}
+
+/// The bytes that a text stands for. A character above U+00FF stands for none.
+pub fn bytes_of(alloc: Global, text: &str) -> Result<Vec<u8>, AllocError>
+    ensures { IfOk result (λ bytes. is_byte_text text.now ≡ true → bytes.items ≡ chars text.now) }
+{
+    let mut bytes = Vec::new(alloc);
+    for c in text.chars() {
+        if let Ok(byte) = u8::try_from(c as u32) {
+            bytes.push(byte)?;
+        }
+    }
+    Ok(bytes)
+}
+
+/// The text that stands for bytes.
+pub fn text_of(alloc: Global, bytes: &[u8]) -> Result<String, AllocError>
+    ensures { IfOk result (λ text. string_bytes text ≡ byte_text bytes.now) }
+{
+    let mut text = String::new(alloc);
+    for byte in bytes {
+        text.push(char::from(*byte))?;
+    }
+    Ok(text)
+}

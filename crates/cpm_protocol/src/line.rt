@@ -1,0 +1,80 @@
+//! Lines.
+ghost use Rattle.std.specs.Prelude.{◌≡◌, IfErr, IfOk, Some, None};
+ghost use Rattle.serde_json.specs.Read.{read};
+ghost use Rattle.serde_json.specs.View.{view};
+ghost use Rattle.cpm_protocol.specs.Requests.{answer_seen, asked_tag, field_at, line_asked, line_seen, many_of, names_many};
+ghost use Rattle.cpm_protocol.specs.declared.fault.LineError.TheVariants.{NoJson};
+
+use crate::fault::{FieldFault, LineError, RequestFault};
+use crate::field::RequestField;
+use crate::reading::request_of;
+use crate::request::LineRequest;
+use crate::values::{tag_at, unknown_name, value_at};
+use serde_json::Value;
+use std::alloc::Global;
+
+/// The most requests of one line.
+const MOST_REQUESTS: usize = 1000;
+
+/// A line that was read as JSON.
+#[derive(Drop)]
+pub struct WireLine {
+    pub value: Value,
+}
+
+/// Whether a value asks for many requests.
+fn names_many(value: &Value) -> bool
+    ensures { result ≡ names_many (field_at RequestField.Do (view value.now)) }
+{
+    match value_at(value, RequestField::Do) {
+        Some(Value::String(name)) => name.as_str() == "many",
+        _ => false,
+    }
+}
+
+/// The requests of a list, 1 to 1,000.
+fn requests_at(value: &Value) -> Result<LineRequest<'_>, FieldFault>
+{
+    match value_at(value, RequestField::Requests) {
+        Some(Value::Array(requests)) if !requests.is_empty() && requests.len() <= MOST_REQUESTS => {
+            Ok(LineRequest::Many(requests.as_slice()))
+        }
+        Some(_) => Err(FieldFault::Wrong(RequestField::Requests)),
+        None => Err(FieldFault::Missing(RequestField::Requests)),
+    }
+}
+
+/// Many requests.
+fn many_of(value: &Value) -> Result<LineRequest<'_>, RequestFault<'_>>
+    ensures { answer_seen line_seen result ≡ many_of (view value.now) }
+{
+    if let Some(name) = unknown_name(value, &[RequestField::Requests]) {
+        return Err(RequestFault::Unknown(name));
+    }
+    tag_at(value)?;
+    Ok(requests_at(value)?)
+}
+
+impl WireLine {
+    /// Reads a line as JSON.
+    pub fn read(alloc: Global, line: &[u8]) -> Result<WireLine, LineError>
+        ensures { IfOk result (λ l. read line.now ≡ Some (view l.value)) }
+    {
+        match Value::from_slice(alloc, line) {
+            Ok(value) => Ok(WireLine { value }),
+            Err(error) if error.is_memory() => Err(LineError::OutOfMemory),
+            Err(error) => Err(LineError::NoJson { at: error.column().saturating_add(1) }),
+        }
+    }
+
+    /// What the line asks, or its first fault.
+    #[tactic(auto, unfolding(crate::specs::Requests::line_asked))]
+    pub fn request(&self) -> Result<LineRequest<'_>, RequestFault<'_>>
+        ensures { answer_seen line_seen result ≡ line_asked (view self.now.value) }
+    {
+        if names_many(&self.value) {
+            return many_of(&self.value);
+        }
+        Ok(LineRequest::One(request_of(&self.value)?))
+    }
+}
