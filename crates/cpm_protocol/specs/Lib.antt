@@ -1,3 +1,6 @@
 pub mod Fields
 pub mod Bytes
 pub mod Requests
+pub mod Words
+pub mod Replies
+pub mod Leaves

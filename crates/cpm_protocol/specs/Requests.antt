@@ -141,10 +141,13 @@ abbrev pub item_name : RequestField → Option Data → Result (Option (List ℕ
 item_name f None = Ok None
 item_name f (Some d) = or_wrong f (option_map Some (passed_by is_file_name (as_str d)))
 
+abbrev pub no_fifth : RequestField → Data → Result (Unit {0}) FieldFault
+no_fifth f list = if is_some (at 4 list) then Err (Wrong f) else Ok tt
+
 -- at most four names
 unfoldable pub four_names : RequestField → Data → Result FourNames FieldFault
 four_names f list = do
-  within ← (if is_some (at 4 list) then Err (Wrong f) else Ok tt)
+  within ← no_fifth f list
   a ← item_name f (at 0 list)
   b ← item_name f (at 1 list)
   c ← item_name f (at 2 list)
