@@ -11,5 +11,5 @@ abbrev pub is_byte_text : List ℕ → Bool
 is_byte_text text = list_all is_byte_character (chars text)
 
 -- the text whose characters have the numbers of the bytes
-abbrev pub byte_text : List ℕ → List ℕ
-byte_text bytes = encode_utf8_all bytes
+abbrev pub text_of_bytes : List ℕ → List ℕ
+text_of_bytes bytes = encode_utf8_all bytes

@@ -1,13 +1,16 @@
 -- A reply as a JSON value, and the reply that a value is. All of it is own: docs/PROTOCOL.md.
-use Rattle.std.specs.Prelude.{◌≡◌, ℕ, ◌<◌, ◌≤◌, List, [], ◌∷◌, ◌++◌, map, length, chars, codes, Bool, if◌then◌else◌, Option, Some, None, option_map, option_and_then}
+use Rattle.std.specs.Prelude.{◌≡◌, ℕ, ◌<◌, ◌≤◌, List, [], ◌∷◌, ◌++◌, map, length, chars, codes, Bool, if◌then◌else◌, Option, Some, None, option_map}
+use Rattle.std.specs.Prelude.{option_and_then}
 use Rattle.std.specs.List.{AllByRecursion}
 use Rattle.std.specs.Str.{bytes_eq}
 use Rattle.serde_json.specs.Data.{Data, boolean, number, unsigned, string, array, object, Items, Members, no_members, put}
 use Rattle.serde_json.specs.Find.{as_bool, as_number, as_str, as_u64, get}
-use Rattle.cpm_protocol.specs.Bytes.{byte_text}
+use Rattle.cpm_protocol.specs.Bytes.{text_of_bytes}
 use Rattle.cpm_protocol.specs.Fields.{request_field_name}
-use Rattle.cpm_protocol.specs.Words.{all_endings, all_refusals, all_request_fields, all_stops, end_word, refusal_why, refusal_word, stop_word, with_word}
+use Rattle.cpm_protocol.specs.Words.{all_endings, all_refusals, all_request_fields, all_stops, ending_word, refusal_why, refusal_word, stop_word}
+use Rattle.cpm_protocol.specs.Words.{with_word}
 use Rattle.cpm_protocol.specs.Requests.{AskedFault, AskedTag, FaultOf, NumberTag, TextTag, UnknownName, fault_seen}
+use Rattle.cpm_protocol.specs.declared.field.RequestField.{RequestField}
 use Rattle.cpm_protocol.specs.declared.fault.FieldFault.TheVariants as fault
 use Rattle.cpm_protocol.specs.declared.word.GrantStop.{GrantStop}
 use Rattle.cpm_protocol.specs.declared.word.WireEnd.{WireEnd}
@@ -68,7 +71,7 @@ abbrev pub number_data : ℕ → Data
 number_data n = number (unsigned n)
 
 abbrev pub bytes_data : List ℕ → Data
-bytes_data bytes = string (byte_text bytes)
+bytes_data bytes = string (text_of_bytes bytes)
 
 abbrev pub look_members : SessionLook → List Member
 look_members l =
@@ -78,7 +81,7 @@ look_members l =
     ∷ (codes "de'", number_data l.alternate_de) ∷ (codes "hl'", number_data l.alternate_hl)
     ∷ (codes "i", number_data l.interrupt_page) ∷ (codes "r", number_data l.refresh)
     ∷ (codes "iff1", boolean l.iff1) ∷ (codes "iff2", boolean l.iff2)
-    ∷ (codes "count", number_data l.count) ∷ (codes "end", string (end_word l.end)) ∷ (codes "pages", number_data l.pages)
+    ∷ (codes "count", number_data l.count) ∷ (codes "end", string (ending_word l.end)) ∷ (codes "pages", number_data l.pages)
     ∷ (codes "waiting", boolean l.waiting) ∷ (codes "keys", number_data l.keys) ∷ (codes "console", number_data l.console)
     ∷ (codes "list", number_data l.list) ∷ []
 
@@ -86,7 +89,7 @@ abbrev pub turn_members : TurnAnswer → List Member
 turn_members t =
     (codes "accepted", number_data t.accepted) ∷ (codes "executed", number_data t.executed) ∷ (codes "why", string (stop_word t.why))
     ∷ (codes "text", bytes_data t.text) ∷ (codes "list", bytes_data t.list) ∷ (codes "waiting", boolean t.waiting)
-    ∷ (codes "end", string (end_word t.end)) ∷ []
+    ∷ (codes "end", string (ending_word t.end)) ∷ []
 
 abbrev pub fault_members : AskedFault → List Member
 fault_members (FaultOf (fault.Missing f)) = (codes "error", string (codes "missing field")) ∷ (codes "field", string (request_field_name f)) ∷ []
@@ -151,7 +154,7 @@ abbrev pub stop_field : Data → Option GrantStop
 stop_field d = option_and_then (λ w. with_word stop_word w all_stops) (text_field (codes "why") d)
 
 abbrev pub end_field : Data → Option WireEnd
-end_field d = option_and_then (λ w. with_word end_word w all_endings) (text_field (codes "end") d)
+end_field d = option_and_then (λ w. with_word ending_word w all_endings) (text_field (codes "end") d)
 
 infixl 10 ◌>>=◌
 abbrev ◌>>=◌ : {A B : Type 0} → Option A → (A → Option B) → Option B
@@ -220,8 +223,8 @@ look_in d = do
     list = list;
   })
 
-abbrev pub granted_in : Data → Option Answered
-granted_in d = do
+abbrev pub grant_in : Data → Option Answered
+grant_in d = do
   executed ← number_field (codes "executed") d
   why ← stop_field d
   Some (Granted executed why)
@@ -232,11 +235,14 @@ refused_in d = do
   refusal ← with_word refusal_word word all_refusals
   Some (Refused refusal)
 
+abbrev pub field_named : List ℕ → Option RequestField
+field_named name = with_word request_field_name name all_request_fields
+
 -- what is wrong with a field of this name
 abbrev pub wrong_in : List ℕ → List ℕ → Option Answered
 wrong_in error name =
-    if bytes_eq error (codes "missing field") then option_map (λ f. Wrong (FaultOf (fault.Missing f))) (with_word request_field_name name all_request_fields) else
-    if bytes_eq error (codes "wrong field") then option_map (λ f. Wrong (FaultOf (fault.Wrong f))) (with_word request_field_name name all_request_fields) else
+    if bytes_eq error (codes "missing field") then option_map (λ f. Wrong (FaultOf (fault.Missing f))) (field_named name) else
+    if bytes_eq error (codes "wrong field") then option_map (λ f. Wrong (FaultOf (fault.Wrong f))) (field_named name) else
     if bytes_eq error (codes "unknown field") then Some (Wrong (UnknownName name)) else None
 
 abbrev pub error_in : Data → Option Answered
@@ -249,7 +255,7 @@ error_in d = do
 abbrev pub answered_of : Data → Option Answered
 answered_of d =
     or_else (option_map Turned (turn_in d)) (or_else (option_map Looked (look_in d)) (or_else (option_map Opened (number_field (codes "slot") d))
-        (or_else (granted_in d) (or_else (option_map Accepted (number_field (codes "accepted") d)) (or_else (option_map Text (bytes_field (codes "text") d))
+        (or_else (grant_in d) (or_else (option_map Accepted (number_field (codes "accepted") d)) (or_else (option_map Text (bytes_field (codes "text") d))
         (or_else (option_map Written (number_field (codes "bytes") d)) (or_else (refused_in d) (error_in d))))))))
 
 -- ---- the law

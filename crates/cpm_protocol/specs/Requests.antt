@@ -46,22 +46,22 @@ pub data AskedTag : Type 0 where
   TextTag : (text : List ℕ) → AskedTag
 
 -- a request; keys and texts of files are bytes, names are texts
-pub data Asked : Type 0 where
-  Open : (cpu : Cpu) (quota : ℕ) (drives : FourNames) → Asked
-  Resume : (from : List ℕ) → Asked
-  Key : (slot : ℕ) (keys : List ℕ) → Asked
-  Grant : (slot steps : ℕ) (goal : GrantGoal) → Asked
-  Take : (slot most : ℕ) → Asked
-  ListTake : (slot most : ℕ) → Asked
-  Look : (slot : ℕ) → Asked
-  Peek : (slot address length : ℕ) → Asked
-  Fork : (slot : ℕ) → Asked
-  Save : (slot : ℕ) (file : List ℕ) → Asked
-  Close : (slot : ℕ) (out : FourNames) → Asked
-  Turn : (slot : ℕ) (keys : List ℕ) (steps : ℕ) → Asked
-  Put : (drive name text : List ℕ) → Asked
-  Get : (drive name : List ℕ) → Asked
-  Files : (drive : List ℕ) → Asked
+pub data WireAsked : Type 0 where
+  Open : (cpu : Cpu) (quota : ℕ) (drives : FourNames) → WireAsked
+  Resume : (from : List ℕ) → WireAsked
+  Key : (slot : ℕ) (keys : List ℕ) → WireAsked
+  Grant : (slot steps : ℕ) (goal : GrantGoal) → WireAsked
+  Take : (slot most : ℕ) → WireAsked
+  ListTake : (slot most : ℕ) → WireAsked
+  Look : (slot : ℕ) → WireAsked
+  Peek : (slot address length : ℕ) → WireAsked
+  Fork : (slot : ℕ) → WireAsked
+  Save : (slot : ℕ) (file : List ℕ) → WireAsked
+  Close : (slot : ℕ) (out : FourNames) → WireAsked
+  Turn : (slot : ℕ) (keys : List ℕ) (steps : ℕ) → WireAsked
+  Put : (drive name text : List ℕ) → WireAsked
+  Get : (drive name : List ℕ) → WireAsked
+  Files : (drive : List ℕ) → WireAsked
 
 -- ---- faults
 
@@ -82,13 +82,13 @@ abbrev pub field_at : RequestField → Data → Option Data
 field_at f d = get (request_field_name f) d
 
 -- what was wanted, or that the field is otherwise
-abbrev pub or_wrong : {A : Type 0} → RequestField → Option A → Result A FieldFault
-or_wrong f (Some x) = Ok x
-or_wrong f None = Err (Wrong f)
+abbrev pub or_wrong_field : {A : Type 0} → RequestField → Option A → Result A FieldFault
+or_wrong_field f (Some x) = Ok x
+or_wrong_field f None = Err (Wrong f)
 
 -- what is read of a field that must be there
 abbrev pub read_by : {A : Type 0} → (Data → Option A) → RequestField → Option Data → Result A FieldFault
-read_by read f (Some d) = or_wrong f (read d)
+read_by read f (Some d) = or_wrong_field f (read d)
 read_by read f None = Err (Missing f)
 
 abbrev pub must_read : {A : Type 0} → (Data → Option A) → RequestField → Data → Result A FieldFault
@@ -107,8 +107,8 @@ most_number = 9007199254740991
 abbrev pub number_within : ℕ → ℕ → Data → Option ℕ
 number_within low high d = passed_by (λ n. nat_le low n && nat_le n high) (option_and_then as_u64 (as_number d))
 
-abbrev pub number_at : RequestField → ℕ → ℕ → Data → Result ℕ FieldFault
-number_at f low high d = must_read (number_within low high) f d
+abbrev pub number_field_at : RequestField → ℕ → ℕ → Data → Result ℕ FieldFault
+number_field_at f low high d = must_read (number_within low high) f d
 
 -- 1 to 255 bytes
 abbrev pub is_short_text : List ℕ → Bool
@@ -125,8 +125,8 @@ abbrev pub text_where : (List ℕ → Bool) → RequestField → Data → Result
 text_where test f d = must_read (λ v. passed_by test (as_str v)) f d
 
 -- a text of bytes
-abbrev pub bytes_at : RequestField → Data → Result (List ℕ) FieldFault
-bytes_at f d = must_read (λ v. option_map chars (passed_by is_byte_text (as_str v))) f d
+abbrev pub bytes_field_at : RequestField → Data → Result (List ℕ) FieldFault
+bytes_field_at f d = must_read (λ v. option_map chars (passed_by is_byte_text (as_str v))) f d
 
 abbrev pub cpu_of_name : List ℕ → Option Cpu
 cpu_of_name t = if bytes_eq t (codes "8080") then Some I8080 else if bytes_eq t (codes "z80") then Some Z80 else None
@@ -139,7 +139,7 @@ cpu_at d = must_read (λ v. option_and_then cpu_of_name (as_str v)) field.Cpu d
 -- a name of a list, if it has so many
 abbrev pub item_name : RequestField → Option Data → Result (Option (List ℕ)) FieldFault
 item_name f None = Ok None
-item_name f (Some d) = or_wrong f (option_map Some (passed_by is_file_name (as_str d)))
+item_name f (Some d) = or_wrong_field f (option_map Some (passed_by is_file_name (as_str d)))
 
 abbrev pub no_fifth : RequestField → Data → Result (Unit {0}) FieldFault
 no_fifth f list = if is_some (at 4 list) then Err (Wrong f) else Ok tt
@@ -160,12 +160,12 @@ list_in d = option_map array (as_array d)
 unfoldable pub four_names_at : RequestField → Data → Result FourNames FieldFault
 four_names_at f d = must_read list_in f d >>= four_names f
 
-abbrev pub no_names : FourNames
-no_names = record { a = None; b = None; c = None; d = None }
+abbrev pub no_drive_names : FourNames
+no_drive_names = record { a = None; b = None; c = None; d = None }
 
 -- names that may be left out
 abbrev pub four_names_if : RequestField → Data → Result FourNames FieldFault
-four_names_if f d = if is_some (field_at f d) then four_names_at f d else Ok no_names
+four_names_if f d = if is_some (field_at f d) then four_names_at f d else Ok no_drive_names
 
 -- ---- each request
 
@@ -176,109 +176,109 @@ wait_goal t = if bytes_eq t (codes "wait") then Some goal.Wait else None
 -- to an address, or to a wait, or neither
 abbrev pub goal_of : Option Data → Option Data → Result GrantGoal FieldFault
 goal_of None None = Ok goal.Steps
-goal_of None (Some to) = or_wrong field.To (option_and_then wait_goal (as_str to))
-goal_of (Some until) None = or_wrong field.Until (option_map goal.Address (number_within 0 0xFFFF until))
+goal_of None (Some to) = or_wrong_field field.To (option_and_then wait_goal (as_str to))
+goal_of (Some until) None = or_wrong_field field.Until (option_map goal.Address (number_within 0 0xFFFF until))
 goal_of (Some until) (Some to) = Err (Wrong field.To)
 
-abbrev pub slot_at : Data → Result ℕ FieldFault
-slot_at d = number_at field.Slot 0 most_number d
+abbrev pub slot_asked : Data → Result ℕ FieldFault
+slot_asked d = number_field_at field.Slot 0 most_number d
 
-unfoldable pub open_asked : Data → Result Asked FieldFault
+unfoldable pub open_asked : Data → Result WireAsked FieldFault
 open_asked d = do
   cpu ← cpu_at d
-  quota ← number_at field.Quota 0 0xFFFF d
+  quota ← number_field_at field.Quota 0 0xFFFF d
   drives ← four_names_at field.Drives d
   Ok (Open cpu quota drives)
 
-unfoldable pub resume_asked : Data → Result Asked FieldFault
+unfoldable pub resume_asked : Data → Result WireAsked FieldFault
 resume_asked d = do
   from ← text_where is_file_name field.From d
   Ok (Resume from)
 
-unfoldable pub key_asked : Data → Result Asked FieldFault
+unfoldable pub key_asked : Data → Result WireAsked FieldFault
 key_asked d = do
-  slot ← slot_at d
-  keys ← bytes_at field.Keys d
+  slot ← slot_asked d
+  keys ← bytes_field_at field.Keys d
   Ok (Key slot keys)
 
-unfoldable pub grant_asked : Data → Result Asked FieldFault
+unfoldable pub grant_asked : Data → Result WireAsked FieldFault
 grant_asked d = do
-  slot ← slot_at d
-  steps ← number_at field.Steps 0 most_number d
+  slot ← slot_asked d
+  steps ← number_field_at field.Steps 0 most_number d
   goal ← goal_of (field_at field.Until d) (field_at field.To d)
   Ok (Grant slot steps goal)
 
 -- how many bytes are given at most
 abbrev pub most_bytes_at : Data → Result ℕ FieldFault
-most_bytes_at d = number_at field.Most 0 8192 d
+most_bytes_at d = number_field_at field.Most 0 8192 d
 
-unfoldable pub take_asked : Data → Result Asked FieldFault
+unfoldable pub take_asked : Data → Result WireAsked FieldFault
 take_asked d = do
-  slot ← slot_at d
+  slot ← slot_asked d
   most ← most_bytes_at d
   Ok (Take slot most)
 
-unfoldable pub list_asked : Data → Result Asked FieldFault
+unfoldable pub list_asked : Data → Result WireAsked FieldFault
 list_asked d = do
-  slot ← slot_at d
+  slot ← slot_asked d
   most ← most_bytes_at d
   Ok (ListTake slot most)
 
-unfoldable pub look_asked : Data → Result Asked FieldFault
+unfoldable pub look_asked : Data → Result WireAsked FieldFault
 look_asked d = do
-  slot ← slot_at d
+  slot ← slot_asked d
   Ok (Look slot)
 
-unfoldable pub peek_asked : Data → Result Asked FieldFault
+unfoldable pub peek_asked : Data → Result WireAsked FieldFault
 peek_asked d = do
-  slot ← slot_at d
-  address ← number_at field.Address 0 0xFFFF d
-  length ← number_at field.Length 1 256 d
+  slot ← slot_asked d
+  address ← number_field_at field.Address 0 0xFFFF d
+  length ← number_field_at field.Length 1 256 d
   Ok (Peek slot address length)
 
-unfoldable pub fork_asked : Data → Result Asked FieldFault
+unfoldable pub fork_asked : Data → Result WireAsked FieldFault
 fork_asked d = do
-  slot ← slot_at d
+  slot ← slot_asked d
   Ok (Fork slot)
 
-unfoldable pub save_asked : Data → Result Asked FieldFault
+unfoldable pub save_asked : Data → Result WireAsked FieldFault
 save_asked d = do
-  slot ← slot_at d
+  slot ← slot_asked d
   file ← text_where is_file_name field.File d
   Ok (Save slot file)
 
-unfoldable pub close_asked : Data → Result Asked FieldFault
+unfoldable pub close_asked : Data → Result WireAsked FieldFault
 close_asked d = do
-  slot ← slot_at d
+  slot ← slot_asked d
   out ← four_names_if field.Out d
   Ok (Close slot out)
 
-unfoldable pub turn_asked : Data → Result Asked FieldFault
+unfoldable pub turn_asked : Data → Result WireAsked FieldFault
 turn_asked d = do
-  slot ← slot_at d
-  keys ← bytes_at field.Keys d
-  steps ← number_at field.Steps 0 most_number d
+  slot ← slot_asked d
+  keys ← bytes_field_at field.Keys d
+  steps ← number_field_at field.Steps 0 most_number d
   Ok (Turn slot keys steps)
 
-unfoldable pub put_asked : Data → Result Asked FieldFault
+unfoldable pub put_asked : Data → Result WireAsked FieldFault
 put_asked d = do
   drive ← text_where is_file_name field.Drive d
   name ← text_where is_short_text field.Name d
-  text ← bytes_at field.Text d
+  text ← bytes_field_at field.Text d
   Ok (Put drive name text)
 
-unfoldable pub get_asked : Data → Result Asked FieldFault
+unfoldable pub get_asked : Data → Result WireAsked FieldFault
 get_asked d = do
   drive ← text_where is_file_name field.Drive d
   name ← text_where is_short_text field.Name d
   Ok (Get drive name)
 
-unfoldable pub files_asked : Data → Result Asked FieldFault
+unfoldable pub files_asked : Data → Result WireAsked FieldFault
 files_asked d = do
   drive ← text_where is_file_name field.Drive d
   Ok (Files drive)
 
-abbrev pub asked_as : RequestKind → Data → Result Asked FieldFault
+abbrev pub asked_as : RequestKind → Data → Result WireAsked FieldFault
 asked_as kind.Open d = open_asked d
 asked_as kind.Resume d = resume_asked d
 asked_as kind.Key d = key_asked d
@@ -315,7 +315,7 @@ tag_in d = option_map NumberTag (option_and_then as_u64 (as_number d))
 -- a tag may be left out
 abbrev pub tag_if : Option Data → Result (Option AskedTag) FieldFault
 tag_if None = Ok None
-tag_if (Some d) = or_wrong field.Tag (option_map Some (tag_in d))
+tag_if (Some d) = or_wrong_field field.Tag (option_map Some (tag_in d))
 
 abbrev pub asked_tag : Data → Result (Option AskedTag) FieldFault
 asked_tag d = tag_if (field_at field.Tag d)
@@ -342,22 +342,22 @@ known_or None (Ok x) = Ok x
 known_or None (Err fault) = Err (FaultOf fault)
 
 -- the request, behind its tag
-abbrev pub tagged_as : Result (Option AskedTag) FieldFault → Result Asked FieldFault → Result Asked FieldFault
+abbrev pub tagged_as : Result (Option AskedTag) FieldFault → Result WireAsked FieldFault → Result WireAsked FieldFault
 tagged_as tag asked = tag >>= (λ t. asked)
 
-abbrev pub asked_of_kind : Data → Result RequestKind FieldFault → Result Asked AskedFault
+abbrev pub asked_of_kind : Data → Result RequestKind FieldFault → Result WireAsked AskedFault
 asked_of_kind d (Err fault) = Err (FaultOf fault)
 asked_of_kind d (Ok k) = known_or (unknown_name (fields_of_kind k) d) (tagged_as (asked_tag d) (asked_as k d))
 
 -- the request that a value is
-unfoldable pub asked_of : Data → Result Asked AskedFault
-asked_of d = asked_of_kind d (kind_at d)
+unfoldable pub request_asked : Data → Result WireAsked AskedFault
+request_asked d = asked_of_kind d (kind_at d)
 
 -- ---- a line
 
 -- a request, or the values of many
 pub data LineAsked : Type 0 where
-  One : (asked : Asked) → LineAsked
+  One : (asked : WireAsked) → LineAsked
   Many : (requests : Items) → LineAsked
 
 abbrev pub names_many : Option Data → Bool
@@ -374,13 +374,13 @@ many_after_tag d tag = tag >>= (λ t. must_read (λ v. option_map Many (many_in 
 abbrev pub many_of : Data → Result LineAsked AskedFault
 many_of d = known_or (unknown_name (field.Requests ∷ []) d) (many_after_tag d (asked_tag d))
 
-abbrev pub one_of_asked : Result Asked AskedFault → Result LineAsked AskedFault
+abbrev pub one_of_asked : Result WireAsked AskedFault → Result LineAsked AskedFault
 one_of_asked (Ok asked) = Ok (One asked)
 one_of_asked (Err fault) = Err fault
 
 -- what the value of a line asks
 unfoldable pub line_asked : Data → Result LineAsked AskedFault
-line_asked d = if names_many (field_at field.Do d) then many_of d else one_of_asked (asked_of d)
+line_asked d = if names_many (field_at field.Do d) then many_of d else one_of_asked (request_asked d)
 
 -- ---- what the code keeps of them
 
@@ -398,7 +398,7 @@ abbrev pub tag_of_code : Tag → AskedTag
 tag_of_code (tag.Number n) = NumberTag n
 tag_of_code (tag.Text t) = TextTag t.now
 
-abbrev pub request_seen : WireRequest → Asked
+abbrev pub request_seen : WireRequest → WireAsked
 request_seen (code.Open cpu quota drives) = Open cpu quota (drive_names_of drives)
 request_seen (code.Resume from) = Resume from.now
 request_seen (code.Key slot keys) = Key slot (chars keys.now)

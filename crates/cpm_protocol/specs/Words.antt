@@ -25,19 +25,21 @@ stop_word stop.Blocked = codes "Blocked"
 stop_word stop.Waiting = codes "Waiting"
 
 abbrev pub all_stops : List GrantStop
-all_stops = stop.All ∷ stop.Stopped ∷ stop.Break ∷ stop.Blocked ∷ stop.Waiting ∷ []
+all_stops =
+    stop.All ∷ stop.Stopped ∷ stop.Break ∷ stop.Blocked ∷ stop.Waiting ∷ []
 
 -- how a session ended
-abbrev pub end_word : WireEnd → List ℕ
-end_word ending.Running = codes "Running"
-end_word ending.Halted = codes "Halted"
-end_word ending.Illegal = codes "Illegal"
-end_word ending.Quota = codes "Quota"
-end_word ending.CountEnd = codes "CountEnd"
-end_word ending.Exited = codes "Exited"
+abbrev pub ending_word : WireEnd → List ℕ
+ending_word ending.Running = codes "Running"
+ending_word ending.Halted = codes "Halted"
+ending_word ending.Illegal = codes "Illegal"
+ending_word ending.Quota = codes "Quota"
+ending_word ending.CountEnd = codes "CountEnd"
+ending_word ending.Exited = codes "Exited"
 
 abbrev pub all_endings : List WireEnd
-all_endings = ending.Running ∷ ending.Halted ∷ ending.Illegal ∷ ending.Quota ∷ ending.CountEnd ∷ ending.Exited ∷ []
+all_endings =
+    ending.Running ∷ ending.Halted ∷ ending.Illegal ∷ ending.Quota ∷ ending.CountEnd ∷ ending.Exited ∷ []
 
 -- why a request is refused
 abbrev pub refusal_word : WireRefusal → List ℕ
@@ -61,7 +63,10 @@ refusal_word refusal.DamagedDisk = codes "DamagedDisk"
 refusal_word refusal.FileFault = codes "FileFault"
 
 abbrev pub all_refusals : List WireRefusal
-all_refusals = refusal.NoSuchSlot ∷ refusal.NoSlot ∷ refusal.NoFrames ∷ refusal.BadQuota ∷ refusal.BadDrives ∷ refusal.Damaged ∷ refusal.OtherSystem ∷ refusal.OutOfMemory ∷ refusal.ReadOnly ∷ refusal.DirectoryFull ∷ refusal.DiskFull ∷ refusal.NoFile ∷ refusal.Exists ∷ refusal.BadName ∷ refusal.AbsentFile ∷ refusal.BusyFile ∷ refusal.DamagedDisk ∷ refusal.FileFault ∷ []
+all_refusals =
+    refusal.NoSuchSlot ∷ refusal.NoSlot ∷ refusal.NoFrames ∷ refusal.BadQuota ∷ refusal.BadDrives ∷ refusal.Damaged ∷ refusal.OtherSystem
+    ∷ refusal.OutOfMemory ∷ refusal.ReadOnly ∷ refusal.DirectoryFull ∷ refusal.DiskFull ∷ refusal.NoFile ∷ refusal.Exists ∷ refusal.BadName
+    ∷ refusal.AbsentFile ∷ refusal.BusyFile ∷ refusal.DamagedDisk ∷ refusal.FileFault ∷ []
 
 -- what a person is told
 abbrev pub refusal_why : WireRefusal → List ℕ
@@ -86,4 +91,7 @@ refusal_why refusal.FileFault = codes "the file can't be read or written"
 
 -- all fields of requests
 abbrev pub all_request_fields : List RequestField
-all_request_fields = field.Do ∷ field.Tag ∷ field.Slot ∷ field.Cpu ∷ field.Quota ∷ field.Drives ∷ field.From ∷ field.Keys ∷ field.Steps ∷ field.Until ∷ field.To ∷ field.Most ∷ field.Address ∷ field.Length ∷ field.File ∷ field.Out ∷ field.Drive ∷ field.Name ∷ field.Text ∷ field.Requests ∷ []
+all_request_fields =
+    field.Do ∷ field.Tag ∷ field.Slot ∷ field.Cpu ∷ field.Quota ∷ field.Drives ∷ field.From ∷ field.Keys ∷ field.Steps ∷ field.Until
+    ∷ field.To ∷ field.Most ∷ field.Address ∷ field.Length ∷ field.File ∷ field.Out ∷ field.Drive ∷ field.Name ∷ field.Text ∷ field.Requests
+    ∷ []

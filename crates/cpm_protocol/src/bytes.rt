@@ -1,6 +1,6 @@
 //! Bytes as JSON text: a character stands for the byte of its number.
 ghost use Rattle.std.specs.Prelude.{◌≡◌, IfOk, chars, string_bytes, true};
-ghost use Rattle.cpm_protocol.specs.Bytes.{byte_text, is_byte_character, is_byte_text};
+ghost use Rattle.cpm_protocol.specs.Bytes.{text_of_bytes, is_byte_character, is_byte_text};
 
 use std::alloc::{AllocError, Global};
 
@@ -33,7 +33,7 @@ pub fn bytes_of(alloc: Global, text: &str) -> Result<Vec<u8>, AllocError>
 
 /// The text that stands for bytes.
 pub fn text_of(alloc: Global, bytes: &[u8]) -> Result<String, AllocError>
-    ensures { IfOk result (λ text. string_bytes text ≡ byte_text bytes.now) }
+    ensures { IfOk result (λ text. string_bytes text ≡ text_of_bytes bytes.now) }
 {
     let mut text = String::new(alloc);
     for byte in bytes {

@@ -2,16 +2,16 @@
 ghost use Rattle.std.specs.Prelude.{◌≡◌, option_map};
 ghost use Rattle.serde_json.specs.View.{view};
 ghost use Rattle.cpm_protocol.specs.Fields.{request_field_name};
-ghost use Rattle.cpm_protocol.specs.Requests.{answer_seen, asked_as, asked_of, asked_tag, close_asked, field_map, files_asked, fork_asked, get_asked};
+ghost use Rattle.cpm_protocol.specs.Requests.{answer_seen, asked_as, request_asked, asked_tag, close_asked, field_map, files_asked, fork_asked, get_asked};
 ghost use Rattle.cpm_protocol.specs.Requests.{grant_asked, key_asked, kind_at, list_asked, look_asked, open_asked, peek_asked, put_asked, request_seen};
-ghost use Rattle.cpm_protocol.specs.Requests.{resume_asked, save_asked, slot_at, tag_of_code, take_asked, turn_asked};
+ghost use Rattle.cpm_protocol.specs.Requests.{resume_asked, save_asked, slot_asked, tag_of_code, take_asked, turn_asked};
 
 use crate::fault::{FieldFault, RequestFault};
 use crate::field::RequestField;
 use crate::kind::RequestKind;
 use crate::request::{Tag, WireRequest};
 use crate::values::{
-    MOST_NUMBER, byte_text_at, cpu_at, file_name_at, goal_at, names_at, names_if, number_at,
+    MOST_NUMBER, byte_text_at, cpu_at, file_name_at, goal_at, names_at, names_if, number_field_at,
     short_at, short_text_at, tag_at, unknown_name, value_at,
 };
 use serde_json::Value;
@@ -20,10 +20,10 @@ use serde_json::Value;
 const MOST_BYTES: u16 = 8192;
 
 /// The number of a slot.
-fn slot_at(value: &Value) -> Result<u64, FieldFault>
-    ensures { result ≡ slot_at (view value.now) }
+fn slot_asked(value: &Value) -> Result<u64, FieldFault>
+    ensures { result ≡ slot_asked (view value.now) }
 {
-    number_at(value, RequestField::Slot, 0, MOST_NUMBER)
+    number_field_at(value, RequestField::Slot, 0, MOST_NUMBER)
 }
 
 #[tactic(auto, unfolding(crate::specs::Requests::open_asked))]
@@ -48,7 +48,7 @@ fn resume_request(value: &Value) -> Result<WireRequest<'_>, FieldFault>
 fn key_request(value: &Value) -> Result<WireRequest<'_>, FieldFault>
     ensures { field_map request_seen result ≡ key_asked (view value.now) }
 {
-    let slot = slot_at(value)?;
+    let slot = slot_asked(value)?;
     let keys = byte_text_at(value, RequestField::Keys)?;
     Ok(WireRequest::Key { slot, keys })
 }
@@ -57,8 +57,8 @@ fn key_request(value: &Value) -> Result<WireRequest<'_>, FieldFault>
 fn grant_request(value: &Value) -> Result<WireRequest<'_>, FieldFault>
     ensures { field_map request_seen result ≡ grant_asked (view value.now) }
 {
-    let slot = slot_at(value)?;
-    let steps = number_at(value, RequestField::Steps, 0, MOST_NUMBER)?;
+    let slot = slot_asked(value)?;
+    let steps = number_field_at(value, RequestField::Steps, 0, MOST_NUMBER)?;
     let goal = goal_at(value)?;
     Ok(WireRequest::Grant { slot, steps, goal })
 }
@@ -67,7 +67,7 @@ fn grant_request(value: &Value) -> Result<WireRequest<'_>, FieldFault>
 fn take_request(value: &Value) -> Result<WireRequest<'_>, FieldFault>
     ensures { field_map request_seen result ≡ take_asked (view value.now) }
 {
-    let slot = slot_at(value)?;
+    let slot = slot_asked(value)?;
     let most = short_at(value, RequestField::Most, 0, MOST_BYTES)?;
     Ok(WireRequest::Take { slot, most })
 }
@@ -76,7 +76,7 @@ fn take_request(value: &Value) -> Result<WireRequest<'_>, FieldFault>
 fn list_request(value: &Value) -> Result<WireRequest<'_>, FieldFault>
     ensures { field_map request_seen result ≡ list_asked (view value.now) }
 {
-    let slot = slot_at(value)?;
+    let slot = slot_asked(value)?;
     let most = short_at(value, RequestField::Most, 0, MOST_BYTES)?;
     Ok(WireRequest::List { slot, most })
 }
@@ -85,7 +85,7 @@ fn list_request(value: &Value) -> Result<WireRequest<'_>, FieldFault>
 fn look_request(value: &Value) -> Result<WireRequest<'_>, FieldFault>
     ensures { field_map request_seen result ≡ look_asked (view value.now) }
 {
-    let slot = slot_at(value)?;
+    let slot = slot_asked(value)?;
     Ok(WireRequest::Look { slot })
 }
 
@@ -93,7 +93,7 @@ fn look_request(value: &Value) -> Result<WireRequest<'_>, FieldFault>
 fn peek_request(value: &Value) -> Result<WireRequest<'_>, FieldFault>
     ensures { field_map request_seen result ≡ peek_asked (view value.now) }
 {
-    let slot = slot_at(value)?;
+    let slot = slot_asked(value)?;
     let address = short_at(value, RequestField::Address, 0, u16::MAX)?;
     let length = short_at(value, RequestField::Length, 1, 256)?;
     Ok(WireRequest::Peek {
@@ -107,7 +107,7 @@ fn peek_request(value: &Value) -> Result<WireRequest<'_>, FieldFault>
 fn fork_request(value: &Value) -> Result<WireRequest<'_>, FieldFault>
     ensures { field_map request_seen result ≡ fork_asked (view value.now) }
 {
-    let slot = slot_at(value)?;
+    let slot = slot_asked(value)?;
     Ok(WireRequest::Fork { slot })
 }
 
@@ -115,7 +115,7 @@ fn fork_request(value: &Value) -> Result<WireRequest<'_>, FieldFault>
 fn save_request(value: &Value) -> Result<WireRequest<'_>, FieldFault>
     ensures { field_map request_seen result ≡ save_asked (view value.now) }
 {
-    let slot = slot_at(value)?;
+    let slot = slot_asked(value)?;
     let file = file_name_at(value, RequestField::File)?;
     Ok(WireRequest::Save { slot, file })
 }
@@ -124,7 +124,7 @@ fn save_request(value: &Value) -> Result<WireRequest<'_>, FieldFault>
 fn close_request(value: &Value) -> Result<WireRequest<'_>, FieldFault>
     ensures { field_map request_seen result ≡ close_asked (view value.now) }
 {
-    let slot = slot_at(value)?;
+    let slot = slot_asked(value)?;
     let out = names_if(value, RequestField::Out)?;
     Ok(WireRequest::Close { slot, out })
 }
@@ -133,9 +133,9 @@ fn close_request(value: &Value) -> Result<WireRequest<'_>, FieldFault>
 fn turn_request(value: &Value) -> Result<WireRequest<'_>, FieldFault>
     ensures { field_map request_seen result ≡ turn_asked (view value.now) }
 {
-    let slot = slot_at(value)?;
+    let slot = slot_asked(value)?;
     let keys = byte_text_at(value, RequestField::Keys)?;
-    let steps = number_at(value, RequestField::Steps, 0, MOST_NUMBER)?;
+    let steps = number_field_at(value, RequestField::Steps, 0, MOST_NUMBER)?;
     Ok(WireRequest::Turn { slot, keys, steps })
 }
 
@@ -212,9 +212,9 @@ pub fn tag_of(value: &Value) -> Result<Option<Tag<'_>>, FieldFault>
 }
 
 /// The request that a value is, or its first fault.
-#[tactic(auto, unfolding(crate::specs::Requests::asked_of))]
+#[tactic(auto, unfolding(crate::specs::Requests::request_asked))]
 pub fn request_of(value: &Value) -> Result<WireRequest<'_>, RequestFault<'_>>
-    ensures { answer_seen request_seen result ≡ asked_of (view value.now) }
+    ensures { answer_seen request_seen result ≡ request_asked (view value.now) }
 {
     let kind = kind_at(value)?;
     if let Some(name) = unknown_name(value, kind.fields()) {

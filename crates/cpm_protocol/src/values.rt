@@ -6,8 +6,10 @@ ghost use Rattle.serde_json.specs.View.{view};
 ghost use Rattle.serde_json.specs.Data.{object};
 ghost use Rattle.serde_json.specs.Find.{as_str, at};
 ghost use Rattle.cpm_protocol.specs.Bytes.{is_byte_text};
-ghost use Rattle.cpm_protocol.specs.Requests.{asked_tag, bytes_at, cpu_at, cpu_of_name, drive_names_of, field_at, field_map, four_names, four_names_at, four_names_if};
-ghost use Rattle.cpm_protocol.specs.Requests.{goal_of, is_file_name, is_file_name_byte, is_known_name, is_short_text, item_name, list_in, must_read, number_at, number_within};
+ghost use Rattle.cpm_protocol.specs.Requests.{asked_tag, bytes_field_at, cpu_at, cpu_of_name, drive_names_of, field_at, field_map, four_names};
+ghost use Rattle.cpm_protocol.specs.Requests.{four_names_at, four_names_if};
+ghost use Rattle.cpm_protocol.specs.Requests.{goal_of, is_file_name, is_file_name_byte, is_known_name, is_short_text, item_name, list_in, must_read};
+ghost use Rattle.cpm_protocol.specs.Requests.{number_field_at, number_within};
 ghost use Rattle.cpm_protocol.specs.Requests.{tag_of_code, text_if, text_where, unknown_name};
 
 use crate::bytes::is_byte_text;
@@ -28,8 +30,8 @@ pub(crate) fn value_at<'a>(value: &'a Value, field: RequestField) -> Option<&'a 
 }
 
 /// The whole number of a field, within bounds.
-pub(crate) fn number_at(value: &Value, field: RequestField, low: u64, high: u64) -> Result<u64, FieldFault>
-    ensures read { result ≡ number_at field low high (view value.now) }
+pub(crate) fn number_field_at(value: &Value, field: RequestField, low: u64, high: u64) -> Result<u64, FieldFault>
+    ensures read { result ≡ number_field_at field low high (view value.now) }
     ensures bound { IfOk result (λ n. n ≤ high) }
 {
     let Some(found) = value_at(value, field) else {
@@ -43,9 +45,9 @@ pub(crate) fn number_at(value: &Value, field: RequestField, low: u64, high: u64)
 
 /// A smaller number.
 pub(crate) fn short_at(value: &Value, field: RequestField, low: u16, high: u16) -> Result<u16, FieldFault>
-    ensures { result ≡ number_at field low high (view value.now) }
+    ensures { result ≡ number_field_at field low high (view value.now) }
 {
-    let number = number_at(value, field, low as u64, high as u64)?;
+    let number = number_field_at(value, field, low as u64, high as u64)?;
     Ok(number as u16)
 }
 
@@ -113,7 +115,7 @@ pub(crate) fn short_text_at(value: &Value, field: RequestField) -> Result<&str, 
 
 /// A text whose characters stand for bytes.
 pub(crate) fn byte_text_at(value: &Value, field: RequestField) -> Result<&str, FieldFault>
-    ensures { field_map (λ t. chars t.now) result ≡ bytes_at field (view value.now) }
+    ensures { field_map (λ t. chars t.now) result ≡ bytes_field_at field (view value.now) }
 {
     let text = text_at(value, field)?;
     if is_byte_text(text) {

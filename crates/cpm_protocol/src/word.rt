@@ -1,6 +1,6 @@
 //! The words of replies.
 ghost use Rattle.std.specs.Prelude.{◌≡◌};
-ghost use Rattle.cpm_protocol.specs.Words.{end_word, refusal_why, refusal_word, stop_word};
+ghost use Rattle.cpm_protocol.specs.Words.{ending_word, refusal_why, refusal_word, stop_word};
 
 /// Why a grant ended.
 #[derive(Clone, Copy, Debug, PartialEq, Eq, Drop)]
@@ -46,7 +46,7 @@ pub enum WireEnd {
 impl WireEnd {
     /// The word of a reply.
     pub fn word(self) -> &'static str
-        ensures { result.now ≡ end_word self }
+        ensures { result.now ≡ ending_word self }
     {
         match self {
             WireEnd::Running => "Running",

@@ -4,8 +4,9 @@ ghost use Rattle.serde_json.specs.Data.{boolean, object, string};
 ghost use Rattle.serde_json.specs.Read.{read};
 ghost use Rattle.serde_json.specs.View.{items_view, members_view, view};
 ghost use Rattle.serde_json.specs.Written.{compact_text};
-ghost use Rattle.cpm_protocol.specs.Leaves.{entry_seen, leaf_data};
-ghost use Rattle.cpm_protocol.specs.Replies.{AreBytesIn, Looked, Turned, Wrong, answered_of, bytes_data, many_json, number_data, put_all, reply_json, reply_seen, tag_members, turn_seen};
+ghost use Rattle.cpm_protocol.specs.Leaves.{member_seen, leaf_data};
+ghost use Rattle.cpm_protocol.specs.Replies.{AreBytesIn, Looked, Turned, Wrong, answered_of, bytes_data, many_json, number_data, put_all, reply_json};
+ghost use Rattle.cpm_protocol.specs.Replies.{reply_seen, tag_members, turn_seen};
 ghost use Rattle.cpm_protocol.specs.Requests.{fault_seen, tag_of_code};
 
 use crate::bytes::text_of;
@@ -26,7 +27,7 @@ pub(crate) enum Leaf<'a> {
 
 /// A member of a reply.
 #[derive(Clone, Copy, Drop)]
-pub(crate) struct Entry<'a> {
+pub(crate) struct ReplyMember<'a> {
     pub(crate) name: &'a str,
     pub(crate) leaf: Leaf<'a>,
 }
@@ -46,9 +47,9 @@ fn value_of(alloc: Global, leaf: Leaf<'_>) -> Result<Value, AllocError>
 fn put_entries(
     alloc: Global,
     members: &mut Map<String, Value>,
-    entries: &[Entry<'_>],
+    entries: &[ReplyMember<'_>],
 ) -> Result<(), AllocError>
-    ensures { OnOk result (members_view members.new.entries ≡ put_all (map entry_seen entries.now) (members_view members.old.entries)) }
+    ensures { OnOk result (members_view members.new.entries ≡ put_all (map member_seen entries.now) (members_view members.old.entries)) }
 {
     for entry in entries {
         let value = value_of(alloc, entry.leaf)?;
@@ -80,9 +81,9 @@ fn put_tag(
 fn object_of(
     alloc: Global,
     tag: Option<Tag<'_>>,
-    entries: &[Entry<'_>],
+    entries: &[ReplyMember<'_>],
 ) -> Result<Value, AllocError>
-    ensures { IfOk result (λ v. view v ≡ object (put_all (map entry_seen entries.now) (tag_members (option_map tag_of_code tag)))) }
+    ensures { IfOk result (λ v. view v ≡ object (put_all (map member_seen entries.now) (tag_members (option_map tag_of_code tag)))) }
 {
     let mut members = Map::new(alloc);
     put_tag(alloc, &mut members, tag)?;
@@ -90,37 +91,37 @@ fn object_of(
     Ok(Value::Object(members))
 }
 
-fn number<'a>(name: &'a str, number: u64) -> Entry<'a>
-    ensures { entry_seen result ≡ (name.now, number_data number) }
+fn number<'a>(name: &'a str, number: u64) -> ReplyMember<'a>
+    ensures { member_seen result ≡ (name.now, number_data number) }
 {
-    Entry {
+    ReplyMember {
         name,
         leaf: Leaf::Number(number),
     }
 }
 
-fn text<'a>(name: &'a str, text: &'a str) -> Entry<'a>
-    ensures { entry_seen result ≡ (name.now, string text.now) }
+fn text<'a>(name: &'a str, text: &'a str) -> ReplyMember<'a>
+    ensures { member_seen result ≡ (name.now, string text.now) }
 {
-    Entry {
+    ReplyMember {
         name,
         leaf: Leaf::Text(text),
     }
 }
 
-fn truth<'a>(name: &'a str, truth: bool) -> Entry<'a>
-    ensures { entry_seen result ≡ (name.now, boolean truth) }
+fn truth<'a>(name: &'a str, truth: bool) -> ReplyMember<'a>
+    ensures { member_seen result ≡ (name.now, boolean truth) }
 {
-    Entry {
+    ReplyMember {
         name,
         leaf: Leaf::Truth(truth),
     }
 }
 
-fn bytes<'a>(name: &'a str, bytes: &'a [u8]) -> Entry<'a>
-    ensures { entry_seen result ≡ (name.now, bytes_data bytes.now) }
+fn bytes<'a>(name: &'a str, bytes: &'a [u8]) -> ReplyMember<'a>
+    ensures { member_seen result ≡ (name.now, bytes_data bytes.now) }
 {
-    Entry {
+    ReplyMember {
         name,
         leaf: Leaf::Bytes(bytes),
     }
