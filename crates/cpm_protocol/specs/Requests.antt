@@ -365,11 +365,11 @@ names_many (Some (string t)) = bytes_eq t (codes "many")
 names_many _ = false
 
 -- 1 to 1,000 requests
-abbrev pub many_in : Data → Option Items
-many_in d = passed_by (λ ds. nat_le 1 (items_len ds) && nat_le (items_len ds) 1000) (as_array d)
+abbrev pub many_in : Data → Option LineAsked
+many_in d = option_map Many (passed_by (λ ds. not (items_len ds == 0) && nat_le (items_len ds) 1000) (as_array d))
 
 abbrev pub many_after_tag : Data → Result (Option AskedTag) FieldFault → Result LineAsked FieldFault
-many_after_tag d tag = tag >>= (λ t. must_read (λ v. option_map Many (many_in v)) field.Requests d)
+many_after_tag d tag = tag >>= (λ t. must_read many_in field.Requests d)
 
 abbrev pub many_of : Data → Result LineAsked AskedFault
 many_of d = known_or (unknown_name (field.Requests ∷ []) d) (many_after_tag d (asked_tag d))

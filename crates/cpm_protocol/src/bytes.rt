@@ -1,5 +1,5 @@
 //! Bytes as JSON text: a character stands for the byte of its number.
-ghost use Rattle.std.specs.Prelude.{◌≡◌, IfOk, chars, string_bytes, true};
+ghost use Rattle.std.specs.Prelude.{◌≡◌, IfOk, chars, filter, string_bytes, true};
 ghost use Rattle.cpm_protocol.specs.Bytes.{text_of_bytes, is_byte_character, is_byte_text};
 
 use std::alloc::{AllocError, Global};
@@ -20,7 +20,8 @@ pub fn is_byte_text(text: &str) -> bool
 
 /// The bytes that a text stands for. A character above U+00FF stands for none.
 pub fn bytes_of(alloc: Global, text: &str) -> Result<Vec<u8>, AllocError>
-    ensures { IfOk result (λ bytes. is_byte_text text.now ≡ true → bytes.items ≡ chars text.now) }
+    ensures bytes { IfOk result (λ bytes. bytes.items ≡ filter is_byte_character (chars text.now)) }
+    ensures all { IfOk result (λ bytes. is_byte_text text.now ≡ true → bytes.items ≡ chars text.now) }
 {
     let mut bytes = Vec::new(alloc);
     for c in text.chars() {

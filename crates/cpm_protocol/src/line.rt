@@ -2,7 +2,7 @@
 ghost use Rattle.std.specs.Prelude.{◌≡◌, IfErr, IfOk, Some, None};
 ghost use Rattle.serde_json.specs.Read.{read};
 ghost use Rattle.serde_json.specs.View.{view};
-ghost use Rattle.cpm_protocol.specs.Requests.{answer_seen, asked_tag, field_at, line_asked, line_seen, many_of, names_many};
+ghost use Rattle.cpm_protocol.specs.Requests.{answer_seen, asked_tag, field_at, field_map, line_asked, line_seen, many_in, many_of, must_read, names_many};
 ghost use Rattle.cpm_protocol.specs.declared.fault.LineError.TheVariants.{NoJson};
 
 use crate::fault::{FieldFault, LineError, RequestFault};
@@ -34,6 +34,7 @@ fn names_many(value: &Value) -> bool
 
 /// The requests of a list, 1 to 1,000.
 fn requests_at(value: &Value) -> Result<LineRequest<'_>, FieldFault>
+    ensures { field_map line_seen result ≡ must_read many_in RequestField.Requests (view value.now) }
 {
     match value_at(value, RequestField::Requests) {
         Some(Value::Array(requests)) if !requests.is_empty() && requests.len() <= MOST_REQUESTS => {
