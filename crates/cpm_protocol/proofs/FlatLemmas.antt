@@ -2,6 +2,7 @@
 use Rattle.std.proofs.Common.{◌≡◌, ◌≤◌, ℕ, List, [], ◌∷◌, Bool, true, false, Option, Some, None, Ordering, Less, Equal, Greater, refl, ap, ◌∙◌, arith, codes, max}
 use Rattle.std.specs.Prelude.{◌||◌}
 use Rattle.std.specs.List.{AllByRecursion}
+use Rattle.std.proofs.Math.Nat.{le-max_left, le-max_right}
 use Rattle.std.specs.Ordering.{match_ordering, nat_cmp}
 use Rattle.std.specs.Cmp.Lexicographic.{slice_cmp}
 use Rattle.serde_json.specs.Data.{Data, boolean, string, Members, no_members, member, depth, members_depth, put}
@@ -38,7 +39,7 @@ neither false b h = (refl, h)
 neither true b h = absurd (cc)
 
 both_zero : (a b : ℕ) → max a b ≡ 0 → (a ≡ 0) × (b ≡ 0)
-both_zero a b h = (omega (arith, left_le_max a b), omega (arith, right_le_max a b))
+both_zero a b h = (omega (arith, le-max_left a b), omega (arith, le-max_right a b))
 
 rest_flat : (l : List ℕ) (e : Data) (ms : Members) → AreFlat (member l e ms) → IsFlat e × AreFlat ms
 rest_flat l e ms flat =

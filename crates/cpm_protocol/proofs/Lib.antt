@@ -1,3 +1,4 @@
 pub mod ByteLemmas
 pub mod ReplyLemmas
 pub mod FlatLemmas
+pub mod AskLemmas

@@ -4,3 +4,4 @@ pub mod Requests
 pub mod Words
 pub mod Replies
 pub mod Leaves
+pub mod Asking

@@ -103,9 +103,12 @@ passed_by test None = None
 abbrev pub most_number : ℕ
 most_number = 9007199254740991
 
+abbrev pub is_within : ℕ → ℕ → ℕ → Bool
+is_within low high n = nat_le low n && nat_le n high
+
 -- a whole number within bounds
 abbrev pub number_within : ℕ → ℕ → Data → Option ℕ
-number_within low high d = passed_by (λ n. nat_le low n && nat_le n high) (option_and_then as_u64 (as_number d))
+number_within low high d = passed_by (is_within low high) (option_and_then as_u64 (as_number d))
 
 abbrev pub number_field_at : RequestField → ℕ → ℕ → Data → Result ℕ FieldFault
 number_field_at f low high d = must_read (number_within low high) f d

@@ -1,20 +1,17 @@
 //! Why a line is no request.
 use crate::field::RequestField;
-use thiserror::Error;
 
 /// What is wrong with a field of a request.
-#[derive(Clone, Copy, Debug, PartialEq, Eq, Drop, Error)]
+#[derive(Clone, Copy, Drop)]
 pub enum FieldFault {
     /// The field is missing.
-    #[error("missing field")]
     Missing(RequestField),
     /// The field is of another type, out of its bounds, or stands beside another one that it excludes.
-    #[error("wrong field")]
     Wrong(RequestField),
 }
 
 /// Why a value is no request.
-#[derive(Clone, Copy, Debug, PartialEq, Drop)]
+#[derive(Clone, Copy, Drop)]
 pub enum RequestFault<'a> {
     Field(FieldFault),
     /// The request has no field of this name.
@@ -22,12 +19,11 @@ pub enum RequestFault<'a> {
 }
 
 /// Why a line is not read as a value.
-#[derive(Clone, Copy, Debug, PartialEq, Eq, Drop, Error)]
+#[derive(Clone, Copy, Drop)]
 pub enum LineError {
     /// The line is no JSON from this column on, counted in bytes from 1.
-    #[error("no JSON")]
     NoJson { at: usize },
-    #[error("out of memory")]
+    /// There was no memory for its value.
     OutOfMemory,
 }
 

@@ -5,7 +5,7 @@ ghost use Rattle.cpm_protocol.specs.Fields.{fields_of_kind, kind_named};
 use crate::field::RequestField;
 
 /// What is asked, without its fields.
-#[derive(Clone, Copy, Debug, PartialEq, Eq, Drop)]
+#[derive(Clone, Copy, Drop)]
 pub enum RequestKind {
     Open,
     /// `open` with `from`: a session goes on from a saving.

@@ -1,7 +1,13 @@
-//! A law on the definitions that the calls of this crate cite.
+//! Laws on the definitions that the calls of this crate cite.
+ghost use Rattle.cpm_protocol.specs.Asking.{RequestsBack};
 ghost use Rattle.cpm_protocol.specs.Replies.{RepliesBack};
 
 /// The value of a reply is the value of no other, and the reply is read of it.
 pub fn replies_come_back()
     ensures { RepliesBack }
+{}
+
+/// A request of which each field is within its bounds is read of its value, with its tag.
+pub fn requests_come_back()
+    ensures { RequestsBack }
 {}

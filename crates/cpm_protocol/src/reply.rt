@@ -3,7 +3,7 @@ use crate::fault::RequestFault;
 use crate::word::{GrantStop, WireEnd, WireRefusal};
 
 /// What is seen of a session.
-#[derive(Clone, Copy, Debug, PartialEq, Eq, Drop)]
+#[derive(Clone, Copy, Drop)]
 pub struct SessionLook {
     pub af: u16,
     pub bc: u16,
@@ -39,7 +39,7 @@ pub struct SessionLook {
 }
 
 /// What became of a turn.
-#[derive(Clone, Copy, Debug, PartialEq, Drop)]
+#[derive(Clone, Copy, Drop)]
 pub struct TurnReply<'a> {
     /// How many keys were accepted.
     pub accepted: u64,
@@ -55,7 +55,7 @@ pub struct TurnReply<'a> {
 }
 
 /// A reply to one request.
-#[derive(Clone, Copy, Debug, PartialEq, Drop)]
+#[derive(Clone, Copy, Drop)]
 pub enum WireReply<'a> {
     /// The number of the slot that was opened, by `open` or `fork`.
     Opened { slot: u64 },

@@ -3,14 +3,14 @@ use cpm_flags::Cpu;
 use serde_json::Value;
 
 /// What comes back with the reply to a request.
-#[derive(Clone, Copy, Debug, PartialEq, Drop)]
+#[derive(Clone, Copy, Drop)]
 pub enum Tag<'a> {
     Number(u64),
     Text(&'a str),
 }
 
 /// The names for the drives A to D: one for the first, and no more than there are.
-#[derive(Clone, Copy, Debug, PartialEq, Drop)]
+#[derive(Clone, Copy, Drop)]
 pub struct DriveNames<'a> {
     pub a: Option<&'a str>,
     pub b: Option<&'a str>,
@@ -19,7 +19,7 @@ pub struct DriveNames<'a> {
 }
 
 /// How far a grant goes at most.
-#[derive(Clone, Copy, Debug, PartialEq, Eq, Drop)]
+#[derive(Clone, Copy, Drop)]
 pub enum GrantGoal {
     /// To the end of its steps.
     Steps,
@@ -30,7 +30,7 @@ pub enum GrantGoal {
 }
 
 /// A request. Its texts of bytes have no character above U+00FF.
-#[derive(Clone, Copy, Debug, PartialEq, Drop)]
+#[derive(Clone, Copy, Drop)]
 pub enum WireRequest<'a> {
     /// Open a session.
     Open {
@@ -85,7 +85,7 @@ pub enum WireRequest<'a> {
 }
 
 /// What a line asks.
-#[derive(Clone, Copy, PartialEq, Drop)]
+#[derive(Clone, Copy, Drop)]
 pub enum LineRequest<'a> {
     One(WireRequest<'a>),
     /// Requests that are read and done one after another, 1 to 1,000.

@@ -33,7 +33,7 @@ pub(crate) struct ReplyMember<'a> {
 }
 
 fn value_of(alloc: Global, leaf: Leaf<'_>) -> Result<Value, AllocError>
-    ensures { IfOk result (λ v. view v ≡ leaf_data leaf) }
+    ensures { IfOk result (λ v. view v ≡ leaf_data leaf.entry) }
 {
     match leaf {
         Leaf::Number(number) => Ok(Value::from(number)),
@@ -65,7 +65,7 @@ fn put_tag(
     tag: Option<Tag<'_>>,
 ) -> Result<(), AllocError>
     requires { members.old.entries ≡ [] }
-    ensures { OnOk result (members_view members.new.entries ≡ tag_members (option_map tag_of_code tag)) }
+    ensures { OnOk result (members_view members.new.entries ≡ tag_members (option_map tag_of_code tag.entry)) }
 {
     match tag {
         Some(Tag::Number(number)) => serde_json::put(members, alloc, "tag", Value::from(number)),
@@ -83,7 +83,7 @@ fn object_of(
     tag: Option<Tag<'_>>,
     entries: &[ReplyMember<'_>],
 ) -> Result<Value, AllocError>
-    ensures { IfOk result (λ v. view v ≡ object (put_all (map member_seen entries.now) (tag_members (option_map tag_of_code tag)))) }
+    ensures { IfOk result (λ v. view v ≡ object (put_all (map member_seen entries.now) (tag_members (option_map tag_of_code tag.entry)))) }
 {
     let mut members = Map::new(alloc);
     put_tag(alloc, &mut members, tag)?;
@@ -133,7 +133,7 @@ fn look_value(
     tag: Option<Tag<'_>>,
     look: &SessionLook,
 ) -> Result<Value, AllocError>
-    ensures { IfOk result (λ v. view v ≡ reply_json (option_map tag_of_code tag) (Looked look.now)) }
+    ensures { IfOk result (λ v. view v ≡ reply_json (option_map tag_of_code tag.entry) (Looked look.now)) }
 {
     let entries = [
         number("af", look.af as u64),
@@ -169,7 +169,7 @@ fn turn_value(
     tag: Option<Tag<'_>>,
     turn: &TurnReply<'_>,
 ) -> Result<Value, AllocError>
-    ensures { IfOk result (λ v. view v ≡ reply_json (option_map tag_of_code tag) (Turned (turn_seen turn.now))) }
+    ensures { IfOk result (λ v. view v ≡ reply_json (option_map tag_of_code tag.entry) (Turned (turn_seen turn.now))) }
 {
     let entries = [
         number("accepted", turn.accepted),
@@ -189,7 +189,7 @@ fn fault_value(
     tag: Option<Tag<'_>>,
     fault: RequestFault<'_>,
 ) -> Result<Value, AllocError>
-    ensures { IfOk result (λ v. view v ≡ reply_json (option_map tag_of_code tag) (Wrong (fault_seen fault))) }
+    ensures { IfOk result (λ v. view v ≡ reply_json (option_map tag_of_code tag.entry) (Wrong (fault_seen fault.entry))) }
 {
     let (error, name) = match fault {
         RequestFault::Field(FieldFault::Missing(field)) => ("missing field", field.name()),
@@ -202,7 +202,7 @@ fn fault_value(
 impl WireReply<'_> {
     /// The reply as a JSON value, with the tag of its request.
     pub fn value(&self, alloc: Global, tag: Option<Tag<'_>>) -> Result<Value, AllocError>
-        ensures { IfOk result (λ v. view v ≡ reply_json (option_map tag_of_code tag) (reply_seen self.now)) }
+        ensures { IfOk result (λ v. view v ≡ reply_json (option_map tag_of_code tag.entry) (reply_seen self.now)) }
     {
         match *self {
             WireReply::Opened { slot } => object_of(alloc, tag, &[number("slot", slot)]),
@@ -233,7 +233,7 @@ impl WireReply<'_> {
 
     /// The reply as the text of a line, without the byte that ends the line. What is read of it is the reply.
     pub fn text(&self, alloc: Global, tag: Option<Tag<'_>>) -> Result<String, AllocError>
-        ensures text { IfOk result (λ t. string_bytes t ≡ compact_text (reply_json (option_map tag_of_code tag) (reply_seen self.now))) }
+        ensures text { IfOk result (λ t. string_bytes t ≡ compact_text (reply_json (option_map tag_of_code tag.entry) (reply_seen self.now))) }
         ensures back { AreBytesIn (reply_seen self.now) → IfOk result (λ t. option_and_then answered_of (read (string_bytes t)) ≡ Some (reply_seen self.now)) }
     {
         self.value(alloc, tag)?.to_string(alloc)
@@ -246,7 +246,7 @@ pub fn many_value(
     tag: Option<Tag<'_>>,
     replies: Vec<Value>,
 ) -> Result<Value, AllocError>
-    ensures { IfOk result (λ v. view v ≡ many_json (option_map tag_of_code tag) (items_view replies.entry.items)) }
+    ensures { IfOk result (λ v. view v ≡ many_json (option_map tag_of_code tag.entry) (items_view replies.items)) }
 {
     let mut members = Map::new(alloc);
     put_tag(alloc, &mut members, tag)?;
