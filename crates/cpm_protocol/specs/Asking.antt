@@ -5,7 +5,8 @@ use Rattle.serde_json.specs.Data.{Data, string, array, object, Items, no_items, 
 use Rattle.cpm_flags.specs.declared.regs.Cpu.{Cpu}
 use Rattle.cpm_flags.specs.declared.regs.Cpu.TheVariants.{I8080, Z80}
 use Rattle.cpm_protocol.specs.Requests.{WireAsked, Open, Resume, Key, Grant, Take, ListTake, Look, Peek, Fork, Save, Close, Turn, Put, Get, Files}
-use Rattle.cpm_protocol.specs.Requests.{AskedTag, FourNames, NumberTag, TextTag, asked_tag, is_file_name, is_short_text, is_within, most_number, request_asked}
+use Rattle.cpm_protocol.specs.Requests.{AskedTag, FourNames, NumberTag, TextTag, asked_tag, is_file_name, is_short_text, is_number_within}
+use Rattle.cpm_protocol.specs.Requests.{most_number, request_asked}
 use Rattle.cpm_protocol.specs.Replies.{Member, bytes_data, number_data, put_all, tag_members}
 use Rattle.cpm_protocol.specs.declared.request.GrantGoal.{GrantGoal}
 use Rattle.cpm_protocol.specs.declared.request.GrantGoal.TheVariants as goal
@@ -71,32 +72,32 @@ IsNameBefore (Some name) next = is_file_name name ≡ true
 abbrev pub AreNames : FourNames → Type 0
 AreNames n = IsNameBefore n.a n.b × IsNameBefore n.b n.c × IsNameBefore n.c n.d × IsNameBefore n.d None
 
-abbrev pub AreBytes : List ℕ → Type 0
-AreBytes = AllByRecursion (λ b. b < 256)
+abbrev pub AreKeyBytes : List ℕ → Type 0
+AreKeyBytes = AllByRecursion (λ b. b < 256)
 
 abbrev pub IsSlotNumber : ℕ → Type 0
-IsSlotNumber slot = is_within 0 most_number slot ≡ true
+IsSlotNumber slot = is_number_within 0 most_number slot ≡ true
 
 abbrev pub IsGoal : GrantGoal → Type 0
 IsGoal goal.Steps = ⊤
-IsGoal (goal.Address address) = is_within 0 0xFFFF address ≡ true
+IsGoal (goal.Address address) = is_number_within 0 0xFFFF address ≡ true
 IsGoal goal.Wait = ⊤
 
 -- its fields are within their bounds
 abbrev pub IsAskable : WireAsked → Type 0
-IsAskable (Open cpu quota drives) = (is_within 0 0xFFFF quota ≡ true) × AreNames drives
+IsAskable (Open cpu quota drives) = (is_number_within 0 0xFFFF quota ≡ true) × AreNames drives
 IsAskable (Resume from) = is_file_name from ≡ true
-IsAskable (Key slot keys) = IsSlotNumber slot × AreBytes keys
-IsAskable (Grant slot steps goal) = IsSlotNumber slot × (is_within 0 most_number steps ≡ true) × IsGoal goal
-IsAskable (Take slot most) = IsSlotNumber slot × (is_within 0 8192 most ≡ true)
-IsAskable (ListTake slot most) = IsSlotNumber slot × (is_within 0 8192 most ≡ true)
+IsAskable (Key slot keys) = IsSlotNumber slot × AreKeyBytes keys
+IsAskable (Grant slot steps goal) = IsSlotNumber slot × (is_number_within 0 most_number steps ≡ true) × IsGoal goal
+IsAskable (Take slot most) = IsSlotNumber slot × (is_number_within 0 8192 most ≡ true)
+IsAskable (ListTake slot most) = IsSlotNumber slot × (is_number_within 0 8192 most ≡ true)
 IsAskable (Look slot) = IsSlotNumber slot
-IsAskable (Peek slot address length) = IsSlotNumber slot × (is_within 0 0xFFFF address ≡ true) × (is_within 1 256 length ≡ true)
+IsAskable (Peek slot address length) = IsSlotNumber slot × (is_number_within 0 0xFFFF address ≡ true) × (is_number_within 1 256 length ≡ true)
 IsAskable (Fork slot) = IsSlotNumber slot
 IsAskable (Save slot file) = IsSlotNumber slot × (is_file_name file ≡ true)
 IsAskable (Close slot out) = IsSlotNumber slot × AreNames out
-IsAskable (Turn slot keys steps) = IsSlotNumber slot × AreBytes keys × (is_within 0 most_number steps ≡ true)
-IsAskable (Put drive name text) = (is_file_name drive ≡ true) × (is_short_text name ≡ true) × AreBytes text
+IsAskable (Turn slot keys steps) = IsSlotNumber slot × AreKeyBytes keys × (is_number_within 0 most_number steps ≡ true)
+IsAskable (Put drive name text) = (is_file_name drive ≡ true) × (is_short_text name ≡ true) × AreKeyBytes text
 IsAskable (Get drive name) = (is_file_name drive ≡ true) × (is_short_text name ≡ true)
 IsAskable (Files drive) = is_file_name drive ≡ true
 

@@ -1,5 +1,5 @@
 -- A request of a JSON value: its fields, in this order, or its first fault. All of it is own: docs/PROTOCOL.md.
-use Rattle.std.specs.Prelude.{◌≡◌, ℕ, ◌&&◌, List, [], ◌∷◌, map, length, chars, codes, Bool, false, not, ◌==◌, nat_le, if◌then◌else◌, Option, Some}
+use Rattle.std.specs.Prelude.{◌≡◌, ◌<◌, IsUtf8, ℕ, ◌&&◌, List, [], ◌∷◌, map, length, chars, codes, Bool, false, not, ◌==◌, nat_le, if◌then◌else◌, Option, Some}
 use Rattle.std.specs.Prelude.{None, option_map, option_and_then, is_some, Result, Ok, Err}
 use Rattle.std.specs.List.{list_all, list_any}
 use Rattle.std.specs.Str.{bytes_eq}
@@ -7,6 +7,7 @@ use Rattle.std.specs.Borrow.{Bor}
 use Rattle.serde_json.specs.Data.{Data, null, boolean, number, string, array, object, Items, no_items, item, Members, no_members, member}
 use Rattle.serde_json.specs.Events.{items_len}
 use Rattle.serde_json.specs.Find.{as_array, as_number, as_object, as_str, as_u64, at, get}
+use Rattle.serde_json.specs.Read.{read}
 use Rattle.serde_json.specs.View.{items_view}
 use Rattle.serde_json.specs.declared.value.Value.{Value}
 use Rattle.cpm_flags.specs.declared.regs.Cpu.{Cpu}
@@ -19,6 +20,8 @@ use Rattle.cpm_protocol.specs.declared.kind.RequestKind.{RequestKind}
 use Rattle.cpm_protocol.specs.declared.kind.RequestKind.TheVariants as kind
 use Rattle.cpm_protocol.specs.declared.fault.FieldFault.{FieldFault}
 use Rattle.cpm_protocol.specs.declared.fault.FieldFault.TheVariants.{Missing, Wrong}
+use Rattle.cpm_protocol.specs.declared.fault.LineError.{LineError}
+use Rattle.cpm_protocol.specs.declared.fault.LineError.TheVariants as line_error
 use Rattle.cpm_protocol.specs.declared.fault.RequestFault.{RequestFault}
 use Rattle.cpm_protocol.specs.declared.fault.RequestFault.TheVariants as fault
 use Rattle.cpm_protocol.specs.declared.request.DriveNames.{DriveNames}
@@ -103,12 +106,12 @@ passed_by test None = None
 abbrev pub most_number : ℕ
 most_number = 9007199254740991
 
-abbrev pub is_within : ℕ → ℕ → ℕ → Bool
-is_within low high n = nat_le low n && nat_le n high
+abbrev pub is_number_within : ℕ → ℕ → ℕ → Bool
+is_number_within low high n = nat_le low n && nat_le n high
 
 -- a whole number within bounds
 abbrev pub number_within : ℕ → ℕ → Data → Option ℕ
-number_within low high d = passed_by (is_within low high) (option_and_then as_u64 (as_number d))
+number_within low high d = passed_by (is_number_within low high) (option_and_then as_u64 (as_number d))
 
 abbrev pub number_field_at : RequestField → ℕ → ℕ → Data → Result ℕ FieldFault
 number_field_at f low high d = must_read (number_within low high) f d
@@ -157,8 +160,9 @@ four_names f list = do
   d ← item_name f (at 3 list)
   Ok (record { a = a; b = b; c = c; d = d })
 
+-- the value, if it is a list
 abbrev pub list_in : Data → Option Data
-list_in d = option_map array (as_array d)
+list_in d = if is_some (as_array d) then Some d else None
 
 unfoldable pub four_names_at : RequestField → Data → Result FourNames FieldFault
 four_names_at f d = must_read list_in f d >>= four_names f
@@ -384,6 +388,11 @@ one_of_asked (Err fault) = Err fault
 -- what the value of a line asks
 unfoldable pub line_asked : Data → Result LineAsked AskedFault
 line_asked d = if names_many (field_at field.Do d) then many_of d else one_of_asked (request_asked d)
+
+-- A line is no JSON where it is not UTF-8, or is the text of no value. There may be no memory for the value of one that has a byte.
+abbrev pub IsLineRefusal : List ℕ → LineError → Type 0
+IsLineRefusal line (line_error.NoJson at) = IsUtf8 line → read line ≡ None
+IsLineRefusal line line_error.OutOfMemory = 0 < length line
 
 -- ---- what the code keeps of them
 

@@ -1,9 +1,9 @@
 //! Lines.
-ghost use Rattle.std.specs.Prelude.{◌≡◌, IfErr, IfOk, Some, None};
+ghost use Rattle.std.specs.Prelude.{◌≡◌, IfErr, IfOk, IsUtf8, Some};
 ghost use Rattle.serde_json.specs.Read.{read};
 ghost use Rattle.serde_json.specs.View.{view};
-ghost use Rattle.cpm_protocol.specs.Requests.{answer_seen, asked_tag, field_at, field_map, line_asked, line_seen, many_in, many_of, must_read, names_many};
-ghost use Rattle.cpm_protocol.specs.declared.fault.LineError.TheVariants.{NoJson};
+ghost use Rattle.cpm_protocol.specs.Requests.{IsLineRefusal, answer_seen, asked_tag, field_at, field_map, line_asked, line_seen, many_in, many_of};
+ghost use Rattle.cpm_protocol.specs.Requests.{must_read, names_many};
 
 use crate::fault::{FieldFault, LineError, RequestFault};
 use crate::field::RequestField;
@@ -59,12 +59,15 @@ fn many_of(value: &Value) -> Result<LineRequest<'_>, RequestFault<'_>>
 impl WireLine {
     /// Reads a line as JSON.
     pub fn read(alloc: Global, line: &[u8]) -> Result<WireLine, LineError>
-        ensures { IfOk result (λ l. read line.now ≡ Some (view l.value)) }
+        ensures read { IfOk result (λ l. IsUtf8 line.now × (read line.now ≡ Some (view l.value))) }
+        ensures refused { IfErr result (IsLineRefusal line.now) }
     {
         match Value::from_slice(alloc, line) {
             Ok(value) => Ok(WireLine { value }),
             Err(error) if error.is_memory() => Err(LineError::OutOfMemory),
-            Err(error) => Err(LineError::NoJson { at: error.column().saturating_add(1) }),
+            Err(error) => Err(LineError::NoJson {
+                at: error.column().saturating_add(1),
+            }),
         }
     }
 

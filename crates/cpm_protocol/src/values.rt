@@ -1,6 +1,7 @@
 //! The values of a request, by their fields.
-ghost use Rattle.std.specs.Prelude.{◌≡◌, ◌≤◌, IfOk, chars, option_map};
-ghost use Rattle.std.specs.List.{list_all, list_any};
+ghost use Rattle.std.specs.Prelude.{◌≡◌, ◌≤◌, IfOk, chars, not, option_map, string_bytes};
+ghost use Rattle.std.specs.BTreeMap.{keys};
+ghost use Rattle.std.specs.List.{find, list_all, list_any};
 ghost use Rattle.std.specs.Str.{bytes_eq};
 ghost use Rattle.serde_json.specs.View.{view};
 ghost use Rattle.serde_json.specs.Data.{object};
@@ -17,7 +18,7 @@ use crate::fault::FieldFault;
 use crate::field::RequestField;
 use crate::request::{DriveNames, GrantGoal, Tag};
 use cpm_flags::Cpu;
-use serde_json::Value;
+use serde_json::{Map, Value};
 
 /// The most that a number of a request may be: 2^53 - 1, up to which JavaScript's numbers are exact.
 pub(crate) const MOST_NUMBER: u64 = 9_007_199_254_740_991;
@@ -232,15 +233,20 @@ fn is_known_name(fields: &[RequestField], name: &str) -> bool
         || fields.iter().any(|field| name == field.name())
 }
 
+/// The first key of an object that is the name of none of these fields.
+fn unknown_key<'a>(members: &'a Map<String, Value>, fields: &[RequestField]) -> Option<&'a String>
+    ensures { option_map (λ k. k.now) result ≡ find (λ k. not (is_known_name fields.now (string_bytes k))) (keys members.now) }
+{
+    members
+        .keys()
+        .find(|name| !is_known_name(fields, name.as_str()))
+}
+
 /// The first name of a value, in the order of the names, that is none of these fields.
 pub(crate) fn unknown_name<'a>(value: &'a Value, fields: &[RequestField]) -> Option<&'a str>
     ensures { option_map (λ t. t.now) result ≡ unknown_name fields.now (view value.now) }
 {
     let members = value.as_object()?;
-    for name in members.keys() {
-        if !is_known_name(fields, name.as_str()) {
-            return Some(name.as_str());
-        }
-    }
-    None
+    let name = unknown_key(members, fields)?;
+    Some(name.as_str())
 }
