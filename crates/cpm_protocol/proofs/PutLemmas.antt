@@ -13,3 +13,7 @@ put_step es i e new old all within is more so_far =
     ap (put_all (map member_seen (drop (i + 1) es))) more
     ∙ ap (λ (rest : List ReplyMember). put_all (map member_seen rest) old) (ap (λ (x : ReplyMember). x ∷ drop (i + 1) es) is ∙ sym (drop_more es i e within))
     ∙ so_far
+
+-- lists whose first elements are equal, and the others too
+pub also : {A : Type 0} {x y : A} {xs ys : List A} → x ≡ y → xs ≡ ys → x ∷ xs ≡ y ∷ ys
+also {A} first rest = ap₂ (λ (a : A) (more : List A). a ∷ more) first rest

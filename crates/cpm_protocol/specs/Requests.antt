@@ -372,8 +372,11 @@ names_many (Some (string t)) = bytes_eq t (codes "many")
 names_many _ = false
 
 -- 1 to 1,000 requests
+abbrev pub is_request_count : ℕ → Bool
+is_request_count n = not (n == 0) && nat_le n 1000
+
 abbrev pub many_in : Data → Option LineAsked
-many_in d = option_map Many (passed_by (λ ds. not (items_len ds == 0) && nat_le (items_len ds) 1000) (as_array d))
+many_in d = option_map Many (passed_by (λ ds. is_request_count (items_len ds)) (as_array d))
 
 abbrev pub many_after_tag : Data → Result (Option AskedTag) FieldFault → Result LineAsked FieldFault
 many_after_tag d tag = tag >>= (λ t. must_read many_in field.Requests d)

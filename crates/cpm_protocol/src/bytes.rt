@@ -1,5 +1,5 @@
 //! Bytes as JSON text: a character stands for the byte of its number.
-ghost use Rattle.std.specs.Prelude.{◌≡◌, IfOk, chars, filter, string_bytes, true};
+ghost use Rattle.std.specs.Prelude.{◌≡◌, ◌<◌, ◌≤◌, IfOk, MatchOption, chars, filter, string_bytes, true};
 ghost use Rattle.cpm_protocol.specs.Bytes.{text_of_bytes, is_byte_character, is_byte_text};
 
 use std::alloc::{AllocError, Global};
@@ -18,6 +18,13 @@ pub fn is_byte_text(text: &str) -> bool
     text.chars().all(|c| is_byte_character(c))
 }
 
+/// The byte that a character stands for.
+fn byte_of(c: char) -> Option<u8>
+    ensures { MatchOption result (256 ≤ c) (λ b. (b ≡ c) × (c < 256)) }
+{
+    u8::try_from(c as u32).ok()
+}
+
 /// The bytes that a text stands for. A character above U+00FF stands for none.
 pub fn bytes_of(alloc: Global, text: &str) -> Result<Vec<u8>, AllocError>
     ensures bytes { IfOk result (λ bytes. bytes.items ≡ filter is_byte_character (chars text.now)) }
@@ -25,7 +32,7 @@ pub fn bytes_of(alloc: Global, text: &str) -> Result<Vec<u8>, AllocError>
 {
     let mut bytes = Vec::new(alloc);
     for c in text.chars() {
-        if let Ok(byte) = u8::try_from(c as u32) {
+        if let Some(byte) = byte_of(c) {
             bytes.push(byte)?;
         }
     }

@@ -1,8 +1,8 @@
 //! Lines.
-ghost use Rattle.std.specs.Prelude.{◌≡◌, IfErr, IfOk, IsUtf8, Some};
+ghost use Rattle.std.specs.Prelude.{◌≡◌, IfErr, IfOk, IsUtf8, Some, option_map};
 ghost use Rattle.serde_json.specs.Read.{read};
-ghost use Rattle.serde_json.specs.View.{view};
-ghost use Rattle.cpm_protocol.specs.Requests.{IsLineRefusal, answer_seen, asked_tag, field_at, field_map, line_asked, line_seen, many_in, many_of};
+ghost use Rattle.serde_json.specs.View.{items_view, view};
+ghost use Rattle.cpm_protocol.specs.Requests.{IsLineRefusal, Many, answer_seen, asked_tag, field_at, field_map, is_request_count, line_asked, line_seen, many_in, many_of};
 ghost use Rattle.cpm_protocol.specs.Requests.{must_read, names_many};
 
 use crate::fault::{FieldFault, LineError, RequestFault};
@@ -32,16 +32,35 @@ fn names_many(value: &Value) -> bool
     }
 }
 
-/// The requests of a list, 1 to 1,000.
+/// Whether a line may have so many requests.
+fn is_request_count(count: usize) -> bool
+    ensures { result ≡ is_request_count count }
+{
+    count != 0 && count <= MOST_REQUESTS
+}
+
+/// The requests of a list.
+fn requests_in(value: &Value) -> Option<&[Value]>
+    ensures { option_map (λ r. Many (items_view r.now)) result ≡ many_in (view value.now) }
+{
+    let requests = value.as_array()?;
+    if is_request_count(requests.len()) {
+        Some(requests.as_slice())
+    } else {
+        None
+    }
+}
+
+/// The requests of a line.
 fn requests_at(value: &Value) -> Result<LineRequest<'_>, FieldFault>
     ensures { field_map line_seen result ≡ must_read many_in RequestField.Requests (view value.now) }
 {
-    match value_at(value, RequestField::Requests) {
-        Some(Value::Array(requests)) if !requests.is_empty() && requests.len() <= MOST_REQUESTS => {
-            Ok(LineRequest::Many(requests.as_slice()))
-        }
-        Some(_) => Err(FieldFault::Wrong(RequestField::Requests)),
-        None => Err(FieldFault::Missing(RequestField::Requests)),
+    let Some(found) = value_at(value, RequestField::Requests) else {
+        return Err(FieldFault::Missing(RequestField::Requests));
+    };
+    match requests_in(found) {
+        Some(requests) => Ok(LineRequest::Many(requests)),
+        None => Err(FieldFault::Wrong(RequestField::Requests)),
     }
 }
 

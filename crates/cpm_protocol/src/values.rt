@@ -224,13 +224,18 @@ pub(crate) fn tag_at(value: &Value) -> Result<Option<Tag<'_>>, FieldFault>
     }
 }
 
+/// Whether a name is that of one of these fields.
+fn names_one(fields: &[RequestField], name: &str) -> bool
+    ensures { result ≡ list_any (λ f. bytes_eq name.now (request_field_name f)) fields.now }
+{
+    fields.iter().any(|field| name == field.name())
+}
+
 /// Whether a name is that of `do`, of `tag` or of one of these fields.
 fn is_known_name(fields: &[RequestField], name: &str) -> bool
     ensures { result ≡ is_known_name fields.now name.now }
 {
-    name == RequestField::Do.name()
-        || name == RequestField::Tag.name()
-        || fields.iter().any(|field| name == field.name())
+    name == "do" || name == "tag" || names_one(fields, name)
 }
 
 /// The first key of an object that is the name of none of these fields.
