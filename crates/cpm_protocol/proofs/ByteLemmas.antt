@@ -54,8 +54,8 @@ no_byte_more done rest all c more so_far =
     ap (λ (b : Bool). done ++ cond b (c ∷ filter is_byte_character rest) (filter is_byte_character rest)) (sym (is_none c more)) ∙ so_far
 
 -- the text of one byte more
-pub text_more : (bytes : List ℕ) (i b : ℕ) → i < length bytes → b ≡ get_or bytes i b → text_of_bytes (take (i + 1) bytes) ≡ text_of_bytes (take i bytes) ++ encode_utf8 b
-text_more bytes i b within is =
-    ap encode_utf8_all (take_more bytes i b within ∙ ap (λ (c : ℕ). take i bytes ++ c ∷ []) (sym is))
-    ∙ encodes-append (take i bytes) (b ∷ [])
-    ∙ ap (λ (end : List ℕ). encode_utf8_all (take i bytes) ++ end) (append-nil (encode_utf8 b))
+pub text_more : (bytes : List ℕ) (i : ℕ) → i < length bytes → text_of_bytes (take (i + 1) bytes) ≡ text_of_bytes (take i bytes) ++ encode_utf8 (get_or bytes i 0)
+text_more bytes i within =
+    ap encode_utf8_all (take_more bytes i 0 within)
+    ∙ encodes-append (take i bytes) (get_or bytes i 0 ∷ [])
+    ∙ ap (λ (end : List ℕ). encode_utf8_all (take i bytes) ++ end) (append-nil (encode_utf8 (get_or bytes i 0)))

@@ -1,5 +1,5 @@
 //! Lines.
-ghost use Rattle.std.specs.Prelude.{◌≡◌, IfErr, IfOk, IsUtf8, Some, option_map};
+ghost use Rattle.std.specs.Prelude.{◌≡◌, IfErr, IfOk, IsUtf8, Some, length, option_map};
 ghost use Rattle.serde_json.specs.Read.{read};
 ghost use Rattle.serde_json.specs.View.{items_view, view};
 ghost use Rattle.cpm_protocol.specs.Requests.{IsLineRefusal, Many, answer_seen, asked_tag, field_at, field_map, is_request_count, line_asked, line_seen, many_in, many_of};
@@ -33,19 +33,20 @@ fn names_many(value: &Value) -> bool
 }
 
 /// Whether a line may have so many requests.
-fn is_request_count(count: usize) -> bool
-    ensures { result ≡ is_request_count count }
+fn are_few(requests: &[Value]) -> bool
+    ensures { result ≡ is_request_count (length requests.now) }
 {
-    count != 0 && count <= MOST_REQUESTS
+    !requests.is_empty() && requests.len() <= MOST_REQUESTS
 }
 
 /// The requests of a list.
 fn requests_in(value: &Value) -> Option<&[Value]>
     ensures { option_map (λ r. Many (items_view r.now)) result ≡ many_in (view value.now) }
 {
-    let requests = value.as_array()?;
-    if is_request_count(requests.len()) {
-        Some(requests.as_slice())
+    let list = value.as_array()?;
+    let requests = list.as_slice();
+    if are_few(requests) {
+        Some(requests)
     } else {
         None
     }

@@ -7,6 +7,7 @@ ghost use Rattle.serde_json.specs.View.{view};
 ghost use Rattle.serde_json.specs.Data.{object};
 ghost use Rattle.serde_json.specs.Find.{as_str, at};
 ghost use Rattle.cpm_protocol.specs.Bytes.{is_byte_text};
+ghost use Rattle.cpm_protocol.specs.Fields.{request_field_name};
 ghost use Rattle.cpm_protocol.specs.Requests.{asked_tag, bytes_field_at, cpu_at, cpu_of_name, drive_names_of, field_at, field_map, four_names};
 ghost use Rattle.cpm_protocol.specs.Requests.{four_names_at, four_names_if};
 ghost use Rattle.cpm_protocol.specs.Requests.{goal_of, is_file_name, is_file_name_byte, is_known_name, is_short_text, item_name, list_in, must_read};

@@ -7,6 +7,7 @@ use cpm_protocol::{
     request_of, requests_come_back, tag_of, text_of,
 };
 use std::alloc::{AllocError, Global};
+use std::process::Abort;
 
 /// A reply's text, behind its tag.
 fn said(
@@ -88,65 +89,55 @@ fn heard(alloc: Global, text: &str) -> Result<String, AllocError> {
     }
 }
 
+/// Fails unless a line asks this, or has this reply where it is wrong.
+fn hears(rt: &impl Abort, alloc: Global, line: &str, wanted: &str) {
+    let found = heard(alloc, line).expect(rt, "memory");
+    same(rt, found.as_str(), wanted);
+}
+
+/// Fails unless a reply behind the tag `x` has this text.
+fn says(rt: &impl Abort, alloc: Global, reply: &WireReply<'_>, wanted: &str) {
+    let found = said(alloc, Some(Tag::Text("x")), reply).expect(rt, "memory");
+    same(rt, found.as_str(), wanted);
+}
+
 #[test]
 fn each_request_is_read(rt: HostRuntime) {
-    let lines = [
-        (
-            r#"{"do": "open", "cpu": "8080", "quota": 64, "drives": ["work.img", "blank"], "tag": 1}"#,
-            "open 64 2",
-        ),
-        (r#"{"do": "open", "from": "alice.saved"}"#, "resume alice.saved"),
-        (r#"{"do": "key", "slot": 0, "keys": "DIR"}"#, "key 0 DIR"),
-        (r#"{"do": "grant", "slot": 0, "steps": 9007199254740991}"#, "grant 0 9007199254740991"),
-        (r#"{"do": "grant", "slot": 1, "steps": 5, "until": 256}"#, "grant 1 5 until 256"),
-        (r#"{"do": "grant", "slot": 1, "steps": 5, "to": "wait"}"#, "grant 1 5 to a wait"),
-        (r#"{"do": "take", "slot": 0, "most": 8192}"#, "take 0 8192"),
-        (r#"{"do": "list", "slot": 0, "most": 100}"#, "list 0 100"),
-        (r#"{"do": "look", "slot": 0}"#, "look 0"),
-        (r#"{"do": "peek", "slot": 0, "address": 5, "length": 3}"#, "peek 0 5 3"),
-        (r#"{"do": "fork", "slot": 0}"#, "fork 0"),
-        (r#"{"do": "save", "slot": 0, "file": "alice.saved"}"#, "save 0 alice.saved"),
-        (r#"{"do": "close", "slot": 7, "out": ["after.img"]}"#, "close 7 1"),
-        (r#"{"do": "turn", "slot": 0, "keys": "DIR", "steps": 20000}"#, "turn 0 DIR 20000"),
-        (
-            r#"{"do": "put", "drive": "work.img", "name": "HELLO.TXT", "text": "Hello"}"#,
-            "put work.img HELLO.TXT Hello",
-        ),
-        (r#"{"do": "get", "drive": "work.img", "name": "HELLO.TXT"}"#, "get work.img HELLO.TXT"),
-        (r#"{"do": "files", "drive": "work.img"}"#, "files work.img"),
-        (r#"{"do": "many", "requests": [{"do": "look"}, 17]}"#, "many 2"),
-    ];
-    for (line, wanted) in lines {
-        let found = heard(rt.alloc(), line).expect(&rt, "memory");
-        same(&rt, found.as_str(), wanted);
-    }
+    let alloc = rt.alloc();
+    hears(&rt, alloc, r#"{"do": "open", "cpu": "8080", "quota": 64, "drives": ["work.img", "blank"], "tag": 1}"#, "open 64 2");
+    hears(&rt, alloc, r#"{"do": "open", "from": "alice.saved"}"#, "resume alice.saved");
+    hears(&rt, alloc, r#"{"do": "key", "slot": 0, "keys": "DIR"}"#, "key 0 DIR");
+    hears(&rt, alloc, r#"{"do": "grant", "slot": 0, "steps": 9007199254740991}"#, "grant 0 9007199254740991");
+    hears(&rt, alloc, r#"{"do": "grant", "slot": 1, "steps": 5, "until": 256}"#, "grant 1 5 until 256");
+    hears(&rt, alloc, r#"{"do": "grant", "slot": 1, "steps": 5, "to": "wait"}"#, "grant 1 5 to a wait");
+    hears(&rt, alloc, r#"{"do": "take", "slot": 0, "most": 8192}"#, "take 0 8192");
+    hears(&rt, alloc, r#"{"do": "list", "slot": 0, "most": 100}"#, "list 0 100");
+    hears(&rt, alloc, r#"{"do": "look", "slot": 0}"#, "look 0");
+    hears(&rt, alloc, r#"{"do": "peek", "slot": 0, "address": 5, "length": 3}"#, "peek 0 5 3");
+    hears(&rt, alloc, r#"{"do": "fork", "slot": 0}"#, "fork 0");
+    hears(&rt, alloc, r#"{"do": "save", "slot": 0, "file": "alice.saved"}"#, "save 0 alice.saved");
+    hears(&rt, alloc, r#"{"do": "close", "slot": 7, "out": ["after.img"]}"#, "close 7 1");
+    hears(&rt, alloc, r#"{"do": "turn", "slot": 0, "keys": "DIR", "steps": 20000}"#, "turn 0 DIR 20000");
+    hears(&rt, alloc, r#"{"do": "put", "drive": "work.img", "name": "HELLO.TXT", "text": "Hello"}"#, "put work.img HELLO.TXT Hello");
+    hears(&rt, alloc, r#"{"do": "get", "drive": "work.img", "name": "HELLO.TXT"}"#, "get work.img HELLO.TXT");
+    hears(&rt, alloc, r#"{"do": "files", "drive": "work.img"}"#, "files work.img");
+    hears(&rt, alloc, r#"{"do": "many", "requests": [{"do": "look"}, 17]}"#, "many 2");
 }
 
 #[test]
 fn each_fault_is_told(rt: HostRuntime) {
-    let lines = [
-        (
-            r#"{"do": "grant", "slot": 0, "stepz": 100, "tag": 5}"#,
-            r#"{"error":"unknown field","field":"stepz","tag":5}"#,
-        ),
-        (
-            r#"{"do": "peek", "slot": 0, "address": 65536, "length": 1}"#,
-            r#"{"error":"wrong field","field":"address"}"#,
-        ),
-        (r#"{"do": "reboot", "slot": 0}"#, r#"{"error":"wrong field","field":"do"}"#),
-        (r#"17"#, r#"{"error":"missing field","field":"do"}"#),
-        (r#"{"do": "look", "slot": 9007199254740992}"#, r#"{"error":"wrong field","field":"slot"}"#),
-        (r#"{"do": "look", "slot": 1.0}"#, r#"{"error":"wrong field","field":"slot"}"#),
-        (r#"{"do": "key", "slot": 0, "keys": "Ā"}"#, r#"{"error":"wrong field","field":"keys"}"#),
-        (r#"{"do": "look", "slot": 0, "tag": []}"#, r#"{"error":"wrong field","field":"tag"}"#),
-        (r#"{"do": "many", "requests": []}"#, r#"{"error":"wrong field","field":"requests"}"#),
-        (r#"{"do": "save", "slot": 0, "file": "../a"}"#, r#"{"error":"wrong field","field":"file"}"#),
-        (r#"{"do": "look", "slot": 0"#, r#"{"at":25,"error":"no JSON"}"#),
-    ];
-    for (line, wanted) in lines {
-        let found = heard(rt.alloc(), line).expect(&rt, "memory");
-        same(&rt, found.as_str(), wanted);
-    }
+    let alloc = rt.alloc();
+    hears(&rt, alloc, r#"{"do": "grant", "slot": 0, "stepz": 100, "tag": 5}"#, r#"{"error":"unknown field","field":"stepz","tag":5}"#);
+    hears(&rt, alloc, r#"{"do": "peek", "slot": 0, "address": 65536, "length": 1}"#, r#"{"error":"wrong field","field":"address"}"#);
+    hears(&rt, alloc, r#"{"do": "reboot", "slot": 0}"#, r#"{"error":"wrong field","field":"do"}"#);
+    hears(&rt, alloc, r#"17"#, r#"{"error":"missing field","field":"do"}"#);
+    hears(&rt, alloc, r#"{"do": "look", "slot": 9007199254740992}"#, r#"{"error":"wrong field","field":"slot"}"#);
+    hears(&rt, alloc, r#"{"do": "look", "slot": 1.0}"#, r#"{"error":"wrong field","field":"slot"}"#);
+    hears(&rt, alloc, r#"{"do": "key", "slot": 0, "keys": "Ā"}"#, r#"{"error":"wrong field","field":"keys"}"#);
+    hears(&rt, alloc, r#"{"do": "look", "slot": 0, "tag": []}"#, r#"{"error":"wrong field","field":"tag"}"#);
+    hears(&rt, alloc, r#"{"do": "many", "requests": []}"#, r#"{"error":"wrong field","field":"requests"}"#);
+    hears(&rt, alloc, r#"{"do": "save", "slot": 0, "file": "../a"}"#, r#"{"error":"wrong field","field":"file"}"#);
+    hears(&rt, alloc, r#"{"do": "look", "slot": 0"#, r#"{"at":25,"error":"no JSON"}"#);
 }
 
 #[test]
@@ -160,32 +151,15 @@ fn each_reply_is_written(rt: HostRuntime) {
         waiting: true,
         end: WireEnd::Running,
     };
-    let replies = [
-        (WireReply::Opened { slot: 0 }, r#"{"slot":0,"tag":"x"}"#),
-        (WireReply::Accepted { accepted: 4 }, r#"{"accepted":4,"tag":"x"}"#),
-        (
-            WireReply::Granted {
-                executed: 12,
-                why: GrantStop::Break,
-            },
-            r#"{"executed":12,"tag":"x","why":"Break"}"#,
-        ),
-        (WireReply::Text { bytes: b"\xC3\x06\xEC" }, "{\"tag\":\"x\",\"text\":\"\u{C3}\\u0006\u{EC}\"}"),
-        (WireReply::Written { bytes: 7 }, r#"{"bytes":7,"tag":"x"}"#),
-        (
-            WireReply::Turned(turn),
-            r#"{"accepted":4,"end":"Running","executed":9120,"list":"","tag":"x","text":"DIR\r\n","waiting":true,"why":"Waiting"}"#,
-        ),
-        (
-            WireReply::Refused(WireRefusal::NoSuchSlot),
-            r#"{"refused":"NoSuchSlot","tag":"x","why":"no slot of that number is open"}"#,
-        ),
-        (WireReply::TooLong, r#"{"error":"line too long","tag":"x"}"#),
-    ];
-    for (reply, wanted) in replies {
-        let found = said(rt.alloc(), Some(Tag::Text("x")), &reply).expect(&rt, "memory");
-        same(&rt, found.as_str(), wanted);
-    }
+    let alloc = rt.alloc();
+    says(&rt, alloc, &WireReply::Opened { slot: 0 }, r#"{"slot":0,"tag":"x"}"#);
+    says(&rt, alloc, &WireReply::Accepted { accepted: 4 }, r#"{"accepted":4,"tag":"x"}"#);
+    says(&rt, alloc, &WireReply::Granted { executed: 12, why: GrantStop::Break, }, r#"{"executed":12,"tag":"x","why":"Break"}"#);
+    says(&rt, alloc, &WireReply::Text { bytes: b"\xC3\x06\xEC" }, "{\"tag\":\"x\",\"text\":\"\u{C3}\\u0006\u{EC}\"}");
+    says(&rt, alloc, &WireReply::Written { bytes: 7 }, r#"{"bytes":7,"tag":"x"}"#);
+    says(&rt, alloc, &WireReply::Turned(turn), r#"{"accepted":4,"end":"Running","executed":9120,"list":"","tag":"x","text":"DIR\r\n","waiting":true,"why":"Waiting"}"#);
+    says(&rt, alloc, &WireReply::Refused(WireRefusal::NoSuchSlot), r#"{"refused":"NoSuchSlot","tag":"x","why":"no slot of that number is open"}"#);
+    says(&rt, alloc, &WireReply::TooLong, r#"{"error":"line too long","tag":"x"}"#);
 }
 
 #[test]
@@ -216,8 +190,11 @@ fn a_look_is_written(rt: HostRuntime) {
         list: 0,
     };
     let found = said(rt.alloc(), None, &WireReply::Looked(look)).expect(&rt, "memory");
-    let wanted = r#"{"af":68,"af'":0,"bc":0,"bc'":0,"console":0,"count":58131,"de":0,"de'":0,"end":"Running","hl":0,"hl'":0,"i":0,"iff1":false,"iff2":false,"ix":0,"iy":0,"keys":0,"list":0,"pages":3,"pc":58374,"r":0,"sp":256,"waiting":true}"#;
-    same(&rt, found.as_str(), wanted);
+    same(
+        &rt,
+        found.as_str(),
+        "{\"af\":68,\"af'\":0,\"bc\":0,\"bc'\":0,\"console\":0,\"count\":58131,\"de\":0,\"de'\":0,\"end\":\"Running\",\"hl\":0,\"hl'\":0,\"i\":0,\"iff1\":false,\"iff2\":false,\"ix\":0,\"iy\":0,\"keys\":0,\"list\":0,\"pages\":3,\"pc\":58374,\"r\":0,\"sp\":256,\"waiting\":true}",
+    );
 }
 
 /// The replies to many, of which one is wrong.

@@ -6,4 +6,4 @@ pub loop-byte-preserved : goal.loop-byte-preserved
 loop-byte-preserved c =
     c.in_ok-push.ensures.bytes
     ∙ ap₂ (λ (done end : List ℕ). done ++ end) c.loop-byte.invariant (ap encode_utf8 c.from.ensures)
-    ∙ sym (text_more c.args.bytes.now c.loop-byte.byte-index c.byte-item.result c.loop-byte-test.true c.byte-item.is)
+    ∙ sym (text_more c.args.bytes.now c.loop-byte.byte-index c.loop-byte-test.true)
