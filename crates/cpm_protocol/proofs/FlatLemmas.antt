@@ -8,6 +8,7 @@ use Rattle.std.specs.Cmp.Lexicographic.{slice_cmp}
 use Rattle.serde_json.specs.Data.{Data, boolean, string, Members, no_members, member, depth, members_depth, put}
 use Rattle.serde_json.specs.Read.{max_depth}
 use Rattle.serde_json.specs.Written.{has_float, members_have_float}
+use Rattle.cpm_protocol.specs.Flat.{RepliesAreFlat}
 use Rattle.cpm_protocol.specs.Requests.{AskedTag, NumberTag, TextTag, FaultOf, UnknownName}
 use Rattle.cpm_protocol.specs.Replies.{Answered, Opened, Accepted, Granted, Text, Looked, Written, Turned, Refused, Wrong, NoJson, TooLong}
 use Rattle.cpm_protocol.specs.Replies.{Member, number_data, put_all, reply_json, reply_members, tag_members}
@@ -100,3 +101,6 @@ reply-no_float tag a = (reply_flat tag a).no_float
 
 pub reply-depth : (tag : Option AskedTag) (a : Answered) → depth (reply_json tag a) ≤ max_depth
 reply-depth tag a = omega (arith, (reply_flat tag a).no_depth)
+
+pub replies-flat : RepliesAreFlat
+replies-flat tag a = (reply-no_float tag a, omega (arith, (reply_flat tag a).no_depth))

@@ -5,3 +5,4 @@ pub mod Words
 pub mod Replies
 pub mod Leaves
 pub mod Asking
+pub mod Flat

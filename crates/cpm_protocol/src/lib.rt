@@ -21,7 +21,7 @@ pub use kind::RequestKind;
 pub use line::WireLine;
 pub use reading::{request_of, tag_of};
 pub use request::{DriveNames, GrantGoal, LineRequest, Tag, WireRequest};
-pub use laws::{replies_come_back, requests_come_back};
+pub use laws::{replies_are_flat, replies_come_back, requests_come_back};
 pub use reply::{SessionLook, TurnReply, WireReply};
 pub use word::{GrantStop, WireEnd, WireRefusal};
 pub use writing::many_value;

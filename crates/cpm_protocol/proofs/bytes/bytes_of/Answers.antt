@@ -17,7 +17,8 @@ loop-c-preserved-in-Continue-1 c =
     c.in_ok-push.ensures.items ∙ ap (λ (b : ℕ). done ++ b ∷ []) c.in-Some-byte_of.ensures.0 in
     record {
       text = IsUtf8-past_char _ _ c.in-Some.c held.text parts;
-      made = byte_more done _ _ _ c.in-Some.c c.in-Some-byte_of.ensures.1 pushed so_far;
+      made = byte_more done c.push.new.self.items (chars (chars_rest c.next.new.self)) (filter is_byte_character (chars c.args.text.now)) c.in-Some.c
+          c.in-Some-byte_of.ensures.1 pushed so_far;
     }
 
 pub loop-c-preserved : goal.loop-c-preserved
@@ -29,7 +30,7 @@ loop-c-preserved c =
     ap (λ (cs : List ℕ). done ++ filter is_byte_character cs) (sym (chars_past_char _ _ c.in-Some.c held.text parts)) ∙ held.made in
     record {
       text = IsUtf8-past_char _ _ c.in-Some.c held.text parts;
-      made = no_byte_more done _ _ c.in-Some.c c.in_default.ensures so_far;
+      made = no_byte_more done (chars (chars_rest c.next.new.self)) (filter is_byte_character (chars c.args.text.now)) c.in-Some.c c.in_default.ensures so_far;
     }
 
 pub returns-clause-bytes : goal.returns-clause-bytes
