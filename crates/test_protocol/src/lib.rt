@@ -1,0 +1,7 @@
+//! Scratch.
+#![tactic(auto)]
+
+#[cfg(test)]
+mod protocol;
+#[cfg(test)]
+mod same;
