@@ -21,7 +21,7 @@ use Rattle.cpm_host.specs.declared.error.HostError.{HostError}
 use Rattle.cpm_machine.specs.MachineState.{MachineState}
 use Rattle.cpm_machine.specs.Saving.{Saving}
 use Rattle.cpm_run.proofs.RunLemmas.{settled_sessions}
-use Rattle.cpm_run.specs.Run.{StoreActs, files_left, outputs_by, own_keys, record_of, record_outputs, run_of, session_output}
+use Rattle.cpm_run.specs.Run.{StoreActs, files_left, left_of, outputs_by, own_keys, record_of, record_outputs, run_of, session_output}
 use Rattle.cpm_run.specs.Settled.{SettledSession, Streams, streams}
 use Rattle.cpm_run.specs.declared.options.RecordFile.{RecordFile}
 use Rattle.cpm_run.specs.declared.report.Report.{Report}
@@ -133,13 +133,14 @@ module _ (P : StoreName → Type 0) where
       (saving_such SavingFile save_name o.saved (such_right imaged saved behind))))
 
   -- those that sessions leave
-  pub left_such : (f : SettledSession → MachineState) (ss : List SettledSession) → AreSuch (flat_map session_outputs (map (λ s. s.session) ss))
-      → AreSuchFiles (files_of_all (map (λ s. session_output s.session (f s)) ss))
-  left_such f [] such = no_files
-  left_such f (s ∷ ss) such =
+  pub left_such : (system : Disk) (f left : SettledSession → MachineState) (ss : List SettledSession) → AreSuch (flat_map session_outputs (map (λ s. s.session) ss))
+      → AreSuchFiles (files_of_all (map (λ s. session_output system s.session (f s) (left s)) ss))
+  left_such system f left [] such = no_files
+  left_such system f left (s ∷ ss) such =
       let rest = flat_map session_outputs (map (λ (x : SettledSession). x.session) ss) in
-      files_joined (files_of (session_output s.session (f s))) _ (files_such (session_output s.session (f s)) (such_left (session_outputs s.session) rest such))
-      (left_such f ss (such_right (session_outputs s.session) rest such))
+      let output = session_output system s.session (f s) (left s) in
+      files_joined (files_of output) _ (files_such output (such_left (session_outputs s.session) rest such))
+      (left_such system f left ss (such_right (session_outputs s.session) rest such))
 
   -- the records of their keys
   unless : (b : Bool) (q : NamedBytes) → P q.0 → AreSuchFiles (if b then [] else q ∷ [])
@@ -266,7 +267,7 @@ run_calls store tells_name task config replays scripts report io old new h =
     let named = all_planned Script (map string_bytes scripts) in
     let outputs = subst (λ (ss : List SessionConfig). AreSuch O (flat_map session_outputs ss)) (sym sessions)
     (such_left O all (recorded_to ++ named) outs) in
-    let files = left_such O (run_of parts.system parts.settled) parts.settled outputs in
+    let files = left_such O parts.system (run_of parts.system parts.settled) (left_of parts.system parts.settled) parts.settled outputs in
     let records = records_such O (is_some h.asked.kept) typed h.options.records.now parts.settled config.sessions.items scripts h.asked.records
     (such_right O recorded_to named (such_right O all (recorded_to ++ named) outs)) in
     let written = all_written plan (outputs_by h.options parts) writing.0 writing.1 (files_joined O (files_of_all (files_left parts.system parts.settled)) _ files records) in
