@@ -255,8 +255,8 @@ error_in d = do
 abbrev pub answered_of : Data → Option Answered
 answered_of d =
     or_else (option_map Turned (turn_in d)) (or_else (option_map Looked (look_in d)) (or_else (option_map Opened (number_field (codes "slot") d))
-        (or_else (grant_in d) (or_else (option_map Accepted (number_field (codes "accepted") d)) (or_else (option_map Text (bytes_field (codes "text") d))
-        (or_else (option_map Written (number_field (codes "bytes") d)) (or_else (refused_in d) (error_in d))))))))
+    (or_else (grant_in d) (or_else (option_map Accepted (number_field (codes "accepted") d)) (or_else (option_map Text (bytes_field (codes "text") d))
+    (or_else (option_map Written (number_field (codes "bytes") d)) (or_else (refused_in d) (error_in d))))))))
 
 -- ---- the law
 
