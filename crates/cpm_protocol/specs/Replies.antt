@@ -1,5 +1,5 @@
 -- A reply as a JSON value, and the reply that a value is. All of it is own: docs/PROTOCOL.md.
-use Rattle.std.specs.Prelude.{◌≡◌, ℕ, ◌<◌, ◌≤◌, List, [], ◌∷◌, ◌++◌, map, length, chars, codes, Bool, if◌then◌else◌, Option, Some, None, option_map}
+use Rattle.std.specs.Prelude.{◌≡◌, ℕ, ◌<◌, List, [], ◌∷◌, chars, codes, Bool, if◌then◌else◌, Option, Some, None, option_map}
 use Rattle.std.specs.Prelude.{option_and_then}
 use Rattle.std.specs.List.{AllByRecursion}
 use Rattle.std.specs.Str.{bytes_eq}
@@ -255,8 +255,8 @@ error_in d = do
 abbrev pub answered_of : Data → Option Answered
 answered_of d =
     or_else (option_map Turned (turn_in d)) (or_else (option_map Looked (look_in d)) (or_else (option_map Opened (number_field (codes "slot") d))
-        (or_else (grant_in d) (or_else (option_map Accepted (number_field (codes "accepted") d)) (or_else (option_map Text (bytes_field (codes "text") d))
-        (or_else (option_map Written (number_field (codes "bytes") d)) (or_else (refused_in d) (error_in d))))))))
+    (or_else (grant_in d) (or_else (option_map Accepted (number_field (codes "accepted") d)) (or_else (option_map Text (bytes_field (codes "text") d))
+    (or_else (option_map Written (number_field (codes "bytes") d)) (or_else (refused_in d) (error_in d))))))))
 
 -- ---- the law
 

@@ -54,11 +54,7 @@ impl RequestKind {
         ensures { result.now ≡ fields_of_kind self }
     {
         match self {
-            RequestKind::Open => &[
-                RequestField::Cpu,
-                RequestField::Quota,
-                RequestField::Drives,
-            ],
+            RequestKind::Open => &[RequestField::Cpu, RequestField::Quota, RequestField::Drives],
             RequestKind::Resume => &[RequestField::From],
             RequestKind::Key => &[RequestField::Slot, RequestField::Keys],
             RequestKind::Grant => &[

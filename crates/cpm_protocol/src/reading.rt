@@ -198,7 +198,9 @@ fn kind_at(value: &Value) -> Result<RequestKind, FieldFault>
         return Err(FieldFault::Missing(RequestField::Do));
     };
     match found.as_str().and_then(RequestKind::named) {
-        Some(RequestKind::Open) if value_at(value, RequestField::From).is_some() => Ok(RequestKind::Resume),
+        Some(RequestKind::Open) if value_at(value, RequestField::From).is_some() => Ok(
+            RequestKind::Resume,
+        ),
         Some(kind) => Ok(kind),
         None => Err(FieldFault::Wrong(RequestField::Do)),
     }

@@ -39,9 +39,14 @@ pub enum WireRequest<'a> {
         drives: DriveNames<'a>,
     },
     /// Open a session that goes on from a saving.
-    Resume { from: &'a str },
+    Resume {
+        from: &'a str,
+    },
     /// Press keys.
-    Key { slot: u64, keys: &'a str },
+    Key {
+        slot: u64,
+        keys: &'a str,
+    },
     /// Execute steps.
     Grant {
         slot: u64,
@@ -49,11 +54,19 @@ pub enum WireRequest<'a> {
         goal: GrantGoal,
     },
     /// Give console bytes.
-    Take { slot: u64, most: u16 },
+    Take {
+        slot: u64,
+        most: u16,
+    },
     /// Give list bytes.
-    List { slot: u64, most: u16 },
+    List {
+        slot: u64,
+        most: u16,
+    },
     /// Say what is seen of the session.
-    Look { slot: u64 },
+    Look {
+        slot: u64,
+    },
     /// Give bytes of the memory.
     Peek {
         slot: u64,
@@ -61,11 +74,19 @@ pub enum WireRequest<'a> {
         length: u16,
     },
     /// Fork the session.
-    Fork { slot: u64 },
+    Fork {
+        slot: u64,
+    },
     /// Save the session as a file.
-    Save { slot: u64, file: &'a str },
+    Save {
+        slot: u64,
+        file: &'a str,
+    },
     /// Close the session, and write its drives.
-    Close { slot: u64, out: DriveNames<'a> },
+    Close {
+        slot: u64,
+        out: DriveNames<'a>,
+    },
     /// Press keys, grant steps to a wait, give console and list bytes, and say what is seen.
     Turn {
         slot: u64,
@@ -79,9 +100,14 @@ pub enum WireRequest<'a> {
         text: &'a str,
     },
     /// Read a file of a drive that no session has.
-    Get { drive: &'a str, name: &'a str },
+    Get {
+        drive: &'a str,
+        name: &'a str,
+    },
     /// List the files of a drive that no session has.
-    Files { drive: &'a str },
+    Files {
+        drive: &'a str,
+    },
 }
 
 /// What a line asks.

@@ -32,7 +32,12 @@ pub(crate) fn value_at<'a>(value: &'a Value, field: RequestField) -> Option<&'a 
 }
 
 /// The whole number of a field, within bounds.
-pub(crate) fn number_field_at(value: &Value, field: RequestField, low: u64, high: u64) -> Result<u64, FieldFault>
+pub(crate) fn number_field_at(
+    value: &Value,
+    field: RequestField,
+    low: u64,
+    high: u64,
+) -> Result<u64, FieldFault>
     ensures read { result ≡ number_field_at field low high (view value.now) }
     ensures bound { IfOk result (λ n. n ≤ high) }
 {
@@ -46,7 +51,12 @@ pub(crate) fn number_field_at(value: &Value, field: RequestField, low: u64, high
 }
 
 /// A smaller number.
-pub(crate) fn short_at(value: &Value, field: RequestField, low: u16, high: u16) -> Result<u16, FieldFault>
+pub(crate) fn short_at(
+    value: &Value,
+    field: RequestField,
+    low: u16,
+    high: u16,
+) -> Result<u16, FieldFault>
     ensures { result ≡ number_field_at field low high (view value.now) }
 {
     let number = number_field_at(value, field, low as u64, high as u64)?;

@@ -128,11 +128,7 @@ fn bytes<'a>(name: &'a str, bytes: &'a [u8]) -> ReplyMember<'a>
 }
 
 /// What is seen of a session, as a value.
-fn look_value(
-    alloc: Global,
-    tag: Option<Tag<'_>>,
-    look: &SessionLook,
-) -> Result<Value, AllocError>
+fn look_value(alloc: Global, tag: Option<Tag<'_>>, look: &SessionLook) -> Result<Value, AllocError>
     ensures { IfOk result (λ v. view v ≡ reply_json (option_map tag_of_code tag.entry) (Looked look.now)) }
 {
     let entries = [

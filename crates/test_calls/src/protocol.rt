@@ -10,11 +10,7 @@ use std::alloc::{AllocError, Global};
 use std::process::Abort;
 
 /// A reply's text, behind its tag.
-fn said(
-    alloc: Global,
-    tag: Option<Tag<'_>>,
-    reply: &WireReply<'_>,
-) -> Result<String, AllocError> {
+fn said(alloc: Global, tag: Option<Tag<'_>>, reply: &WireReply<'_>) -> Result<String, AllocError> {
     reply.text(alloc, tag)
 }
 
@@ -32,7 +28,9 @@ fn asked_of_slot(alloc: Global, request: WireRequest<'_>) -> Result<String, Allo
         WireRequest::Key { slot, keys } => format!(in alloc; "key {slot} {keys}"),
         WireRequest::Grant { slot, steps, goal } => match goal {
             GrantGoal::Steps => format!(in alloc; "grant {slot} {steps}"),
-            GrantGoal::Address(address) => format!(in alloc; "grant {slot} {steps} until {address}"),
+            GrantGoal::Address(address) => format!(in alloc;
+                "grant {slot} {steps} until {address}"
+            ),
             GrantGoal::Wait => format!(in alloc; "grant {slot} {steps} to a wait"),
         },
         WireRequest::Take { slot, most } => format!(in alloc; "take {slot} {most}"),
@@ -104,40 +102,175 @@ fn says(rt: &impl Abort, alloc: Global, reply: &WireReply<'_>, wanted: &str) {
 #[test]
 fn each_request_is_read(rt: HostRuntime) {
     let alloc = rt.alloc();
-    hears(&rt, alloc, r#"{"do": "open", "cpu": "8080", "quota": 64, "drives": ["work.img", "blank"], "tag": 1}"#, "open 64 2");
-    hears(&rt, alloc, r#"{"do": "open", "from": "alice.saved"}"#, "resume alice.saved");
-    hears(&rt, alloc, r#"{"do": "key", "slot": 0, "keys": "DIR"}"#, "key 0 DIR");
-    hears(&rt, alloc, r#"{"do": "grant", "slot": 0, "steps": 9007199254740991}"#, "grant 0 9007199254740991");
-    hears(&rt, alloc, r#"{"do": "grant", "slot": 1, "steps": 5, "until": 256}"#, "grant 1 5 until 256");
-    hears(&rt, alloc, r#"{"do": "grant", "slot": 1, "steps": 5, "to": "wait"}"#, "grant 1 5 to a wait");
-    hears(&rt, alloc, r#"{"do": "take", "slot": 0, "most": 8192}"#, "take 0 8192");
-    hears(&rt, alloc, r#"{"do": "list", "slot": 0, "most": 100}"#, "list 0 100");
+    hears(
+        &rt,
+        alloc,
+        r#"{"do": "open", "cpu": "8080", "quota": 64, "drives": ["work.img", "blank"], "tag": 1}"#,
+        "open 64 2",
+    );
+    hears(
+        &rt,
+        alloc,
+        r#"{"do": "open", "from": "alice.saved"}"#,
+        "resume alice.saved",
+    );
+    hears(
+        &rt,
+        alloc,
+        r#"{"do": "key", "slot": 0, "keys": "DIR"}"#,
+        "key 0 DIR",
+    );
+    hears(
+        &rt,
+        alloc,
+        r#"{"do": "grant", "slot": 0, "steps": 9007199254740991}"#,
+        "grant 0 9007199254740991",
+    );
+    hears(
+        &rt,
+        alloc,
+        r#"{"do": "grant", "slot": 1, "steps": 5, "until": 256}"#,
+        "grant 1 5 until 256",
+    );
+    hears(
+        &rt,
+        alloc,
+        r#"{"do": "grant", "slot": 1, "steps": 5, "to": "wait"}"#,
+        "grant 1 5 to a wait",
+    );
+    hears(
+        &rt,
+        alloc,
+        r#"{"do": "take", "slot": 0, "most": 8192}"#,
+        "take 0 8192",
+    );
+    hears(
+        &rt,
+        alloc,
+        r#"{"do": "list", "slot": 0, "most": 100}"#,
+        "list 0 100",
+    );
     hears(&rt, alloc, r#"{"do": "look", "slot": 0}"#, "look 0");
-    hears(&rt, alloc, r#"{"do": "peek", "slot": 0, "address": 5, "length": 3}"#, "peek 0 5 3");
+    hears(
+        &rt,
+        alloc,
+        r#"{"do": "peek", "slot": 0, "address": 5, "length": 3}"#,
+        "peek 0 5 3",
+    );
     hears(&rt, alloc, r#"{"do": "fork", "slot": 0}"#, "fork 0");
-    hears(&rt, alloc, r#"{"do": "save", "slot": 0, "file": "alice.saved"}"#, "save 0 alice.saved");
-    hears(&rt, alloc, r#"{"do": "close", "slot": 7, "out": ["after.img"]}"#, "close 7 1");
-    hears(&rt, alloc, r#"{"do": "turn", "slot": 0, "keys": "DIR", "steps": 20000}"#, "turn 0 DIR 20000");
-    hears(&rt, alloc, r#"{"do": "put", "drive": "work.img", "name": "HELLO.TXT", "text": "Hello"}"#, "put work.img HELLO.TXT Hello");
-    hears(&rt, alloc, r#"{"do": "get", "drive": "work.img", "name": "HELLO.TXT"}"#, "get work.img HELLO.TXT");
-    hears(&rt, alloc, r#"{"do": "files", "drive": "work.img"}"#, "files work.img");
-    hears(&rt, alloc, r#"{"do": "many", "requests": [{"do": "look"}, 17]}"#, "many 2");
+    hears(
+        &rt,
+        alloc,
+        r#"{"do": "save", "slot": 0, "file": "alice.saved"}"#,
+        "save 0 alice.saved",
+    );
+    hears(
+        &rt,
+        alloc,
+        r#"{"do": "close", "slot": 7, "out": ["after.img"]}"#,
+        "close 7 1",
+    );
+    hears(
+        &rt,
+        alloc,
+        r#"{"do": "turn", "slot": 0, "keys": "DIR", "steps": 20000}"#,
+        "turn 0 DIR 20000",
+    );
+    hears(
+        &rt,
+        alloc,
+        r#"{"do": "put", "drive": "work.img", "name": "HELLO.TXT", "text": "Hello"}"#,
+        "put work.img HELLO.TXT Hello",
+    );
+    hears(
+        &rt,
+        alloc,
+        r#"{"do": "get", "drive": "work.img", "name": "HELLO.TXT"}"#,
+        "get work.img HELLO.TXT",
+    );
+    hears(
+        &rt,
+        alloc,
+        r#"{"do": "files", "drive": "work.img"}"#,
+        "files work.img",
+    );
+    hears(
+        &rt,
+        alloc,
+        r#"{"do": "many", "requests": [{"do": "look"}, 17]}"#,
+        "many 2",
+    );
 }
 
 #[test]
 fn each_fault_is_told(rt: HostRuntime) {
     let alloc = rt.alloc();
-    hears(&rt, alloc, r#"{"do": "grant", "slot": 0, "stepz": 100, "tag": 5}"#, r#"{"error":"unknown field","field":"stepz","tag":5}"#);
-    hears(&rt, alloc, r#"{"do": "peek", "slot": 0, "address": 65536, "length": 1}"#, r#"{"error":"wrong field","field":"address"}"#);
-    hears(&rt, alloc, r#"{"do": "reboot", "slot": 0}"#, r#"{"error":"wrong field","field":"do"}"#);
-    hears(&rt, alloc, r#"17"#, r#"{"error":"missing field","field":"do"}"#);
-    hears(&rt, alloc, r#"{"do": "look", "slot": 9007199254740992}"#, r#"{"error":"wrong field","field":"slot"}"#);
-    hears(&rt, alloc, r#"{"do": "look", "slot": 1.0}"#, r#"{"error":"wrong field","field":"slot"}"#);
-    hears(&rt, alloc, r#"{"do": "key", "slot": 0, "keys": "Ā"}"#, r#"{"error":"wrong field","field":"keys"}"#);
-    hears(&rt, alloc, r#"{"do": "look", "slot": 0, "tag": []}"#, r#"{"error":"wrong field","field":"tag"}"#);
-    hears(&rt, alloc, r#"{"do": "many", "requests": []}"#, r#"{"error":"wrong field","field":"requests"}"#);
-    hears(&rt, alloc, r#"{"do": "save", "slot": 0, "file": "../a"}"#, r#"{"error":"wrong field","field":"file"}"#);
-    hears(&rt, alloc, r#"{"do": "look", "slot": 0"#, r#"{"at":25,"error":"no JSON"}"#);
+    hears(
+        &rt,
+        alloc,
+        r#"{"do": "grant", "slot": 0, "stepz": 100, "tag": 5}"#,
+        r#"{"error":"unknown field","field":"stepz","tag":5}"#,
+    );
+    hears(
+        &rt,
+        alloc,
+        r#"{"do": "peek", "slot": 0, "address": 65536, "length": 1}"#,
+        r#"{"error":"wrong field","field":"address"}"#,
+    );
+    hears(
+        &rt,
+        alloc,
+        r#"{"do": "reboot", "slot": 0}"#,
+        r#"{"error":"wrong field","field":"do"}"#,
+    );
+    hears(
+        &rt,
+        alloc,
+        r#"17"#,
+        r#"{"error":"missing field","field":"do"}"#,
+    );
+    hears(
+        &rt,
+        alloc,
+        r#"{"do": "look", "slot": 9007199254740992}"#,
+        r#"{"error":"wrong field","field":"slot"}"#,
+    );
+    hears(
+        &rt,
+        alloc,
+        r#"{"do": "look", "slot": 1.0}"#,
+        r#"{"error":"wrong field","field":"slot"}"#,
+    );
+    hears(
+        &rt,
+        alloc,
+        r#"{"do": "key", "slot": 0, "keys": "Ā"}"#,
+        r#"{"error":"wrong field","field":"keys"}"#,
+    );
+    hears(
+        &rt,
+        alloc,
+        r#"{"do": "look", "slot": 0, "tag": []}"#,
+        r#"{"error":"wrong field","field":"tag"}"#,
+    );
+    hears(
+        &rt,
+        alloc,
+        r#"{"do": "many", "requests": []}"#,
+        r#"{"error":"wrong field","field":"requests"}"#,
+    );
+    hears(
+        &rt,
+        alloc,
+        r#"{"do": "save", "slot": 0, "file": "../a"}"#,
+        r#"{"error":"wrong field","field":"file"}"#,
+    );
+    hears(
+        &rt,
+        alloc,
+        r#"{"do": "look", "slot": 0"#,
+        r#"{"at":25,"error":"no JSON"}"#,
+    );
 }
 
 #[test]
@@ -152,14 +285,59 @@ fn each_reply_is_written(rt: HostRuntime) {
         end: WireEnd::Running,
     };
     let alloc = rt.alloc();
-    says(&rt, alloc, &WireReply::Opened { slot: 0 }, r#"{"slot":0,"tag":"x"}"#);
-    says(&rt, alloc, &WireReply::Accepted { accepted: 4 }, r#"{"accepted":4,"tag":"x"}"#);
-    says(&rt, alloc, &WireReply::Granted { executed: 12, why: GrantStop::Break, }, r#"{"executed":12,"tag":"x","why":"Break"}"#);
-    says(&rt, alloc, &WireReply::Text { bytes: b"\xC3\x06\xEC" }, "{\"tag\":\"x\",\"text\":\"\u{C3}\\u0006\u{EC}\"}");
-    says(&rt, alloc, &WireReply::Written { bytes: 7 }, r#"{"bytes":7,"tag":"x"}"#);
-    says(&rt, alloc, &WireReply::Turned(turn), r#"{"accepted":4,"end":"Running","executed":9120,"list":"","tag":"x","text":"DIR\r\n","waiting":true,"why":"Waiting"}"#);
-    says(&rt, alloc, &WireReply::Refused(WireRefusal::NoSuchSlot), r#"{"refused":"NoSuchSlot","tag":"x","why":"no slot of that number is open"}"#);
-    says(&rt, alloc, &WireReply::TooLong, r#"{"error":"line too long","tag":"x"}"#);
+    says(
+        &rt,
+        alloc,
+        &WireReply::Opened { slot: 0 },
+        r#"{"slot":0,"tag":"x"}"#,
+    );
+    says(
+        &rt,
+        alloc,
+        &WireReply::Accepted { accepted: 4 },
+        r#"{"accepted":4,"tag":"x"}"#,
+    );
+    says(
+        &rt,
+        alloc,
+        &WireReply::Granted {
+            executed: 12,
+            why: GrantStop::Break,
+        },
+        r#"{"executed":12,"tag":"x","why":"Break"}"#,
+    );
+    says(
+        &rt,
+        alloc,
+        &WireReply::Text {
+            bytes: b"\xC3\x06\xEC",
+        },
+        "{\"tag\":\"x\",\"text\":\"\u{C3}\\u0006\u{EC}\"}",
+    );
+    says(
+        &rt,
+        alloc,
+        &WireReply::Written { bytes: 7 },
+        r#"{"bytes":7,"tag":"x"}"#,
+    );
+    says(
+        &rt,
+        alloc,
+        &WireReply::Turned(turn),
+        "{\"accepted\":4,\"end\":\"Running\",\"executed\":9120,\"list\":\"\",\"tag\":\"x\",\"text\":\"DIR\\r\\n\",\"waiting\":true,\"why\":\"Waiting\"}",
+    );
+    says(
+        &rt,
+        alloc,
+        &WireReply::Refused(WireRefusal::NoSuchSlot),
+        r#"{"refused":"NoSuchSlot","tag":"x","why":"no slot of that number is open"}"#,
+    );
+    says(
+        &rt,
+        alloc,
+        &WireReply::TooLong,
+        r#"{"error":"line too long","tag":"x"}"#,
+    );
 }
 
 #[test]
