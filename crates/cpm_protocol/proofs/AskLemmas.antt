@@ -1,10 +1,10 @@
 -- What is asked by what a client writes.
-use Rattle.std.proofs.Common.{◌≡◌, ℕ, List, Option, Some, None, Result, Ok, refl, ap}
+use Rattle.std.proofs.Common.{◌≡◌, ℕ, List, Option, Some, None, Ok, refl}
 use Rattle.cpm_flags.specs.declared.regs.Cpu.TheVariants.{I8080, Z80}
 use Rattle.cpm_protocol.specs.Asking.{AreNames, IsAskable, IsTagFit, RequestsBack, names_data, request_json}
 use Rattle.cpm_protocol.specs.Replies.{tag_data}
 use Rattle.cpm_protocol.specs.Requests.{WireAsked, Open, Resume, Key, Grant, Take, ListTake, Look, Peek, Fork, Save, Close, Turn, Put, Get, Files}
-use Rattle.cpm_protocol.specs.Requests.{AskedFault, AskedTag, FourNames, NumberTag, TextTag, asked_tag, close_asked, files_asked, fork_asked, four_names}
+use Rattle.cpm_protocol.specs.Requests.{AskedTag, FourNames, NumberTag, TextTag, asked_tag, close_asked, files_asked, fork_asked, four_names}
 use Rattle.cpm_protocol.specs.Requests.{four_names_at, get_asked, grant_asked, key_asked, kind_at, list_asked, look_asked, open_asked, peek_asked, put_asked}
 use Rattle.cpm_protocol.specs.Requests.{request_asked, resume_asked, save_asked, tag_in, take_asked, turn_asked}
 use Rattle.cpm_protocol.specs.declared.field.RequestField.{RequestField}

@@ -1,12 +1,10 @@
 -- What is read of a reply's value.
-use Rattle.std.proofs.Common.{◌≡◌, ◌<◌, ℕ, List, [], ◌∷◌, Option, Some, None, chars, refl, ap, ◌∙◌}
-use Rattle.std.specs.List.{AllByRecursion}
+use Rattle.std.proofs.Common.{◌≡◌, Option, Some, None, refl}
 use Rattle.cpm_protocol.specs.Fields.{request_field_name}
 use Rattle.cpm_protocol.specs.Words.{all_endings, all_refusals, all_request_fields, all_stops, ending_word, refusal_word, stop_word, with_word}
-use Rattle.cpm_protocol.specs.Bytes.{text_of_bytes}
 use Rattle.cpm_protocol.specs.Requests.{AskedTag, FaultOf, UnknownName}
 use Rattle.cpm_protocol.specs.Replies.{Answered, Opened, Accepted, Granted, Text, Looked, Written, Turned, Refused, Wrong, NoJson, TooLong}
-use Rattle.cpm_protocol.specs.Replies.{AreBytesIn, RepliesBack, answered_of, reply_json}
+use Rattle.cpm_protocol.specs.Replies.{AreBytesIn, answered_of, reply_json}
 use Rattle.cpm_protocol.specs.declared.fault.FieldFault.TheVariants as fault
 use Rattle.cpm_protocol.specs.declared.field.RequestField.{RequestField}
 use Rattle.cpm_protocol.specs.declared.field.RequestField.TheVariants as field

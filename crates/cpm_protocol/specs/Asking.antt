@@ -1,5 +1,5 @@
 -- A request as a JSON value, as a client writes it. All of it is own: docs/PROTOCOL.md.
-use Rattle.std.specs.Prelude.{◌≡◌, ⊤, ◌<◌, ℕ, List, [], ◌∷◌, ◌++◌, length, codes, true, nat_le, Option, Some, None, Result, Ok, Err}
+use Rattle.std.specs.Prelude.{◌≡◌, ⊤, ◌<◌, ℕ, List, [], ◌∷◌, length, codes, true, nat_le, Option, Some, None, Ok}
 use Rattle.std.specs.List.{AllByRecursion}
 use Rattle.serde_json.specs.Data.{Data, string, array, object, Items, no_items, item}
 use Rattle.cpm_flags.specs.declared.regs.Cpu.{Cpu}

@@ -1,15 +1,14 @@
 -- A request of a JSON value: its fields, in this order, or its first fault. All of it is own: docs/PROTOCOL.md.
-use Rattle.std.specs.Prelude.{◌≡◌, ◌<◌, IsUtf8, ℕ, ◌&&◌, List, [], ◌∷◌, map, length, chars, codes, Bool, false, not, ◌==◌, nat_le, if◌then◌else◌, Option, Some}
+use Rattle.std.specs.Prelude.{◌≡◌, ◌<◌, IsUtf8, ℕ, ◌&&◌, List, [], ◌∷◌, length, chars, codes, Bool, false, not, ◌==◌, nat_le, if◌then◌else◌, Option, Some}
 use Rattle.std.specs.Prelude.{None, option_map, option_and_then, is_some, Result, Ok, Err}
 use Rattle.std.specs.List.{list_all, list_any}
 use Rattle.std.specs.Str.{bytes_eq}
 use Rattle.std.specs.Borrow.{Bor}
-use Rattle.serde_json.specs.Data.{Data, null, boolean, number, string, array, object, Items, no_items, item, Members, no_members, member}
+use Rattle.serde_json.specs.Data.{Data, string, Items, Members, no_members, member}
 use Rattle.serde_json.specs.Events.{items_len}
 use Rattle.serde_json.specs.Find.{as_array, as_number, as_object, as_str, as_u64, at, get}
 use Rattle.serde_json.specs.Read.{read}
 use Rattle.serde_json.specs.View.{items_view}
-use Rattle.serde_json.specs.declared.value.Value.{Value}
 use Rattle.cpm_flags.specs.declared.regs.Cpu.{Cpu}
 use Rattle.cpm_flags.specs.declared.regs.Cpu.TheVariants.{I8080, Z80}
 use Rattle.cpm_protocol.specs.Bytes.{is_byte_text}

@@ -9,7 +9,6 @@ use Rattle.cpm_protocol.specs.declared.word.WireRefusal.{WireRefusal}
 use Rattle.cpm_protocol.specs.declared.word.WireRefusal.TheVariants as refusal
 use Rattle.cpm_protocol.specs.declared.field.RequestField.{RequestField}
 use Rattle.cpm_protocol.specs.declared.field.RequestField.TheVariants as field
-use Rattle.cpm_protocol.specs.Fields.{request_field_name}
 
 -- the first value whose word this is
 abbrev pub with_word : {A : Type 0} → (A → List ℕ) → List ℕ → List A → Option A

@@ -2,8 +2,8 @@
 ghost use Rattle.std.specs.Prelude.{◌≡◌, IfErr, IfOk, IsUtf8, Some, length, option_map};
 ghost use Rattle.serde_json.specs.Read.{read};
 ghost use Rattle.serde_json.specs.View.{items_view, view};
-ghost use Rattle.cpm_protocol.specs.Requests.{IsLineRefusal, Many, answer_seen, asked_tag, field_at, field_map};
-ghost use Rattle.cpm_protocol.specs.Requests.{is_request_count, line_asked, line_seen, many_in, many_of};
+ghost use Rattle.cpm_protocol.specs.Requests.{IsLineRefusal, Many, answer_seen, asked_tag, field_at, field_map, is_request_count, line_asked};
+ghost use Rattle.cpm_protocol.specs.Requests.{line_seen, many_in, many_of};
 ghost use Rattle.cpm_protocol.specs.Requests.{must_read, names_many};
 
 use crate::fault::{FieldFault, LineError, RequestFault};

@@ -1,4 +1,4 @@
-use Rattle.std.proofs.Common.{◌≡◌, [], ℕ, List, ap, codes, option_map, refl, ◌∙◌}
+use Rattle.std.proofs.Common.{[], ℕ, List, ap, codes, option_map, refl, ◌∙◌}
 use Rattle.std.proofs.lemmas.Result.{IfOk-weaker}
 use Rattle.serde_json.specs.Data.{object, string}
 use Rattle.cpm_protocol.specs.Replies.{Member, put_all, tag_members}

