@@ -278,7 +278,6 @@ not_forked all h place (Forks parent at) room e there refused left =
           (subst (λ (n : ℕ). IsShortFor h (forks_before all place + 1) n e) (sym pages) (short_for h (forks_before all place) (pages_before all place) _ room e left refused));
       order = λ this. subst (λ (n : ℕ). length h.slots + n ≤ 64) (sym forks) (slots_for h (forks_before all place) (pages_before all place) _ room e left refused this);
     }
-
 not_forked all h place (Restores y) room e there refused left = absurd refused
 
 pub forked_all : (all : List StartInput) (h : Host) (place : ℕ) (room : Room) → length all ≤ place → IsForkedTo all h place room → HasForkRoom all h
