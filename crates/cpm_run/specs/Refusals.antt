@@ -6,7 +6,8 @@ use Rattle.cpm_refusals.specs.declared.code.RefusalCode.{RefusalCode}
 use Rattle.cpm_refusals.specs.declared.code.RefusalCode.TheVariants as code
 use Rattle.cpm_run.specs.declared.error.RunError.{RunError}
 use Rattle.cpm_run.specs.declared.error.RunError.TheVariants.{ConfigRefused, FileRefused, FramesExceeded, InputUnreadable, NoSession, NotOpened, OutOfMemory}
-use Rattle.cpm_run.specs.declared.error.RunError.TheVariants.{ListUnwritable, OutputUnwritable, RecordUnwritable, SavedElsewhere, SessionRefused, TooManyKeys, WriteFault}
+use Rattle.cpm_run.specs.declared.error.RunError.TheVariants.{ListUnwritable, OutputUnwritable, RecordUnwritable, SavedElsewhere, SessionRefused}
+use Rattle.cpm_run.specs.declared.error.RunError.TheVariants.{TooManyKeys, WriteFault}
 use Rattle.cpm_play.specs.declared.live.LiveError.{LiveError}
 use Rattle.cpm_play.specs.declared.live.LiveError.TheVariants as live
 
