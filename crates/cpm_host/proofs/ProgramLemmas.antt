@@ -35,7 +35,7 @@ use Rattle.cpm_host.specs.declared.error.HostError.TheVariants.{ProgramTooLong}
 use Rattle.cpm_host.specs.declared.error.HostError.TheVariants as out
 use Rattle.cpm_host.specs.declared.program.ProgramPlay.{ProgramPlay}
 use Rattle.cpm_host.specs.declared.program.Source.{Source}
-use Rattle.cpm_host.specs.declared.program.Source.TheVariants.{Cues}
+use Rattle.cpm_host.specs.declared.program.Source.TheVariants.{Cues, Typed}
 
 -- one that was cut short is not refused for its length
 pub not_long : (error : LiveError) (count : ℕ) → ProgramTooLong count ≡ host_error_of_live error → ⊥
@@ -82,6 +82,11 @@ pub undone_by_cues : (source : Source) (c : CuedKeys) (is_saved : Bool) (disk : 
 undone_by_cues source c is_saved disk machine steps r typing before written unrecorded record_now cued refused =
     let io = play_streams typing typing before written unrecorded record_now in
     subst (λ x. IfErr r (IsUndone is_saved x disk machine steps io)) (sym cued) (IfErr-weaker r _ (IsUndone is_saved (Cues c) disk machine steps io) (λ e h. h typing) refused)
+
+-- one as it is typed at
+pub undone_by_typing : (source : Source) (cues : _) (is_saved : Bool) (disk : Disk) (machine : MachineState) (steps : ℕ) (r : Result ProgramPlay HostError) (io : Streams) → source ≡ Typed cues →
+    IfErr r (IsUndone is_saved (Typed cues) disk machine steps io) → IfErr r (IsUndone is_saved source disk machine steps io)
+undone_by_typing source cues is_saved disk machine steps r io typed refused = subst (λ x. IfErr r (IsUndone is_saved x disk machine steps io)) (sym typed) refused
 
 -- keys that may have been typed are below 80h
 pub typed-fit : (low : ℕ) (keys : List Key) → AreTyped low keys → KeysAreAscii (map cue_text (map Timed keys))
