@@ -98,7 +98,7 @@ impl Places {
             .wrapping_mul(6_364_136_223_846_793_005)
             .wrapping_add(1_442_695_040_888_963_407);
         let place = (self.state >> 33) as usize % limit.max(1);
-        (place, (self.state >> 24) as u8)
+        (place, (self.state >> 24 & 0xFF) as u8)
     }
 }
 
