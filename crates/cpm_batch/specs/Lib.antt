@@ -1,5 +1,3 @@
-pub mod Savings
-pub mod Held
 pub mod Inputs
 pub mod Outputs
 pub mod Reads

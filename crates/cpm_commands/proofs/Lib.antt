@@ -1,5 +1,4 @@
 pub mod CountLemmas
-pub mod DebugLemmas
 pub mod DiskLemmas
 pub mod DriveLemmas
 pub mod GetLemmas

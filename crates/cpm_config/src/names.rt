@@ -89,8 +89,7 @@ fn add_files<'a>(
 {
     add(names, number, Field::Console, session.console)?;
     add_if_any(names, number, Field::List, session.list)?;
-    add_all_if_any(names, number, Field::Out, &session.out)?;
-    add_if_any(names, number, Field::Save, session.save)
+    add_all_if_any(names, number, Field::Out, &session.out)
 }
 
 /// The names of the sessions.

@@ -11,7 +11,6 @@ pub mod ForkLemmas
 pub mod PlayerLemmas
 pub mod ForkedLemmas
 pub mod RoundLemmas
-pub mod BeginLemmas
 pub mod PlayLemmas
 pub mod ScriptLemmas
 pub mod TypingLemmas

@@ -6,7 +6,6 @@ mod alone;
 mod digits;
 mod ending;
 mod error;
-mod finish;
 mod openings;
 mod options;
 mod part;

@@ -57,8 +57,6 @@ pub fn start(
         tail: Tail::new(b" A.TXT"),
         drives,
         system,
-        saved: None,
-        is_saved: false,
     })
 }
 

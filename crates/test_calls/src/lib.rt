@@ -8,8 +8,6 @@ mod disks;
 #[cfg(test)]
 mod machines;
 #[cfg(test)]
-mod protocol;
-#[cfg(test)]
 mod runs;
 #[cfg(test)]
 mod same;

@@ -1,6 +1,0 @@
-pub mod ByteLemmas
-pub mod ReplyLemmas
-pub mod FlatLemmas
-pub mod AskLemmas
-pub mod KeyLemmas
-pub mod PutLemmas
