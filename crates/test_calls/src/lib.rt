@@ -8,6 +8,8 @@ mod disks;
 #[cfg(test)]
 mod machines;
 #[cfg(test)]
+mod protocol;
+#[cfg(test)]
 mod runs;
 #[cfg(test)]
 mod same;

@@ -1,0 +1,6 @@
+pub mod ByteLemmas
+pub mod ReplyLemmas
+pub mod FlatLemmas
+pub mod AskLemmas
+pub mod KeyLemmas
+pub mod PutLemmas
