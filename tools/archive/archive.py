@@ -6,6 +6,7 @@ An archive is a folder:
                         ../../images/.. and ../../keys/.., and what it writes by plain names. What begins with a dot there, as
                         an editor's lock does, is no configuration; nor is what doesn't end so
     images/, keys/      what they read
+    savings/NAME/       the savings of the result NAME that other configurations go on from, if tools/archive/more made some
     results/NAME/       what a configuration gave: the files that it names, and `report`, which is what the program printed,
                         with `status N` as its last line. A result is there whole or not at all
     work/               configurations that are being run, or were cut off
@@ -175,19 +176,37 @@ def refused(name, note):
     return [Session(name, "", "", "Refused", None, None, "", {}, note)]
 
 
+def of_archive(folder, name):
+    """The sessions of a configuration."""
+    return tomllib.loads(text(folder, "configs", f"{name}.toml"))["session"]
+
+
+def origin_of(folder, session, sessions, most=100):
+    """The session that is opened of which a session is forked, or goes on from a saving of it, in this configuration or another one."""
+    if "fork" in session:
+        return origin_of(folder, {it["name"]: it for it in sessions}[session["fork"]], sessions, most - 1)
+    if "from" not in session:
+        return session
+    parts = session["from"].split("/")
+    if most == 0 or parts[:3] != ["..", "..", "savings"] or len(parts) != 5 or not NAME.fullmatch(parts[3]):
+        raise Refusal(f"the saving '{shown(session['from'])}' is not in the archive's savings")
+    others = of_archive(folder, parts[3])
+    return origin_of(folder, next(it for it in others if it.get("save") == parts[4]), others, most - 1)
+
+
 def sessions_of(folder, name, known):
     """The rows of a configuration that has its result. `known` keeps the digests of images that are read."""
     result = f"{folder}/results/{name}"
     lines = text(result, "report").splitlines()
     if lines[-1:] != ["status 0"]:
         return refused(name, lines[-2] if len(lines) > 1 else "")
-    sessions = tomllib.loads(text(folder, "configs", f"{name}.toml"))["session"]
+    sessions = of_archive(folder, name)
     reports = [it for it in map(REPORT.fullmatch, lines) if it]
     if [it[1] for it in reports] != [it["name"] for it in sessions]:
         raise Refusal("the result isn't that of the configuration")
-    by_name, rows = {it["name"]: it for it in sessions}, []
+    rows = []
     for session, report in zip(sessions, reports):
-        origin = by_name[session["fork"]] if "fork" in session else session
+        origin = origin_of(folder, session, sessions)
         images = changed_images(folder, result, session, origin["drives"], known)
         console = digest(result, plain(session["console"]))
         said = f"{session['name']} illegal at "
@@ -202,7 +221,7 @@ def rows_of(folder, name, known):
         return sessions_of(folder, name, known), None
     except Refusal as refusal:
         why = str(refusal)
-    except (OSError, LookupError, TypeError, ValueError):
+    except (OSError, LookupError, TypeError, ValueError, StopIteration):
         # (it lacks a file; or the configuration is no TOML any more, or has other keys)
         why = "the result isn't that of the configuration"
     why += f": take the folder results/{name} away, and run the archive again"

@@ -7,7 +7,9 @@
 //! Or it makes memories to see what room they take: `sessions NUMBER` in one store, each with one written page, or `flats NUMBER` of
 //! their own; or a host with up to 64 sessions of four blank drives each, `drives small NUMBER` or `drives large NUMBER`; or one whose sessions
 //! have run RUN.COM of a system drive, each itself, `opened IMAGE NUMBER`, or all but the first as forks of it, `forked IMAGE NUMBER`. It prints
-//! what Linux says of its own memory then. Or it forks such a session and closes the fork, `forks IMAGE TIMES`.
+//! what Linux says of its own memory then. Or it forks such a session and closes the fork, `forks IMAGE TIMES`. Or it saves a session that has a small
+//! drive, or four large ones, and says how many bytes that has, `saves small TIMES`, `saves large TIMES`; or opens a slot of its saving, and closes it,
+//! `restores small TIMES`, `restores large TIMES`.
 //!
 //! Or it runs sessions of programs that nobody vouches for, `soak FOLDER NUMBER STEPS`, each by itself, or with a further word QUANTUM all on
 //! one host, and prints a line of what each showed and left.
@@ -15,6 +17,7 @@
 
 mod digest;
 mod forks;
+mod savings;
 mod sessions;
 mod soak;
 
@@ -23,6 +26,7 @@ use cpm_geom::{Format, Image};
 use cpm_memory::{FlatMemory, FrameStore, has_room};
 use cpm_slots::Host;
 use forks::{fork_and_close, host_of_forks, host_of_opened};
+use savings::{restore_often, save_often};
 use sessions::{
     HostTurns, host_of_drives, look_often, make_openings, open_and_close, run_beside, run_host,
     run_machine,
@@ -221,6 +225,19 @@ fn measure_forks(rt: &HostRuntime, words: &[&str]) -> Option<u64> {
     fork_and_close(rt.alloc(), drive_of(rt, file)?, times)
 }
 
+/// Saves a session, or opens a slot of its saving, where the words ask for it.
+fn measure_savings(rt: &HostRuntime, restores: bool, words: &[&str]) -> Option<u64> {
+    let [size, times] = words else {
+        return None;
+    };
+    let (is_large, times) = (format_of(size)? == Format::Large, times.parse().ok()?);
+    if restores {
+        restore_often(rt.alloc(), is_large, times)
+    } else {
+        save_often(rt.alloc(), is_large, times)
+    }
+}
+
 /// Makes one of what it names so many times.
 fn make(rt: &HostRuntime, what: &str, times: u64) -> Option<u64> {
     match what {
@@ -243,6 +260,8 @@ fn measure(rt: &HostRuntime, words: &[&str]) -> Option<u64> {
         "host" => measure_host(rt, rest),
         "waiting" => measure_waiting(rt, rest),
         "forks" => measure_forks(rt, rest),
+        "saves" => measure_savings(rt, false, rest),
+        "restores" => measure_savings(rt, true, rest),
         what => make_or_hold(rt, what, rest),
     }
 }

@@ -12,8 +12,8 @@ use Rattle.cpm_store.specs.Files.{StoreFiles, StoreName}
 use Rattle.cpm_batch.specs.declared.error.ReadError.{ReadError}
 use Rattle.cpm_batch.specs.declared.input.Input.{Input}
 use Rattle.cpm_batch.specs.declared.source.Replay.{Replay}
-use Rattle.cpm_batch.specs.Sources.{key_source}
-use Rattle.cpm_batch.specs.Inputs.{AllImages, AllInputs, given, HasInput, ImageIn, IsFirstFault, IsImageIn, IsMet, IsNeedRefusal, IsReadRefusal, IsSessionRefusal, AreFirstFault, Need, SessionInput, forked_key_needs, image_needs, known_in, needs_from, needs_of}
+use Rattle.cpm_batch.specs.Held.{IsImageIn}
+use Rattle.cpm_batch.specs.Inputs.{AllImages, AllInputs, given, HasInput, ImageIn, IsFirstFault, IsMet, IsNeedRefusal, IsReadRefusal, IsSessionRefusal, AreFirstFault, Need, SessionInput, forked_needs, image_needs, needs_from, needs_of, restored_needs, session_named}
 
 -- each of the needs is met
 abbrev pub AllMet : Option StoreFiles → List Need → Type 0
@@ -120,11 +120,15 @@ refusal_as files now ns ms e same is h = subst (λ (f : Option StoreFiles). IsNe
 pub inputs_as : (replays : List Replay) (files now : Option StoreFiles) (is : List SessionInput) → now ≡ files → AllInputs now replays [] is → AllInputs files replays [] is
 inputs_as replays files now is same h = subst (λ (f : Option StoreFiles). AllInputs f replays [] is) same h
 
--- the needs of a forked session
-pub forked_needs : (replays : List Replay) (before : List SessionInput) (session : SessionConfig) (parent : String Global) (at : ℕ) (name : StoreName) → session.origin ≡ origin.Forked parent at → name ≡ string_bytes parent
-    → forked_key_needs at (known_in replays at before name) (key_source replays session) ≡ needs_of replays before session
-forked_needs replays before session parent at name is named =
-    ap (λ (n : StoreName). forked_key_needs at (known_in replays at before n) (key_source replays session)) named ∙ ap (needs_from replays before (key_source replays session)) (sym is)
+-- the needs of a forked session, and of one that goes on from a saving
+pub forked_needs_are : (replays : List Replay) (before : List SessionInput) (session : SessionConfig) (parent : String Global) (at : ℕ) (name : StoreName) → session.origin ≡ origin.Forked parent at → name ≡ string_bytes parent
+    → forked_needs replays session at (session_named before name) ≡ needs_of replays before session
+forked_needs_are replays before session parent at name is named =
+    ap (λ (n : StoreName). forked_needs replays session at (session_named before n)) named ∙ ap (needs_from replays before session) (sym is)
+
+pub restored_needs_are : (replays : List Replay) (before : List SessionInput) (session : SessionConfig) (saving : String Global) (name : StoreName) → session.origin ≡ origin.Restored saving → name ≡ string_bytes saving
+    → restored_needs replays session name ≡ needs_of replays before session
+restored_needs_are replays before session saving name is named = ap (restored_needs replays session) named ∙ ap (needs_from replays before session) (sym is)
 
 -- ---- a configuration
 

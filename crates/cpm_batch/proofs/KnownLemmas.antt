@@ -17,7 +17,7 @@ use Rattle.cpm_script.proofs.ForkLemmas.{length-keys_before}
 use Rattle.cpm_config.specs.declared.config.Origin.{Origin}
 use Rattle.cpm_config.specs.declared.config.Origin.TheVariants as origin
 use Rattle.cpm_store.specs.Files.{StoreFiles, StoreName}
-use Rattle.cpm_batch.specs.Inputs.{HasForkedSaid, HasInputOf, HasSaid, SessionInput, known_before, known_of, timed_keys}
+use Rattle.cpm_batch.specs.Inputs.{HasForkedSaid, HasInputOf, HasSaid, SessionInput, known_before, known_of, own_count, timed_keys}
 use Rattle.cpm_batch.specs.Sources.{replay_of, script_source, source_or}
 use Rattle.cpm_batch.specs.declared.source.Replay.{Replay}
 
@@ -79,9 +79,13 @@ few_of files replays before (origin.Opened cpu quota drives) i h at =
     known_by at (replay_of replays (string_bytes i.session.name)) i.said
     (λ none. few_opened files i.session.keys i.said (subst (λ (f : Option StoreName). HasSaid files (source_or f i.session.keys) i.said) none h.said))
 few_of files replays before (origin.Forked parent fork) i h at =
+    let own = own_count h.parent fork in
     known_by at (replay_of replays (string_bytes i.session.name)) i.said
-    (λ none. few_forked files i.session.keys fork (known_of replays fork h.parent) i.said
-    (subst (λ (f : Option StoreName). HasForkedSaid files (source_or f i.session.keys) fork (known_of replays fork h.parent) i.said) none h.said))
+    (λ none. few_forked files i.session.keys own (known_of replays own h.parent) i.said
+    (subst (λ (f : Option StoreName). HasForkedSaid files (source_or f i.session.keys) own (known_of replays own h.parent) i.said) none h.said))
+few_of files replays before (origin.Restored saving) i h at =
+    known_by at (replay_of replays (string_bytes i.session.name)) i.said
+    (λ none. few_opened files i.session.keys i.said (subst (λ (f : Option StoreName). HasSaid files (source_or f i.session.keys) i.said) none h.said))
 
 -- ---- counting them
 

@@ -1,8 +1,10 @@
+pub mod ForkedLemmas
 pub mod InputLemmas
 pub mod KnownLemmas
 pub mod OutputLemmas
 pub mod ParentLemmas
 pub mod ReadLemmas
 pub mod RecordingLemmas
+pub mod SavedLemmas
 pub mod SourceLemmas
 pub mod StopLemmas

@@ -15,7 +15,7 @@ use Rattle.cpm_config.specs.declared.config.Origin.{Origin}
 use Rattle.cpm_config.specs.declared.config.Origin.TheVariants as origin
 use Rattle.cpm_config.specs.declared.config.SessionConfig.{SessionConfig}
 use Rattle.cpm_store.specs.Files.{StoreFiles, StoreName}
-use Rattle.cpm_batch.specs.Inputs.{AllInputs, HasInputOf, IsOpened, IsParent, SessionInput, given, known_if_any, known_in, known_of, session_place}
+use Rattle.cpm_batch.specs.Inputs.{AllInputs, HasInputOf, IsOpened, IsParent, SessionInput, given, known_of, session_named, session_place}
 use Rattle.cpm_batch.specs.declared.source.Replay.{Replay}
 use Rattle.cpm_batch.specs.declared.input.Input.{Input}
 use Rattle.cpm_batch.proofs.KnownLemmas.{few_of}
@@ -37,6 +37,10 @@ sound_opened replays files (origin.Opened cpu quota drives) before i is h = reco
 sound_opened replays files (origin.Forked parent at) before i is h = record {
   few = few_of files replays before (origin.Forked parent at) i h;
   opened = λ opened. let no = sym (ap (λ (x : Origin). is_opened (origin_view x)) is) ∙ opened in absurd (cc);
+}
+sound_opened replays files (origin.Restored saving) before i is h = record {
+  few = few_of files replays before (origin.Restored saving) i h;
+  opened = λ opened. subst IsOpened (sym h.start) tt;
 }
 
 sound_more : (replays : List Replay) (files : Option StoreFiles) (before is : List SessionInput) → All (IsSound replays) before → AllInputs files replays before is → All (IsSound replays) (before ++ is)
@@ -101,31 +105,25 @@ parent_by replays is name (Some s) all found some = by_test (is_opened s.origin)
 pub parent_found : (replays : List Replay) (files : Option StoreFiles) (is : List SessionInput) (name : StoreName) → AllInputs files replays [] is → is_some (parent_in (map (λ i. session_view i.session) is) name) ≡ true → HasParent replays is name
 parent_found replays files is name h some = parent_by replays is name (named_in (map seen is) name) (sound_more replays files [] is (All-nil (IsSound replays)) h) refl some
 
--- the parent at a place, and how many keys it is known to have before a session is forked from it
-pub record IsReadParent (replays : List Replay) (is : List Input) (name : StoreName) (place at first : ℕ) : Type 0 where
-  pub parent : SessionInput
+-- the parent at a place, of which not too many keys are known
+pub record IsReadParent (replays : List Replay) (is : List Input) (name : StoreName) (place : ℕ) (parent : SessionInput) : Type 0 where
   pub found : IsParent (map given is) name place parent
-  pub few : first ≤ 4096
-  pub known : first ≡ known_of replays at parent
-  pub named : first ≡ known_in replays at (map given is) name
+  pub few : (at : ℕ) → known_of replays at parent ≤ 4096
+  pub named : session_named (map given is) name ≡ Some parent
 
-pub parent_read : (replays : List Replay) (files : Option StoreFiles) (is : List Input) (name : StoreName) (place at : ℕ) (i : Input) (first : ℕ) → AllInputs files replays [] (map given is)
+pub parent_read : (replays : List Replay) (files : Option StoreFiles) (is : List Input) (name : StoreName) (place : ℕ) (i : Input) → AllInputs files replays [] (map given is)
     → is_some (parent_in (map (λ i. session_view i.session) (map given is)) name) ≡ true → Some place ≡ session_place (map given is) name → place < length is → i ≡ get_or is place i
-    → first ≡ known_of replays at (given i) → IsReadParent replays is name place at first
-parent_read replays files is name place at i first all some named within is_at known =
+    → IsReadParent replays is name place (given i)
+parent_read replays files is name place i all some named within is_at =
     let h = parent_found replays files (map given is) name all some in
     let same_place : h.place ≡ place = let f = h.found.first in cc in
     let there : slice_get (map given is) place ≡ Some (given i) =
     slice_get-map given is place ∙ ap (option_map given) (slice_get-get_or is place i within ∙ ap (λ (x : Input). Some x) (sym is_at)) in
     let same : h.parent ≡ given i = let f = ap (slice_get (map given is)) (sym same_place) ∙ h.found.there in cc in
-    let found : known_in replays at (map given is) name ≡ known_of replays at (given i) =
-    ap (λ (p : Option ℕ). known_if_any replays at (option_and_then (slice_get (map given is)) p)) (sym named) ∙ ap (known_if_any replays at) there in
     record {
-      parent = given i;
       found = record { first = sym named; there = there; opened = subst (λ (x : SessionInput). IsOpened x.start) same h.found.opened };
-      few = subst (λ n. n ≤ 4096) (sym known) (subst (λ (x : SessionInput). known_of replays at x ≤ 4096) same (h.few at));
-      known = known;
-      named = known ∙ sym found;
+      few = λ at. subst (λ (x : SessionInput). known_of replays at x ≤ 4096) same (h.few at);
+      named = ap (λ (p : Option ℕ). option_and_then (slice_get (map given is)) p) (sym named) ∙ there;
     }
 
 -- ---- forks that break no rule

@@ -17,8 +17,9 @@ use Rattle.cpm_config.specs.declared.config.SessionConfig.{SessionConfig}
 use Rattle.cpm_flags.specs.declared.regs.Cpu.{Cpu}
 use Rattle.cpm_batch.specs.declared.error.ReadError.{ReadError}
 use Rattle.cpm_batch.specs.declared.error.ReadError.TheVariants.{OutOfMemory}
-use Rattle.cpm_batch.specs.Inputs.{IsFileFault, IsImage, SessionInput, given}
-use Rattle.cpm_batch.specs.Reads.{AreImagesRead, AreInputsRead, IsForkedRead, IsForkedSaidRead, IsForkedScriptRead, IsImageRead, IsInputRead, IsInputReadOf, IsOpenedRead, IsRecordingRead, IsSaidRead, IsScriptRead, OnlyRead}
+use Rattle.cpm_batch.specs.Held.{IsImage}
+use Rattle.cpm_batch.specs.Inputs.{IsFileFault, SessionInput, given}
+use Rattle.cpm_batch.specs.Reads.{AreImagesRead, AreInputsRead, IsForkedRead, IsForkedSaidRead, IsForkedScriptRead, IsImageRead, IsInputRead, IsInputReadOf, IsOpenedRead, IsRecordingRead, IsRestoredRead, IsSaidRead, IsScriptRead, OnlyRead}
 use Rattle.cpm_batch.specs.declared.input.Input.{Input}
 use Rattle.cpm_batch.specs.declared.source.KeySource.{KeySource}
 use Rattle.cpm_batch.specs.declared.source.KeySource.TheVariants as source
@@ -90,6 +91,14 @@ forked_read does replays (Ok i) before session parent at name s t is named same 
     subst (λ (o : Origin). LogLeadsBy does (IsInputReadOf replays before o (given i)) s t) (sym (ap (λ (x : SessionConfig). x.origin) same ∙ is))
     (subst (λ (n : StoreName). LogLeadsBy does (IsForkedRead replays before n at (given i)) s t) named log)
 
+pub restored_read : {S : Type 0} (does : S → StoreAccess → S → Type 0) (replays : List Replay) (r : Result Input ReadError) (before : List SessionInput) (session : SessionConfig) (saving : String Global) (name : StoreName) (s t : S)
+    → session.origin ≡ origin.Restored saving → name ≡ string_bytes saving → IfOk r (λ i. i.session.now ≡ session) → IfOk r (λ i. LogLeadsBy does (IsRestoredRead replays name (given i)) s t)
+    → IfOk r (λ i. LogLeadsBy does (IsInputRead replays before (given i)) s t)
+restored_read does replays (Err e) before session saving name s t is named same log = tt
+restored_read does replays (Ok i) before session saving name s t is named same log =
+    subst (λ (o : Origin). LogLeadsBy does (IsInputReadOf replays before o (given i)) s t) (sym (ap (λ (x : SessionConfig). x.origin) same ∙ is))
+    (subst (λ (n : StoreName). LogLeadsBy does (IsRestoredRead replays n (given i)) s t) named log)
+
 -- the reads of a list, and one more
 pub then_more : (Before After All : List StoreAccess → Type 0) (xs ys : List StoreAccess) (h : Then Before After xs) → All (h.rest ++ ys) → Then Before All (xs ++ ys)
 then_more Before After All xs ys h more = record {
@@ -151,6 +160,17 @@ module _ {S : Type 0} {does : S → StoreAccess → S → Type 0} {files : S →
     uncounted = subst (λ (n : ℕ). OnOk r (failed t ≡ n)) h.uncounted g.uncounted;
     memory = subst (λ (n : ℕ). IfErr r (λ e. e ≡ OutOfMemory → failed t ≡ n)) h.uncounted g.memory;
     counted = omega (arith, h.counted, g.counted);
+  }
+
+  -- no read at all, with an error that is no file's
+  pub only_read_none : {X : Type 0} {e : ReadError} {s : S} → (IsFileFault e → ⊥) → OnlyRead {X = X} does files failed (Err e) s s
+  only_read_none other = record {
+    device = λ f. absurd (other f);
+    same = refl;
+    unwritten = ([], tt, refl);
+    uncounted = tt;
+    memory = λ _. refl;
+    counted = omega arith;
   }
 
   -- the same of a call above that answers the error of one below

@@ -3,7 +3,8 @@ use Rattle.std.proofs.Common.{◌≡◌, ◌∙◌, ◌⊎◌, ⊎_elim, inl, in
 use Rattle.std.proofs.Math.Seq.{split_at}
 use Rattle.std.proofs.lemmas.List.{map-append}
 use Rattle.std.specs.Borrow.{Bor}
-use Rattle.std.specs.Prelude.{string_bytes}
+use Rattle.std.specs.Prelude.{IsSomeAnd, Option, Some, chars, string_bytes}
+use Rattle.cpm_command_line.specs.Shown.{shown_of}
 use Rattle.std.specs.declared.alloc.Global.{Global}
 use Rattle.cpm_config.specs.declared.config.Config.{Config}
 use Rattle.cpm_config.specs.declared.config.Origin.{Origin}
@@ -16,7 +17,7 @@ use Rattle.cpm_store.specs.Log.{StoreAccess, AreNoWrites, Missed, LogLeadsBy, Th
 use Rattle.cpm_store.proofs.LogLemmas.{no_writes_more, ran_more, ran_one}
 use Rattle.cpm_batch.specs.declared.error.ReadError.{ReadError}
 use Rattle.cpm_batch.specs.declared.error.ReadError.TheVariants.{File, OutOfMemory}
-use Rattle.cpm_batch.specs.Inputs.{ForkedScriptIn, ImageIn, IsMissed, Need, RecordingIn, ScriptIn, SessionInput, forked_key_needs, image_needs, key_needs, known_of, needed_name, needs_of}
+use Rattle.cpm_batch.specs.Inputs.{ForkOf, ForkedScriptIn, ImageIn, IsMissed, Need, RecordingIn, SavingIn, ScriptIn, SessionInput, forked_key_needs, image_needs, key_needs, known_of, needed_name, needs_of, own_count, saving_need}
 use Rattle.cpm_batch.specs.Sources.{NoSource, RecordingFile, ScriptFile, SourceOfKeys, key_source, source_view}
 use Rattle.cpm_batch.specs.declared.source.KeySource.{KeySource}
 use Rattle.cpm_batch.specs.declared.source.KeySource.TheVariants as source
@@ -45,6 +46,8 @@ need_unwritten (ImageIn name) log h = subst AreNoWrites (sym h.1.calls) (tt, tt)
 need_unwritten (ScriptIn name) log h = subst AreNoWrites (sym h.1.calls) (tt, tt)
 need_unwritten (ForkedScriptIn name at before) log h = subst AreNoWrites (sym h.1.calls) (tt, tt)
 need_unwritten (RecordingIn name at) log h = subst AreNoWrites (sym h.1.calls) (tt, tt)
+need_unwritten (SavingIn name session names) log h = subst AreNoWrites (sym h.1.calls) (tt, tt)
+need_unwritten (ForkOf session parent at names) log h = subst AreNoWrites (sym h.1) tt
 
 needs_unwritten : (ns : List Need) (log : List StoreAccess) → AreNeedsRead ns log → AreNoWrites log
 needs_unwritten [] log h = subst AreNoWrites (sym h) tt
@@ -84,7 +87,19 @@ input_unwritten replays before (origin.Opened cpu quota names) i log h =
     (needs_read_append (image_needs names.items) (key_needs (key_source replays i.session)) h.calls.first h.calls.rest (images_need names.items h.drives h.calls.first h.calls.begins)
     (said_need (key_source replays i.session) i.said h.calls.rest h.calls.goes_on)))
 input_unwritten replays before (origin.Forked parent at) i log h =
-    needs_unwritten (forked_key_needs at (known_of replays at h.parent) (key_source replays i.session)) log (forked_said_need (key_source replays i.session) at (known_of replays at h.parent) i.said log h.calls)
+    let own = own_count h.parent at in
+    let keys = key_source replays i.session in
+    needs_unwritten (forked_key_needs own (known_of replays own h.parent) keys) log (forked_said_need keys own (known_of replays own h.parent) i.said log h.calls)
+input_unwritten replays before (origin.Restored saving) i log h =
+    let keys = key_source replays i.session in
+    let needs = saving_need i.session (string_bytes saving) ∷ key_needs keys in
+    needs_unwritten needs log (record {
+      first = h.calls.first;
+      rest = h.calls.rest;
+      order = h.calls.order;
+      begins = (h.saving, h.calls.begins);
+      goes_on = said_need keys i.said h.calls.rest h.calls.goes_on;
+    })
 
 inputs_unwritten : (replays : List Replay) (before is : List SessionInput) (log : List StoreAccess) → AreInputsRead replays before is log → AreNoWrites log
 inputs_unwritten replays before [] log h = subst AreNoWrites (sym h) tt
@@ -105,18 +120,19 @@ inputs_behind replays before (i ∷ is) rest e xs ys h g =
     )
 
 -- a call that fails is a fault's read, where the error says so
-missed_fault : (n : Need) (e : ReadError) → IsMissed (needed_name n) e → IsFaultRead n e (Missed (needed_name n) ∷ [])
-missed_fault n (File name) h = (h, refl)
-missed_fault n _ h = absurd h
+missed_fault : (n : Need) (name : StoreName) (e : ReadError) → needed_name n ≡ Some name → IsMissed name e → IsFaultRead n e (Missed name ∷ [])
+missed_fault n name (File shown) is h =
+    subst (λ (o : Option StoreName). IsSomeAnd o (λ x. (shown.bytes ≡ shown_of (chars x)) × (Missed name ∷ [] ≡ Missed x ∷ []))) (sym is) (h, refl)
+missed_fault n name _ is h = absurd h
 
 module _ {S : Type 0} (does : S → StoreAccess → S → Type 0) where
   -- ---- one read that is refused
 
-  pub stopped_missed : (n : Need) (e : ReadError) (s t : S) → (e ≡ OutOfMemory) ⊎ IsMissed (needed_name n) e → does s (Missed (needed_name n)) t → LogLeadsBy does (StopsAmongNeeds (n ∷ []) e) s t
-  stopped_missed n e s t h call = (
-    Missed (needed_name n) ∷ [],
-    ⊎_elim (λ m. inl (m, (tt, tt))) (λ f. inr (inl (missed_fault n e f))) h,
-    ran_one does (Missed (needed_name n)) s t call,
+  pub stopped_missed : (n : Need) (name : StoreName) (e : ReadError) (s t : S) → needed_name n ≡ Some name → (e ≡ OutOfMemory) ⊎ IsMissed name e → does s (Missed name) t → LogLeadsBy does (StopsAmongNeeds (n ∷ []) e) s t
+  stopped_missed n name e s t is h call = (
+    Missed name ∷ [],
+    ⊎_elim (λ m. inl (m, (tt, tt))) (λ f. inr (inl (missed_fault n name e is f))) h,
+    ran_one does (Missed name) s t call,
   )
 
   pub stopped_at : (n : Need) (e : ReadError) (a : StoreAccess) (s t : S) → does s a t → IsFaultRead n e (a ∷ []) → LogLeadsBy does (StopsAmongNeeds (n ∷ []) e) s t
@@ -137,6 +153,10 @@ module _ {S : Type 0} (does : S → StoreAccess → S → Type 0) where
     ⊎_elim (λ no. inl (no.0, no_writes_more h.0 g.0 (needs_unwritten ns h.0 h.1) no.1)) (λ f. inr (stops_behind ns ms e h.0 g.0 h.1 f)) g.1,
     ran_more does h.0 g.0 s m t h.2 g.2,
   )
+
+  -- behind the first, which was met
+  pub behind_need : (n : Need) (ms : List Need) (e : ReadError) (s m t : S) → LogLeadsBy does (IsNeedRead n) s m → LogLeadsBy does (StopsAmongNeeds ms e) m t → LogLeadsBy does (StopsAmongNeeds (n ∷ ms) e) s t
+  behind_need n ms e s m t h g = stopped_behind (n ∷ []) ms e s m t (h.0, one_need n h.0 h.1, h.2) g
 
   pub behind_images : (names : List (String Global)) (ds : List Disk) (ms : List Need) (e : ReadError) (s m t : S) → LogLeadsBy does (AreImagesRead names ds) s m → LogLeadsBy does (StopsAmongNeeds ms e) m t
       → LogLeadsBy does (StopsAmongNeeds (image_needs names ++ ms) e) s t

@@ -1,3 +1,5 @@
+pub mod Savings
+pub mod Held
 pub mod Inputs
 pub mod Outputs
 pub mod Reads

@@ -16,9 +16,18 @@ pub record SessionOutput : Type 0 where
   pub list : List ℕ
   -- its drives A to D, as far as it had them
   pub drives : List (Option Disk)
+  -- the bytes of its saving, where it is saved
+  pub saved : Option (List ℕ)
 
 abbrev pub left_by : SessionFiles → SessionOutput
-left_by f = record { session = f.session.now; console = f.console.items; list = f.list.items; drives = f.drives }
+left_by f =
+    record {
+      session = f.session.now;
+      console = f.console.items;
+      list = f.list.items;
+      drives = f.drives;
+      saved = option_map (λ v. v.items) f.saved;
+    }
 
 -- bytes for a file, where one is named
 abbrev pub named_bytes : Option StoreName → List ℕ → List NamedBytes
@@ -42,9 +51,17 @@ abbrev pub named_images : Option (Vec (String Global) Global) → List (Option D
 named_images None drives = []
 named_images (Some names) drives = image_outputs names.items drives
 
--- of a session: the console's text, the list device's where it is named, the images where they are
+-- a saving, where there are both, a name and a saving
+abbrev pub named_saving : Option StoreName → Option (List ℕ) → List NamedBytes
+named_saving name None = []
+named_saving name (Some bytes) = named_bytes name bytes
+
+-- of a session: the console's text, the list device's where it is named, the images where they are, and the saving where it is
 abbrev pub files_of : SessionOutput → List NamedBytes
-files_of o = (string_bytes o.session.console, o.console) ∷ (named_bytes (option_map string_bytes o.session.list) o.list ++ named_images o.session.out o.drives)
+files_of o =
+    (string_bytes o.session.console, o.console)
+    ∷ (named_bytes (option_map string_bytes o.session.list) o.list
+    ++ (named_images o.session.out o.drives ++ named_saving (option_map string_bytes o.session.save) o.saved))
 
 -- of all sessions, in their order
 abbrev pub files_of_all : List SessionOutput → List NamedBytes

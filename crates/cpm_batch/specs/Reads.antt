@@ -1,6 +1,6 @@
 -- What is read for the sessions of a configuration, as the calls of a store in their order. All of it is own.
 use Rattle.std.specs.Prelude.{◌≡◌, ◌≤◌, ◌⊎◌, ℕ, List, [], ◌∷◌, ◌++◌, length, map, chars}
-use Rattle.std.specs.Prelude.{Option, Some, None, Result, Ok, Err, IfErr, OnOk, String, string_bytes}
+use Rattle.std.specs.Prelude.{Option, Some, None, IsSomeAnd, Result, Ok, Err, IfErr, OnOk, String, string_bytes}
 use Rattle.std.specs.declared.alloc.Global.{Global}
 use Rattle.cpm_command_line.specs.Shown.{shown_of}
 use Rattle.cpm_config.specs.declared.config.Config.{Config}
@@ -10,16 +10,21 @@ use Rattle.cpm_config.specs.declared.config.SessionConfig.{SessionConfig}
 use Rattle.cpm_flags.specs.declared.regs.Cpu.{Cpu}
 use Rattle.cpm_geom.specs.Disk.{Disk}
 use Rattle.cpm_geom.specs.Geometry.{format_of_length}
+use Rattle.cpm_machine.specs.Saving.{Saving, restored}
+use Rattle.cpm_saved.specs.declared.part.SavingDamage.{SavingDamage}
 use Rattle.cpm_script.specs.Cues.{CueText, cues}
 use Rattle.cpm_script.specs.Fork.{forked_cues}
 use Rattle.cpm_script.specs.declared.fault.LineFault.{LineFault}
 use Rattle.cpm_store.specs.Files.{CountsFailure, StoreFiles, StoreName}
 use Rattle.cpm_store.specs.Log.{StoreAccess, AreNoWrites, Gave, Missed, LogLeadsBy, Then}
-use Rattle.cpm_batch.specs.Inputs.{Forks, ForkedScriptIn, ImageIn, IsFileFault, IsImage, IsParent, Need, Opens, RecordingIn, ScriptIn, SessionInput}
-use Rattle.cpm_batch.specs.Inputs.{known_of, needed_name, needs_of}
+use Rattle.cpm_batch.specs.Held.{IsImage}
+use Rattle.cpm_batch.specs.Inputs.{CanFork, ForkOf, Forks, ForkedScriptIn, ImageIn, IsFileFault, IsForkFault, IsParent, Need, Opens, RecordingIn}
+use Rattle.cpm_batch.specs.Inputs.{Restores, SavingIn, ScriptIn, SessionInput, known_of, needed_name, needs_of, own_count}
+use Rattle.cpm_batch.specs.Savings.{AreAllNamed, IsMisnamed, names_wanted}
 use Rattle.cpm_batch.specs.Sources.{IsRecordingOf, NoSource, RecordingFile, ScriptFile, SourceOfKeys, key_source, recording_fault}
 use Rattle.cpm_batch.specs.declared.error.ReadError.{ReadError}
-use Rattle.cpm_batch.specs.declared.error.ReadError.TheVariants.{File, Image, Script, OutOfMemory}
+use Rattle.cpm_batch.specs.declared.error.ReadError.TheVariants.{File, Image, OutOfMemory, SavedDrives, Script}
+use Rattle.cpm_batch.specs.declared.error.ReadError.TheVariants as error
 use Rattle.cpm_batch.specs.declared.source.Replay.{Replay}
 
 -- one read, in which the file gave the image of the disk
@@ -47,6 +52,13 @@ pub record IsRecordingRead (name : StoreName) (at : ℕ) (said : List CueText) (
   pub read : IsRecordingOf at text said
   pub calls : log ≡ Gave name text ∷ []
 
+-- one read, in which the file gave a saving, with as many drives as files are named for their images, where any are
+pub record IsSavingRead (name : StoreName) (names : Option ℕ) (x : Saving) (log : List StoreAccess) : Type 0 where
+  pub bytes : List ℕ
+  pub read : restored bytes ≡ Ok x
+  pub named : AreAllNamed names x.state
+  pub calls : log ≡ Gave name bytes ∷ []
+
 -- a read of each of these files in order, in which it gave the image of its disk
 abbrev pub AreImagesRead : List (String Global) → List Disk → List StoreAccess → Type 0
 AreImagesRead [] [] log = log ≡ []
@@ -66,6 +78,10 @@ IsForkedSaidRead NoSource at before said log = (said ≡ []) × (log ≡ [])
 IsForkedSaidRead (ScriptFile name) at before said log = IsForkedScriptRead name at before said log
 IsForkedSaidRead (RecordingFile name) at before said log = IsRecordingRead name at said log
 
+-- that of a session that is forked from this one, at this count that begins where this one's counts begin in the run
+abbrev pub IsSaidReadFrom : List Replay → SessionConfig → (parent : SessionInput) → (at : ℕ) → List CueText → List StoreAccess → Type 0
+IsSaidReadFrom replays s parent at said log = IsForkedSaidRead (key_source replays s) at (known_of replays at parent) said log
+
 -- the reads of a session that is opened: its drives, then its script, or the recording in place of that
 pub record IsOpenedRead (replays : List Replay) (cpu : Cpu) (quota : ℕ) (names : List (String Global)) (i : SessionInput) (log : List StoreAccess)
     : Type 0 where
@@ -73,19 +89,27 @@ pub record IsOpenedRead (replays : List Replay) (cpu : Cpu) (quota : ℕ) (names
   pub start : i.start ≡ Opens cpu quota drives
   pub calls : Then (AreImagesRead names drives) (IsSaidRead (key_source replays i.session) i.said) log
 
+-- those of a session that goes on from a saving: that, then its script, or the recording in place of it
+pub record IsRestoredRead (replays : List Replay) (name : StoreName) (i : SessionInput) (log : List StoreAccess) : Type 0 where
+  pub saving : Saving
+  pub start : i.start ≡ Restores saving
+  pub calls : Then (IsSavingRead name (names_wanted i.session) saving) (IsSaidRead (key_source replays i.session) i.said) log
+
 -- those of a session that is forked, after what was read for the sessions before it: its script, or the recording in place of that
 pub record IsForkedRead (replays : List Replay) (before : List SessionInput) (name : StoreName) (at : ℕ) (i : SessionInput) (log : List StoreAccess)
     : Type 0 where
   pub place : ℕ
   pub parent : SessionInput
   pub found : IsParent before name place parent
-  pub start : i.start ≡ Forks place at
-  pub calls : IsForkedSaidRead (key_source replays i.session) at (known_of replays at parent) i.said log
+  pub fits : CanFork parent.start at (names_wanted i.session)
+  pub start : i.start ≡ Forks place (own_count parent at)
+  pub calls : IsSaidReadFrom replays i.session parent (own_count parent at) i.said log
 
 -- those of a session that begins so
 abbrev pub IsInputReadOf : List Replay → (before : List SessionInput) → Origin → SessionInput → List StoreAccess → Type 0
 IsInputReadOf replays before (origin.Opened cpu quota drives) i log = IsOpenedRead replays cpu quota drives.items i log
 IsInputReadOf replays before (origin.Forked parent at) i log = IsForkedRead replays before (string_bytes parent) at i log
+IsInputReadOf replays before (origin.Restored saving) i log = IsRestoredRead replays (string_bytes saving) i log
 
 abbrev pub IsInputRead : List Replay → (before : List SessionInput) → SessionInput → List StoreAccess → Type 0
 IsInputRead replays before i log = IsInputReadOf replays before i.session.origin i log
@@ -127,21 +151,42 @@ pub record IsNoRecordingRead (name : StoreName) (at line : ℕ) (fault : LineFau
   pub read : recording_fault at text ≡ Some (line, fault)
   pub calls : log ≡ Gave name text ∷ []
 
--- one read, in which the file held what is needed
+-- one read, in which the file gave bytes that are no saving, for this part of them
+pub record IsNoSavingRead (name : StoreName) (damage : SavingDamage) (log : List StoreAccess) : Type 0 where
+  pub bytes : List ℕ
+  pub read : restored bytes ≡ Err damage
+  pub calls : log ≡ Gave name bytes ∷ []
+
+-- one read, in which the file gave a saving with this many drives, and another number of files is named for their images
+pub record IsMisnamedRead (name : StoreName) (names : Option ℕ) (drives count : ℕ) (log : List StoreAccess) : Type 0 where
+  pub bytes : List ℕ
+  pub saving : Saving
+  pub read : restored bytes ≡ Ok saving
+  pub misnamed : IsMisnamed names saving.state drives count
+  pub calls : log ≡ Gave name bytes ∷ []
+
+-- one read, in which the file held what is needed; none for a fork, which can be made
 abbrev pub IsNeedRead : Need → List StoreAccess → Type 0
 IsNeedRead (ImageIn name) log = (d : Disk) × IsImageRead name d log
 IsNeedRead (ScriptIn name) log = (said : List CueText) × IsScriptRead name said log
 IsNeedRead (ForkedScriptIn name at before) log = (said : List CueText) × IsForkedScriptRead name at before said log
 IsNeedRead (RecordingIn name at) log = (said : List CueText) × IsRecordingRead name at said log
+IsNeedRead (SavingIn name session names) log = (x : Saving) × IsSavingRead name names x log
+IsNeedRead (ForkOf session parent at names) log = CanFork parent at names × (log ≡ [])
 
--- one read, which failed, or in which the file didn't hold it, as the error says
+-- one read, which failed, or in which the file didn't hold it, as the error says; none for a fork, which can't be made
 abbrev pub IsFaultRead : Need → ReadError → List StoreAccess → Type 0
-IsFaultRead need (File shown) log = (shown.bytes ≡ shown_of (chars (needed_name need))) × (log ≡ Missed (needed_name need) ∷ [])
+IsFaultRead need (File shown) log = IsSomeAnd (needed_name need) (λ name. (shown.bytes ≡ shown_of (chars name)) × (log ≡ Missed name ∷ []))
 IsFaultRead (ImageIn name) (Image shown count) log = (shown.bytes ≡ shown_of (chars name)) × IsNoImageRead name count log
 IsFaultRead (ScriptIn name) (Script shown line fault) log = (shown.bytes ≡ shown_of (chars name)) × IsNoScriptRead name line fault log
 IsFaultRead (ForkedScriptIn name at before) (Script shown line fault) log =
     (shown.bytes ≡ shown_of (chars name)) × IsNoForkedScriptRead name at before line fault log
 IsFaultRead (RecordingIn name at) (Script shown line fault) log = (shown.bytes ≡ shown_of (chars name)) × IsNoRecordingRead name at line fault log
+IsFaultRead (SavingIn name session names) (error.Saving refusal) log =
+    (refusal.name.bytes ≡ shown_of (chars name)) × IsNoSavingRead name refusal.damage log
+IsFaultRead (SavingIn name session names) (SavedDrives shown drives count) log =
+    (shown.bytes ≡ shown_of (chars session)) × IsMisnamedRead name names drives count log
+IsFaultRead (ForkOf session parent at names) e log = IsForkFault session parent at names e × (log ≡ [])
 IsFaultRead need _ log = ⊥
 
 -- a read of each of the needs in order, up to the first that isn't met, and none after it

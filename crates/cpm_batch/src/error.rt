@@ -3,6 +3,7 @@ ghost use Rattle.std.specs.Prelude.{◌≡◌};
 ghost use Rattle.cpm_batch.specs.Inputs.{code_of_reading};
 ghost use Rattle.cpm_batch.specs.declared.error.ReadError.TheVariants.{OutOfMemory};
 
+use crate::saved::SavingRefusal;
 use cpm_command_line::ShownWord;
 use cpm_refusals::RefusalCode;
 use cpm_script::LineFault;
@@ -20,6 +21,23 @@ pub enum ReadError {
     Image {
         name: ShownWord,
         length: usize,
+    },
+    /// The file of a saved machine is none, or it is damaged.
+    #[error("{0}")]
+    Saving(SavingRefusal),
+    /// A session names another number of files for the images of its drives than its saving, or its parent's, has.
+    #[error("session '{session}': its saving has drives: {drives}; names in 'out': {names}")]
+    SavedDrives {
+        session: ShownWord,
+        drives: usize,
+        names: usize,
+    },
+    /// A session is forked at a count that is before the one that its parent was saved at.
+    #[error("session '{session}' is forked at count {at}, and its parent was saved at count {count}")]
+    ForkedEarly {
+        session: ShownWord,
+        at: u64,
+        count: u64,
     },
     /// A line of a key script is wrong.
     #[error("'{name}', line {line}: {fault}")]
@@ -42,6 +60,10 @@ impl ReadError {
             ReadError::Script { .. } => RefusalCode::Script,
             ReadError::File(_) => RefusalCode::Unreadable,
             ReadError::Image { .. } => RefusalCode::Image,
+            ReadError::Saving(_) => RefusalCode::Machine,
+            ReadError::SavedDrives { .. } | ReadError::ForkedEarly { .. } => {
+                RefusalCode::Configuration
+            }
             ReadError::OutOfMemory => RefusalCode::OutOfMemory,
         }
     }

@@ -1,17 +1,21 @@
 //! Reading what a session needs that is forked from an earlier one.
-ghost use Rattle.std.specs.Prelude.{◌≡◌, ◌<◌, ◌≤◌, ◌∷◌, [], IfErr, IfOk, IfSome, is_some, length, map, true};
+ghost use Rattle.std.specs.Prelude.{◌≡◌, ◌<◌, ◌≤◌, ◌∷◌, [], IfErr, IfOk, IfSome, OnOk, Some, ℕ, is_some, length, map, true};
 ghost use Rattle.cpm_config.specs.Rules.{parent_in, session_view};
 ghost use Rattle.cpm_script.specs.Cues.{all_said, cue_text};
 ghost use Rattle.cpm_store.specs.Log.{LogLeadsBy};
-ghost use Rattle.cpm_batch.specs.Inputs.{AllInputs, ForkedScriptIn, HasForkedSaid, IsForkedInput, IsForkedScriptIn, IsNeedRefusal};
-ghost use Rattle.cpm_batch.specs.Inputs.{forked_key_needs, given, known_before, known_in, known_of, session_place};
+ghost use Rattle.cpm_batch.specs.Held.{IsForkedScriptIn};
+ghost use Rattle.cpm_batch.specs.Inputs.{AllInputs, CanFork, ForkedScriptIn, Forks, HasForkedSaid, HasSaidFrom, IsForkedInput};
+ghost use Rattle.cpm_batch.specs.Inputs.{IsForkGivenUp, IsNeedRefusal, forked_key_needs, forked_needs, given, known_before, known_of};
+ghost use Rattle.cpm_batch.specs.Inputs.{own_count, saved_count, session_named, session_place, start_view};
+ghost use Rattle.cpm_batch.specs.Savings.{names_wanted};
 ghost use Rattle.cpm_batch.specs.Sources.{key_source};
-ghost use Rattle.cpm_batch.specs.Reads.{IsForkedRead, IsForkedSaidRead, IsForkedScriptRead, OnlyRead, StopsAmongNeeds};
+ghost use Rattle.cpm_batch.specs.Reads.{IsForkedRead, IsForkedSaidRead, IsForkedScriptRead, IsSaidReadFrom, OnlyRead, StopsAmongNeeds};
 ghost use Rattle.cpm_script.specs.Script.{most_keys};
 
 use crate::error::ReadError;
 use crate::input::{Input, Start, read_bytes};
 use crate::recording::read_replay;
+use crate::restored::check_names;
 use crate::source::{KeySource, Replay, key_source, replay_of};
 use cpm_command_line::shown;
 use cpm_config::SessionConfig;
@@ -109,7 +113,73 @@ fn read_forked_cues_of<S: Store>(
     }
 }
 
-/// What a session needs that is forked from the one of a name, which is opened and stands before it, at a count of steps.
+/// Refuses a fork, at this whole count, of a session that begins so: one before the count that that was saved at, and one that names another number of
+/// files for the images of its drives than that has.
+fn check_fork(
+    alloc: Global,
+    session: &SessionConfig,
+    parent: &Start,
+    at: u64,
+) -> Result<(), ReadError>
+    ensures fits { OnOk result (CanFork (start_view parent.now) at (names_wanted session.now)) }
+    ensures refusal { IfErr result (IsForkGivenUp session.now (start_view parent.now) at) }
+{
+    let Start::Restored(saved) = parent else {
+        return Ok(());
+    };
+    let count = saved.count();
+    if at < count {
+        return Err(ReadError::ForkedEarly {
+            session: shown(session.name.as_str()),
+            at,
+            count,
+        });
+    }
+    check_names(alloc, session, saved)
+}
+
+/// What a session needs that is forked from this one, which stands at this place, at a whole count of steps.
+fn read_forked_from<'a, S: Store>(
+    alloc: Global,
+    store: &mut S,
+    session: &'a SessionConfig,
+    replays: &[Replay<'_>],
+    parent: &Input,
+    place: usize,
+    at: u64,
+) -> Result<Input<'a>, ReadError>
+    requires few { (own : ℕ) → known_of replays.now own (given parent.now) ≤ most_keys }
+    ensures fits { OnOk result (CanFork (given parent.now).start at (names_wanted session.entry.now)) }
+    ensures start { IfOk result (λ i. (given i).start ≡ Forks place (own_count (given parent.now) at)) }
+    ensures steps { IfOk result (λ i. i.steps ≡ own_count (given parent.now) session.entry.now.steps) }
+    ensures said { let own = own_count (given parent.now) at in
+        IfOk result (λ i. HasSaidFrom (S.files store.old) replays.now session.entry.now (given parent.now) own (given i).said) }
+    ensures log { let own = own_count (given parent.now) at in
+        IfOk result (λ i. LogLeadsBy S.does (IsSaidReadFrom replays.now session.entry.now (given parent.now) own (given i).said) store.old store.new) }
+    ensures session { IfOk result (λ i. i.session.now ≡ session.entry.now) }
+    ensures refusal { let needs = forked_needs replays.now session.entry.now at (Some (given parent.now)) in
+        IfErr result (IsNeedRefusal (S.files store.old) needs) }
+    ensures refused_log { let needs = forked_needs replays.now session.entry.now at (Some (given parent.now)) in
+        IfErr result (λ e. LogLeadsBy S.does (StopsAmongNeeds needs e) store.old store.new) }
+    ensures store { OnlyRead S.does S.files S.failed result store.old store.new }
+{
+    check_fork(alloc, session, &parent.start, at)?;
+    let saved = parent.start.saved_count();
+    let own = at - saved;
+    let known = known_of(parent, replays, own);
+    let cues = read_forked_cues_of(alloc, store, session, replays, own, known)?;
+    Ok(Input {
+        session,
+        start: Start::Forked {
+            parent: place,
+            at: own,
+        },
+        steps: session.steps.saturating_sub(saved),
+        cues,
+    })
+}
+
+/// What a session needs that is forked from the one of a name, which isn't forked and stands before it, at a whole count of steps.
 pub(crate) fn read_forked<'a, S: Store>(
     alloc: Global,
     store: &mut S,
@@ -124,22 +194,14 @@ pub(crate) fn read_forked<'a, S: Store>(
     ensures input { IfOk result (λ i. IsForkedInput (S.files store.old) replays.now (map given before.now) name.now at (given i)) }
     ensures log { IfOk result (λ i. LogLeadsBy S.does (IsForkedRead replays.now (map given before.now) name.now at (given i)) store.old store.new) }
     ensures session { IfOk result (λ i. i.session.now ≡ session.entry.now) }
-    ensures refusal { let first = known_in replays.now at (map given before.now) name.now in
-        let needs = forked_key_needs at first (key_source replays.now session.entry.now) in
+    ensures refusal { let needs = forked_needs replays.now session.entry.now at (session_named (map given before.now) name.now) in
         IfErr result (IsNeedRefusal (S.files store.old) needs) }
-    ensures refused_log { let first = known_in replays.now at (map given before.now) name.now in
-        let needs = forked_key_needs at first (key_source replays.now session.entry.now) in
+    ensures refused_log { let needs = forked_needs replays.now session.entry.now at (session_named (map given before.now) name.now) in
         IfErr result (λ e. LogLeadsBy S.does (StopsAmongNeeds needs e) store.old store.new) }
     ensures store { OnlyRead S.does S.files S.failed result store.old store.new }
 {
-    let Some(parent) = session_place(before, name) else {
+    let Some(place) = session_place(before, name) else {
         unreachable!()
     };
-    let first = known_of(&before[parent], replays, at);
-    let cues = read_forked_cues_of(alloc, store, session, replays, at, first)?;
-    Ok(Input {
-        session,
-        start: Start::Forked { parent, at },
-        cues,
-    })
+    read_forked_from(alloc, store, session, replays, &before[place], place, at)
 }

@@ -4,8 +4,10 @@ ghost use Rattle.cpm_config.specs.Rules.{config_view, fork_field_fault, forks_fa
 ghost use Rattle.cpm_script.specs.Cues.{all_said};
 ghost use Rattle.cpm_store.specs.Files.{Finds};
 ghost use Rattle.cpm_store.specs.Log.{Gave, Missed, LogLeadsBy};
-ghost use Rattle.cpm_batch.specs.Inputs.{AllImages, AllInputs, AreInputs, HasInput, HasSaid, ImageIn, IsImageIn, IsMissed, IsNeedRefusal};
-ghost use Rattle.cpm_batch.specs.Inputs.{IsOpenedInput, IsReadRefusal, IsScriptIn, IsSessionRefusal, ScriptIn, given, image_needs, key_needs, needs_of};
+ghost use Rattle.cpm_batch.specs.Held.{IsImageIn, IsScriptIn};
+ghost use Rattle.cpm_batch.specs.Inputs.{AllImages, AllInputs, AreInputs, HasInput, HasSaid, ImageIn, IsMissed, IsNeedRefusal};
+ghost use Rattle.cpm_batch.specs.Inputs.{IsOpenedInput, IsReadRefusal, IsSessionRefusal, ScriptIn, given, image_needs, key_needs, needs_of};
+ghost use Rattle.cpm_batch.specs.Inputs.{saved_count, start_view};
 ghost use Rattle.cpm_batch.specs.Reads.{AreImagesRead, AreInputsRead, AreRead, IsImageRead, IsInputRead, IsOpenedRead};
 ghost use Rattle.cpm_batch.specs.Sources.{key_source};
 ghost use Rattle.cpm_batch.specs.Reads.{IsSaidRead, IsScriptRead, OnlyRead, StopsAmongNeeds, StopsAmongSessions, StopsReading};
@@ -13,6 +15,8 @@ ghost use Rattle.cpm_batch.specs.Reads.{IsSaidRead, IsScriptRead, OnlyRead, Stop
 use crate::error::ReadError;
 use crate::forked::read_forked;
 use crate::recording::read_replay;
+use crate::restored::read_restored;
+use crate::saved::SavedMachine;
 use crate::source::{KeySource, Replay, key_source};
 use cpm_command_line::shown;
 use cpm_config::{Config, Origin, SessionConfig};
@@ -31,12 +35,27 @@ pub enum Start {
         quota: u16,
         drives: Vec<Image>,
     },
-    /// It is forked from the session at this place, which is opened and stands before it, at this
-    /// count of that one's steps.
+    /// It is forked from the session at this place, which isn't forked and stands before it, after this
+    /// many of the steps that that one executes in the run.
     Forked {
         parent: usize,
         at: u64,
     },
+    /// It goes on from this saving.
+    Restored(SavedMachine),
+}
+
+impl Start {
+    /// The count of steps that it was saved at, where it goes on from a saving; its counts in the run begin
+    /// there. 0 where it doesn't.
+    pub fn saved_count(&self) -> u64
+        ensures { result ≡ saved_count (start_view self.now) }
+    {
+        match self {
+            Start::Restored(saved) => saved.count(),
+            Start::Opened { .. } | Start::Forked { .. } => 0,
+        }
+    }
 }
 
 /// What was read for a session.
@@ -44,6 +63,9 @@ pub enum Start {
 pub struct Input<'a> {
     pub session: &'a SessionConfig,
     pub start: Start,
+    /// The most steps that it executes in the run: those of its configuration without those that it, or
+    /// the session that it is forked from, was saved after.
+    pub steps: u64,
     /// What its own script says, or the recording in place of that.
     pub cues: Vec<Cue>,
 }
@@ -125,7 +147,7 @@ fn read_script<S: Store>(alloc: Global, store: &mut S, name: &str) -> Result<Vec
 }
 
 /// What the script of a session says, or the recording in place of it, if it has one.
-fn read_cues_of<S: Store>(
+pub(crate) fn read_cues_of<S: Store>(
     alloc: Global,
     store: &mut S,
     session: &SessionConfig,
@@ -170,6 +192,7 @@ fn read_opened<'a, S: Store>(
     Ok(Input {
         session,
         start,
+        steps: session.steps,
         cues,
     })
 }
@@ -211,6 +234,9 @@ fn read_session<'a, S: Store>(
             parent.as_str(),
             *at,
         ),
+        Origin::Restored { saving } => {
+            read_restored(alloc, store, session, replays, saving.as_str())
+        }
     }
 }
 
@@ -238,16 +264,20 @@ fn read_sessions<'a, S: Store>(
 }
 
 /// What a configuration needs: the system drive's image, then of each session in order the images of its drives and its key
-/// script, each checked before the next is read. A forked session has its parent's drives, and needs its key script
-/// alone, which is judged as one after the keys that its parent is known to have before the fork: none are known
-/// where a line of the parent's script waits. No file is changed. Its forks must break no rule, which
-/// `Config::fork_fault` tells.
+/// script, each checked before the next is read. One that goes on from a saving needs that in place of the images. A
+/// forked session has its parent's drives, and needs its key script alone, which is judged as one after the keys that
+/// its parent is known to have before the fork: none are known where a line of the parent's script waits. No file is
+/// changed. Its forks must break no rule, which `Config::fork_fault` tells.
+///
+/// The counts of a session that goes on from a saving, and of those that are forked from it, begin at the saving: what it has to execute in the run, and
+/// the counts of its keys.
 ///
 /// A session that is named in `replays` is played by the recording in that file, which is read where its script would be; that is not read. A recording may
 /// have any number of keys, and they don't count for the script of a session that is forked from it. That of a forked session begins at the fork.
 ///
-/// The first fault is answered: `File` where a file can't be read, `Image` or `Script` where it holds neither. `OutOfMemory` comes only
-/// where memory is refused.
+/// The first fault is answered: `File` where a file can't be read, `Image`, `Saving` or `Script` where it holds none; `SavedDrives` where a session
+/// names another number of files for the images of its drives than its saving, or its parent's, has; `ForkedEarly` where one is forked before the count
+/// that its parent was saved at. `OutOfMemory` comes only where memory is refused.
 pub fn read_inputs<'a, S: Store>(
     alloc: Global,
     config: &'a Config,

@@ -6,9 +6,12 @@ mod forked;
 mod input;
 mod output;
 mod recording;
+mod restored;
+mod saved;
 mod source;
 
 pub use error::ReadError;
 pub use input::{Input, Start, read_inputs};
 pub use output::{SessionFiles, outputs_of};
+pub use saved::{SavedMachine, SavingRefusal};
 pub use source::{Replay, key_file};

@@ -1,6 +1,6 @@
 //! What is written after the sessions of a configuration were run, in their order.
 ghost use Rattle.std.specs.Prelude.{◌≡◌, ◌<◌, ◌++◌, ℕ, None, IfOk, OnOk, map, option_map, slice_get, slice_index_or, string_bytes};
-ghost use Rattle.cpm_batch.specs.Outputs.{files_of, files_of_all, image_outputs, left_by, named_bytes, named_image};
+ghost use Rattle.cpm_batch.specs.Outputs.{files_of, files_of_all, image_outputs, left_by, named_bytes, named_image, named_images, named_saving};
 ghost use Rattle.cpm_store.specs.Writes.{named_output};
 
 use cpm_config::SessionConfig;
@@ -18,6 +18,8 @@ pub struct SessionFiles<'a> {
     pub list: Vec<u8>,
     /// Its drives A to D, as far as it had them.
     pub drives: [Option<Image>; 4],
+    /// The bytes of its saving, where it is saved.
+    pub saved: Option<Vec<u8>>,
 }
 
 /// Adds bytes, where a file is named for them.
@@ -85,6 +87,37 @@ fn add_images<'a>(
     Ok(())
 }
 
+/// Adds a saving, where there is one and a file is named for it.
+fn add_saving<'a>(
+    outputs: &mut Vec<Output<'a>>,
+    name: Option<&'a str>,
+    saved: Option<Vec<u8>>,
+) -> Result<(), AllocError>
+    ensures { OnOk result (map named_output outputs.new.items
+        ≡ map named_output outputs.old.items
+        ++ named_saving (option_map (λ n. n.now) name.entry) (option_map (λ v. v.items) saved)) }
+{
+    match saved {
+        Some(bytes) => add_named(outputs, name, bytes),
+        None => Ok(()),
+    }
+}
+
+/// Adds the images of drives, where files are named for them.
+fn add_named_images<'a>(
+    outputs: &mut Vec<Output<'a>>,
+    names: &'a Option<Vec<String>>,
+    drives: [Option<Image>; 4],
+) -> Result<(), AllocError>
+    ensures { OnOk result (map named_output outputs.new.items
+        ≡ map named_output outputs.old.items ++ named_images names.entry.now drives) }
+{
+    match names {
+        Some(names) => add_images(outputs, names.as_slice(), drives),
+        None => Ok(()),
+    }
+}
+
 /// Adds the files of a session.
 fn add_files<'a>(outputs: &mut Vec<Output<'a>>, files: SessionFiles<'a>) -> Result<(), AllocError>
     ensures { OnOk result (map named_output outputs.new.items
@@ -95,17 +128,16 @@ fn add_files<'a>(outputs: &mut Vec<Output<'a>>, files: SessionFiles<'a>) -> Resu
         console,
         list,
         drives,
+        saved,
     } = files;
     add_named(outputs, Some(session.console.as_str()), console)?;
     add_named(outputs, session.list.as_deref(), list)?;
-    match &session.out {
-        Some(names) => add_images(outputs, names.as_slice(), drives),
-        None => Ok(()),
-    }
+    add_named_images(outputs, &session.out, drives)?;
+    add_saving(outputs, session.save.as_deref(), saved)
 }
 
 /// What is written after sessions were run: of each in order its console's text, its list device's where a file is named for it, and the images of its
-/// drives where they are named.
+/// drives and its saving where they are named.
 pub fn outputs_of<'a>(
     alloc: Global,
     sessions: Vec<SessionFiles<'a>>,

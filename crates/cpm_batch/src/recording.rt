@@ -6,7 +6,8 @@ ghost use Rattle.cpm_script.specs.Cues.{all_said};
 ghost use Rattle.cpm_script.specs.Script.{is_script_space};
 ghost use Rattle.cpm_script.specs.declared.cue.Cue.TheVariants.{Key as Timed};
 ghost use Rattle.cpm_store.specs.Log.{LogLeadsBy};
-ghost use Rattle.cpm_batch.specs.Inputs.{IsNeedRefusal, IsRecordingIn, RecordingIn};
+ghost use Rattle.cpm_batch.specs.Held.{IsRecordingIn};
+ghost use Rattle.cpm_batch.specs.Inputs.{IsNeedRefusal, RecordingIn};
 ghost use Rattle.cpm_batch.specs.Reads.{IsRecordingRead, OnlyRead, StopsAmongNeeds};
 ghost use Rattle.cpm_batch.specs.Sources.{IsRecordingFault, IsRecordingOf, are_late, first_counted, is_line_counted};
 

@@ -1,6 +1,7 @@
 -- Checking the image of a drive: what is written, and when it is refused. All of it is own.
 use Rattle.std.specs.Prelude.{◌≡◌, ℕ, List, [], ◌∷◌, ◌++◌, length, None, Ok, Err, chars, codes}
-use Rattle.cpm_batch.specs.Inputs.{IsImage, code_of_reading}
+use Rattle.cpm_batch.specs.Held.{IsImage}
+use Rattle.cpm_batch.specs.Inputs.{code_of_reading}
 use Rattle.cpm_batch.specs.declared.error.ReadError.TheVariants as read
 use Rattle.cpm_command_line.specs.Shown.{shown_of}
 use Rattle.cpm_directory.specs.Directory.{entries_of}

@@ -9,7 +9,7 @@ use Rattle.clap.specs.Walk.{answers_to}
 use Rattle.clap.specs.Faults.{check_fault, entered_fault, fault_of, level_fault}
 use Rattle.clap.specs.declared.builder.value_parser.ValueParser.TheVariants as parser
 use Rattle.clap.proofs.ValueTestLemmas.{accepts-Accepts}
-use Rattle.cpm_command_line.specs.CommandLine.{IsCountIfAny, IsFlag, IsPick, IsWhole, IsWholeAsm, IsWholeCheck, IsWholeCom, IsWholeDebug, IsWholeList, IsWholePlay, IsWholeRun, asm_app, boot_app, check_app, com_app, count_option, debug_app, host_app, list_app, operand, repeated_option, run_app, value_option, words_left_out}
+use Rattle.cpm_command_line.specs.CommandLine.{IsCountIfAny, IsFlag, IsPick, IsWhole, IsWholeAsm, IsWholeCheck, IsWholeDebug, IsWholeList, IsWholePlay, IsWholeRun, IsWholeSaved, asm_app, boot_app, check_app, com_app, count_option, debug_app, host_app, list_app, operand, repeated_option, run_app, saved_app, value_option, word_left_out, words_left_out}
 use Rattle.cpm_flags.specs.declared.regs.Cpu.TheVariants.{I8080, Z80}
 use Rattle.cpm_command_line.proofs.FilledRows.{HasText, IsIn, IsPlain, IsSetting, plain_by_ids, same_bytes}
 use Rattle.cpm_command_line.proofs.LeafRows.{both_given, default_text, flag_in, flag_rule, flag_word, given_first, help_found, help_word, leaf_checked, one_given, text_or_none}
@@ -44,8 +44,14 @@ run_built = leaf run_app.top
 abbrev debug_built : Shape
 debug_built = leaf debug_app.top
 
+abbrev saved_built : Shape
+saved_built = leaf saved_app.top
+
 operand_word : (index : ℕ) (id : Text) → IsSetting (with_index index (filled (operand id)))
 operand_word index id = record { action = inl refl; values = inl refl }
+
+free_word : (index : ℕ) (id : Text) → IsSetting (with_index index (filled (word_left_out id)))
+free_word index id = record { action = inl refl; values = inl refl }
 
 free_words : (index : ℕ) (id : Text) → IsSetting (with_index index (filled (words_left_out id)))
 free_words index id = record { action = inr (inr (inl refl)); values = inl refl }
@@ -61,14 +67,14 @@ repeated_words name = record { action = inr (inr (inl refl)); values = inl refl 
 
 com_plain : IsPlain com_built.rules
 com_plain = plain_by_ids com_built.rules refl
-    (operand_word _ _, (free_words _ _, (flag_word _, (count_word _, (value_word _, (repeated_words _, (repeated_words _, (flag_word _, (value_word _, (flag_word _, (flag_word _, (flag_word _, (flag_word _, (flag_word _, (flag_word _, (value_word _, (count_word _, (value_word _, (repeated_words _, (value_word _, (help_word, tt)))))))))))))))))))))
+    (free_word _ _, (free_words _ _, (flag_word _, (count_word _, (value_word _, (repeated_words _, (repeated_words _, (flag_word _, (value_word _, (flag_word _, (flag_word _, (flag_word _, (flag_word _, (flag_word _, (flag_word _, (value_word _, (count_word _, (value_word _, (repeated_words _, (value_word _, (value_word _, (value_word _, (help_word, tt)))))))))))))))))))))))
 
 com_shorts : HasHelpShorts com_built.rules
 com_shorts x a is = help_found x a is
 
 boot_plain : IsPlain boot_built.rules
 boot_plain = plain_by_ids boot_built.rules refl
-    (free_words _ _, (flag_word _, (count_word _, (value_word _, (repeated_words _, (flag_word _, (value_word _, (flag_word _, (flag_word _, (flag_word _, (flag_word _, (flag_word _, (flag_word _, (value_word _, (count_word _, (value_word _, (repeated_words _, (value_word _, (help_word, tt)))))))))))))))))))
+    (free_words _ _, (flag_word _, (count_word _, (value_word _, (repeated_words _, (flag_word _, (value_word _, (flag_word _, (flag_word _, (flag_word _, (flag_word _, (flag_word _, (flag_word _, (value_word _, (count_word _, (value_word _, (repeated_words _, (value_word _, (value_word _, (value_word _, (help_word, tt)))))))))))))))))))))
 
 boot_shorts : HasHelpShorts boot_built.rules
 boot_shorts x a is = help_found x a is
@@ -103,7 +109,8 @@ last_rules =
     filled (repeated_option (codes "out-disk")) ∷ flag_rule (codes "keyboard") ∷ filled (value_option (codes "record")) ∷ flag_rule (codes "progress")
     ∷ flag_rule (codes "stop-idle") ∷ flag_rule (codes "raw") ∷ flag_rule (codes "quiet") ∷ flag_rule (codes "partial") ∷ flag_rule (codes "status")
     ∷ filled (value_option (codes "replay")) ∷ count_rule (codes "pace") ∷ filled (value_option (codes "system"))
-    ∷ filled (repeated_option (codes "out-folder")) ∷ filled (value_option (codes "list")) ∷ filled help_rule ∷ []
+    ∷ filled (repeated_option (codes "out-folder")) ∷ filled (value_option (codes "list")) ∷ filled (value_option (codes "save"))
+    ∷ filled (value_option (codes "from")) ∷ filled help_rule ∷ []
 
 -- words with no fault give a command with these arguments the whole entries of them
 play_whole : (s : Shape) → IsPlain s.rules → HasHelpShorts s.rules → IsIn s.rules z80_rule → IsIn s.rules (count_rule (codes "steps"))
@@ -128,14 +135,9 @@ play_whole s plain shorts z80 steps last words e =
     given : (name : Text) → IsIn last_rules (flag_rule name) → IsFlag (one_of name (rows_after s.rules [] words))
     given name among = flag_in name (rows_after s.rules [] words) (default_text s plain shorts words e (flag_rule name) (last (flag_rule name) among) tt)
 
-com_whole : (words : List Text) → level_fault com_built [] nothing_held words false [] ≡ [] → IsWholeCom (rows_after com_built.rules [] words)
-com_whole words e =
-    let file = one_given (is_given (codes "file") (rows_after com_built.rules [] words)) (leaf_checked com_built com_plain com_shorts words e) in
-    record {
-      file = given_first com_built com_plain com_shorts words e file_rule (inl refl) file;
-      play = play_whole com_built com_plain com_shorts (inr (inr (inl refl))) (inr (inr (inr (inl refl))))
-          (λ a among. inr (inr (inr (inr (inr (inr among)))))) words e;
-    }
+com_whole : (words : List Text) → level_fault com_built [] nothing_held words false [] ≡ [] → IsWholePlay (rows_after com_built.rules [] words)
+com_whole words e = play_whole com_built com_plain com_shorts (inr (inr (inl refl))) (inr (inr (inr (inl refl))))
+    (λ a among. inr (inr (inr (inr (inr (inr among)))))) words e
 
 boot_whole : (words : List Text) → level_fault boot_built [] nothing_held words false [] ≡ [] → IsWholePlay (rows_after boot_built.rules [] words)
 boot_whole words e = play_whole boot_built boot_plain boot_shorts (inr (inl refl)) (inr (inr (inl refl))) (λ a among. inr (inr (inr (inr among)))) words e
@@ -224,7 +226,7 @@ run_whole words e =
     }
 
 debug_plain : IsPlain debug_built.rules
-debug_plain = plain_by_ids debug_built.rules refl (operand_word _ _, (flag_word _, (value_word _, (help_word, tt))))
+debug_plain = plain_by_ids debug_built.rules refl (free_word _ _, (flag_word _, (value_word _, (value_word _, (value_word _, (help_word, tt))))))
 
 debug_shorts : HasHelpShorts debug_built.rules
 debug_shorts x a is = help_found x a is
@@ -232,18 +234,27 @@ debug_shorts x a is = help_found x a is
 debug_whole : (words : List Text) → level_fault debug_built [] nothing_held words false [] ≡ [] → IsWholeDebug (rows_after debug_built.rules [] words)
 debug_whole words e =
     let rows = rows_after debug_built.rules [] words in
-    let file = one_given (is_given (codes "file") rows) (leaf_checked debug_built debug_plain debug_shorts words e) in
     record {
-      file = given_first debug_built debug_plain debug_shorts words e file_rule (inl refl) file;
       z80 = pick_of rows (default_text debug_built debug_plain debug_shorts words e z80_rule (inr (inl refl)) tt);
     }
+
+saved_plain : IsPlain saved_built.rules
+saved_plain = plain_by_ids saved_built.rules refl (operand_word _ _, (help_word, tt))
+
+saved_shorts : HasHelpShorts saved_built.rules
+saved_shorts x a is = help_found x a is
+
+saved_whole : (words : List Text) → level_fault saved_built [] nothing_held words false [] ≡ [] → IsWholeSaved (rows_after saved_built.rules [] words)
+saved_whole words e =
+    let file = one_given (is_given (codes "file") (rows_after saved_built.rules [] words)) (leaf_checked saved_built saved_plain saved_shorts words e) in
+    record { file = given_first saved_built saved_plain saved_shorts words e file_rule (inl refl) file }
 
 -- ---- the whole command line
 
 -- the subcommand that a word names, by whether it is the name of each
-abbrev found : Bool → Bool → Bool → Bool → Bool → Bool → Bool → Option Shape
-found a t b d k r g = cond a (Some com_built) (cond t (Some boot_built) (cond b (Some asm_built) (cond d (Some list_built)
-    (cond k (Some check_built) (cond r (Some run_built) (cond g (Some debug_built) None))))))
+abbrev found : Bool → Bool → Bool → Bool → Bool → Bool → Bool → Bool → Option Shape
+found a t b d k r g v = cond a (Some com_built) (cond t (Some boot_built) (cond b (Some asm_built) (cond d (Some list_built)
+    (cond k (Some check_built) (cond r (Some run_built) (cond g (Some debug_built) (cond v (Some saved_built) None)))))))
 
 -- words with no fault name a subcommand, and give it whole entries
 pub faultless_whole : (words : List Text) → fault_of host_app words ≡ [] → IsWhole (subcommand_of host_app words)
@@ -257,19 +268,21 @@ faultless_whole words e =
     has true h = refl
     has false h = absurd (let bad : ⊥ = cc in bad)
 
-    named : (p : Text × List Text) (a t b d k r g : Bool) → is_some (option_map (λ s. rows_at s p.1) (found a t b d k r g)) ≡ true
-        → option_map_or (λ s. level_fault s [] nothing_held p.1 false []) (found a t b d k r g) [] ≡ []
-        → IsWhole (option_map (λ s. rows_at s p.1) (found a t b d k r g))
-    named p true t b d k r g some h = inl (refl, com_whole p.1 h)
-    named p false true b d k r g some h = inr (inl (refl, boot_whole p.1 h))
-    named p false false true d k r g some h = inr (inr (inl (refl, asm_whole p.1 h)))
-    named p false false false true k r g some h = inr (inr (inr (inl (refl, list_whole p.1 h))))
-    named p false false false false true r g some h = inr (inr (inr (inr (inl (refl, check_whole p.1 h)))))
-    named p false false false false false true g some h = inr (inr (inr (inr (inr (inl (refl, run_whole p.1 h))))))
-    named p false false false false false false true some h = inr (inr (inr (inr (inr (inr (refl, debug_whole p.1 h))))))
-    named p false false false false false false false some h = absurd (true≢false (sym some))
+    named : (p : Text × List Text) (a t b d k r g v : Bool) → is_some (option_map (λ s. rows_at s p.1) (found a t b d k r g v)) ≡ true
+        → option_map_or (λ s. level_fault s [] nothing_held p.1 false []) (found a t b d k r g v) [] ≡ []
+        → IsWhole (option_map (λ s. rows_at s p.1) (found a t b d k r g v))
+    named p true t b d k r g v some h = inl (refl, com_whole p.1 h)
+    named p false true b d k r g v some h = inr (inl (refl, boot_whole p.1 h))
+    named p false false true d k r g v some h = inr (inr (inl (refl, asm_whole p.1 h)))
+    named p false false false true k r g v some h = inr (inr (inr (inl (refl, list_whole p.1 h))))
+    named p false false false false true r g v some h = inr (inr (inr (inr (inl (refl, check_whole p.1 h)))))
+    named p false false false false false true g v some h = inr (inr (inr (inr (inr (inl (refl, run_whole p.1 h))))))
+    named p false false false false false false true v some h = inr (inr (inr (inr (inr (inr (inl (refl, debug_whole p.1 h)))))))
+    named p false false false false false false false true some h = inr (inr (inr (inr (inr (inr (inr (refl, saved_whole p.1 h)))))))
+    named p false false false false false false false false some h = absurd (true≢false (sym some))
 
     go : (at : Option (Text × List Text)) → is_some (entered host_built at) ≡ true → entered_fault host_built at ≡ [] → IsWhole (entered host_built at)
     go None some h = absurd (true≢false (sym some))
     go (Some p) some h = named p (answers_to p.0 (label_of com_built)) (answers_to p.0 (label_of boot_built)) (answers_to p.0 (label_of asm_built))
-        (answers_to p.0 (label_of list_built)) (answers_to p.0 (label_of check_built)) (answers_to p.0 (label_of run_built)) (answers_to p.0 (label_of debug_built)) some h
+        (answers_to p.0 (label_of list_built)) (answers_to p.0 (label_of check_built)) (answers_to p.0 (label_of run_built)) (answers_to p.0 (label_of debug_built))
+        (answers_to p.0 (label_of saved_built)) some h

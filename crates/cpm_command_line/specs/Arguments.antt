@@ -3,14 +3,15 @@ use Rattle.std.specs.Prelude.{[], ◌∷◌, List}
 use Rattle.std.specs.Borrow.{Bor}
 use Rattle.clap.specs.Words.{App, Rule, Text, new_app, with_rule, with_subcommand}
 use Rattle.cpm_command_line.specs.declared.build.Argument.{Argument}
-use Rattle.cpm_command_line.specs.declared.build.Argument.TheVariants.{Count, Flag, User, UserIfAny, Value, Values, Word, Words, WordsIfAny}
-use Rattle.cpm_command_line.specs.CommandLine.{count_option, flag, operand, repeated_option, value_option, words_left_out}
+use Rattle.cpm_command_line.specs.declared.build.Argument.TheVariants.{Count, Flag, User, UserIfAny, Value, Values, Word, WordIfAny, Words, WordsIfAny}
+use Rattle.cpm_command_line.specs.CommandLine.{count_option, flag, operand, repeated_option, value_option, word_left_out, words_left_out}
 use Rattle.cpm_command_line.specs.DiskLine.{operands, user_if_any_option, user_option}
 
 -- own: the rule of an argument
 abbrev pub rule_for : Argument → Rule
 rule_for (Word id shown) = operand id.now
 rule_for (Words id shown) = operands id.now
+rule_for (WordIfAny id shown) = word_left_out id.now
 rule_for (WordsIfAny id shown) = words_left_out id.now
 rule_for (Flag name) = flag name.now
 rule_for (Value name shown) = value_option name.now

@@ -15,11 +15,15 @@ use Rattle.cpm_flags.specs.declared.regs.Cpu.{Cpu}
 use Rattle.cpm_flags.specs.declared.regs.Cpu.TheVariants.{I8080, Z80}
 use Rattle.cpm_command_line.specs.declared.task.PlayTask.{PlayTask}
 use Rattle.cpm_command_line.specs.declared.task.Task.{Task}
-use Rattle.cpm_command_line.specs.declared.task.Task.TheVariants.{Asm, Boot, Check, Com, Debug, Disk, Help, List as Listing, Run}
+use Rattle.cpm_command_line.specs.declared.task.Task.TheVariants.{Asm, Boot, Check, Com, Debug, Disk, Help, List as Listing, Run, Saved}
 
 -- a word that has to be there, with a name in usage
 abbrev pub operand : List ℕ → Rule
 operand id = record (new_rule id) { required = true; value_names = 1 }
+
+-- own: a word that may be left out, with a name in usage
+abbrev pub word_left_out : List ℕ → Rule
+word_left_out id = record (new_rule id) { value_names = 1 }
 
 -- own: any number of words, which may be left out, with a name in usage
 abbrev pub words_left_out : List ℕ → Rule
@@ -55,16 +59,18 @@ with_playing a = with_rule (with_rule (with_rule (with_rule (with_rule (with_rul
     (repeated_option (codes "out-disk"))) (flag (codes "keyboard"))) (value_option (codes "record")))
     (flag (codes "progress"))) (flag (codes "stop-idle"))) (flag (codes "raw"))) (flag (codes "quiet"))
 
--- own: `[--partial] [--status] [--replay RECORDING] [--pace N] [--system IMAGE] [--out-folder FOLDER].. [--list FILE]` after these
+-- own: `[--partial] [--status] [--replay RECORDING] [--pace N] [--system IMAGE] [--out-folder FOLDER].. [--list FILE] [--save FILE]
+-- [--from FILE]` after these
 abbrev pub with_ending : App → App
-with_ending a = with_rule (with_rule (with_rule (with_rule (with_rule (with_rule (with_rule a
+with_ending a = with_rule (with_rule (with_rule (with_rule (with_rule (with_rule (with_rule (with_rule (with_rule a
     (flag (codes "partial"))) (flag (codes "status"))) (value_option (codes "replay"))) (count_option (codes "pace")))
-    (value_option (codes "system"))) (repeated_option (codes "out-folder"))) (value_option (codes "list"))
+    (value_option (codes "system"))) (repeated_option (codes "out-folder"))) (value_option (codes "list")))
+    (value_option (codes "save"))) (value_option (codes "from"))
 
--- own: `com FILE [TAIL..] [--z80] [--steps N] [--keys SCRIPT] [--disk IMAGE]..` and the options after these
+-- own: `com [FILE [TAIL..]] [--z80] [--steps N] [--keys SCRIPT] [--disk IMAGE]..` and the options after these
 abbrev pub com_app : App
 com_app = with_ending (with_playing (with_rule (with_processor (with_rule (with_rule (new_app (codes "com"))
-    (operand (codes "file"))) (words_left_out (codes "tail")))) (repeated_option (codes "disk"))))
+    (word_left_out (codes "file"))) (words_left_out (codes "tail")))) (repeated_option (codes "disk"))))
 
 -- own: `boot [PLACE..] [--z80] [--steps N] [--keys SCRIPT]` and the options after these
 abbrev pub boot_app : App
@@ -91,10 +97,14 @@ run_app = with_rule (with_rule (with_rule (with_rule (with_rule (with_rule (with
     (flag (codes "stop-idle"))) (value_option (codes "record-all"))) (flag (codes "raw"))) (repeated_option (codes "within")))
     (flag (codes "outputs-here"))) (count_option (codes "pace"))) (repeated_option (codes "replay"))
 
--- own: `debug FILE [--z80] [--list FILE]`
+-- own: `debug [FILE] [--z80] [--list FILE] [--from FILE] [--system IMAGE]`
 abbrev pub debug_app : App
-debug_app = with_rule (with_rule (with_rule (new_app (codes "debug"))
-    (operand (codes "file"))) (flag (codes "z80"))) (value_option (codes "list"))
+debug_app = with_rule (with_rule (with_rule (with_rule (with_rule (new_app (codes "debug"))
+    (word_left_out (codes "file"))) (flag (codes "z80"))) (value_option (codes "list"))) (value_option (codes "from"))) (value_option (codes "system"))
+
+-- own: `saved FILE`
+abbrev pub saved_app : App
+saved_app = with_rule (new_app (codes "saved")) (operand (codes "file"))
 
 -- a command without its subcommands: it wants one, and has no command `help` of clap's
 abbrev pub top_app : List ℕ → App
@@ -107,8 +117,8 @@ top_app name = record (new_app name) {
 
 -- the program's command, but for `disk`, which has commands of its own
 abbrev pub host_app : App
-host_app = with_subcommand (with_subcommand (with_subcommand (with_subcommand (with_subcommand (with_subcommand (with_subcommand
-    (top_app (codes "cpmhost")) com_app.top) boot_app.top) asm_app.top) list_app.top) check_app.top) run_app.top) debug_app.top
+host_app = with_subcommand (with_subcommand (with_subcommand (with_subcommand (with_subcommand (with_subcommand (with_subcommand (with_subcommand
+    (top_app (codes "cpmhost")) com_app.top) boot_app.top) asm_app.top) list_app.top) check_app.top) run_app.top) debug_app.top) saved_app.top
 
 -- an argument of clap with this rule, which is the command's own
 pub record IsArgumentOf (r : Rule) (a : Arg) : Type 0 where
@@ -162,6 +172,8 @@ HasPlayEntries rows task =
     × (first_of (codes "system") rows ≡ option_map (λ t. t.now) task.system)
     × ReadsWordsIfAny (all_of (codes "out-folder") rows) task.out_folders.items
     × (first_of (codes "list") rows ≡ option_map (λ t. t.now) task.list)
+    × (first_of (codes "save") rows ≡ option_map (λ t. t.now) task.save)
+    × (first_of (codes "from") rows ≡ option_map (λ t. t.now) task.from)
 
 -- own: the keys of `boot` are typed where `--keyboard` is given, and where neither `--keys` nor `--replay` is
 pub record IsTyped (rows : List Row) (is_live : Bool) : Type 0 where
@@ -172,7 +184,7 @@ pub record IsTyped (rows : List Row) (is_live : Bool) : Type 0 where
 -- the task has what the entries of the subcommand of this name give
 abbrev pub HasEntriesOf : Text × List Row → Task → Type 0
 HasEntriesOf given (Com task) =
-    (given.0 ≡ codes "com") × IsSomeAnd task.file (λ file. first_of (codes "file") given.1 ≡ Some file.now)
+    (given.0 ≡ codes "com") × (first_of (codes "file") given.1 ≡ option_map (λ t. t.now) task.file)
     × ReadsWordsIfAny (all_of (codes "tail") given.1) task.tail.items
     × ReadsWordsIfAny (all_of (codes "disk") given.1) task.drives.items
     × (one_of (codes "keyboard") given.1 ≡ Some (bool_text task.is_live))
@@ -203,10 +215,14 @@ HasEntriesOf given (Run task) =
     × (one_of (codes "outputs-here") given.1 ≡ Some (bool_text task.has_outputs_here))
     × ReadsCountIfAny (one_of (codes "pace") given.1) task.pace
     × ReadsWordsIfAny (all_of (codes "replay") given.1) task.replays.items
-HasEntriesOf given (Debug file cpu list) =
-    (given.0 ≡ codes "debug") × (first_of (codes "file") given.1 ≡ Some file.now)
-    × (one_of (codes "z80") given.1 ≡ Some (flag_text cpu))
-    × (first_of (codes "list") given.1 ≡ option_map (λ t. t.now) list)
+HasEntriesOf given (Debug task) =
+    (given.0 ≡ codes "debug") × (first_of (codes "file") given.1 ≡ option_map (λ t. t.now) task.file)
+    × (one_of (codes "z80") given.1 ≡ Some (flag_text task.cpu))
+    × (first_of (codes "list") given.1 ≡ option_map (λ t. t.now) task.list)
+    × (first_of (codes "from") given.1 ≡ option_map (λ t. t.now) task.from)
+    × (first_of (codes "system") given.1 ≡ option_map (λ t. t.now) task.system)
+HasEntriesOf given (Saved file) =
+    (given.0 ≡ codes "saved") × (first_of (codes "file") given.1 ≡ Some file.now)
 HasEntriesOf given (Disk task) = ⊥
 HasEntriesOf given (Help page) = ⊥
 
@@ -233,7 +249,7 @@ pub record IsCount (text : Option Text) : Type 0 where
 abbrev pub IsCountIfAny : Option Text → Type 0
 IsCountIfAny text = (text ≡ None) ⊎ IsCount text
 
--- own: the entries that `com` and `boot` have in common are whole
+-- own: the entries of `com` or of `boot` are whole
 pub record IsWholePlay (rows : List Row) : Type 0 where
   pub z80 : IsPick (one_of (codes "z80") rows)
   pub steps : IsCountIfAny (one_of (codes "steps") rows)
@@ -245,11 +261,6 @@ pub record IsWholePlay (rows : List Row) : Type 0 where
   pub partial : IsFlag (one_of (codes "partial") rows)
   pub status : IsFlag (one_of (codes "status") rows)
   pub pace : IsCountIfAny (one_of (codes "pace") rows)
-
--- the entries of `com` are whole
-pub record IsWholeCom (rows : List Row) : Type 0 where
-  pub file : IsSome (first_of (codes "file") rows)
-  pub play : IsWholePlay rows
 
 -- the entries of `asm` are whole
 pub record IsWholeAsm (rows : List Row) : Type 0 where
@@ -276,14 +287,18 @@ pub record IsWholeRun (rows : List Row) : Type 0 where
 
 -- the entries of `debug` are whole
 pub record IsWholeDebug (rows : List Row) : Type 0 where
-  pub file : IsSome (first_of (codes "file") rows)
   pub z80 : IsPick (one_of (codes "z80") rows)
+
+-- own: the entries of `saved` are whole
+pub record IsWholeSaved (rows : List Row) : Type 0 where
+  pub file : IsSome (first_of (codes "file") rows)
 
 -- the entries are whole as those of the subcommand of this name
 abbrev pub IsWholeOf : Text × List Row → Type 0
-IsWholeOf p = ((p.0 ≡ codes "com") × IsWholeCom p.1) ⊎ ((p.0 ≡ codes "boot") × IsWholePlay p.1) ⊎ ((p.0 ≡ codes "asm") × IsWholeAsm p.1)
+IsWholeOf p = ((p.0 ≡ codes "com") × IsWholePlay p.1) ⊎ ((p.0 ≡ codes "boot") × IsWholePlay p.1) ⊎ ((p.0 ≡ codes "asm") × IsWholeAsm p.1)
     ⊎ ((p.0 ≡ codes "list") × IsWholeList p.1) ⊎ ((p.0 ≡ codes "check") × IsWholeCheck p.1)
     ⊎ ((p.0 ≡ codes "run") × IsWholeRun p.1) ⊎ ((p.0 ≡ codes "debug") × IsWholeDebug p.1)
+    ⊎ ((p.0 ≡ codes "saved") × IsWholeSaved p.1)
 
 -- the subcommand is one of the program's, and its entries are whole
 abbrev pub IsWhole : Option (Text × List Row) → Type 0

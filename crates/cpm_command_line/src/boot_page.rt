@@ -6,7 +6,7 @@ Usage: cpmhost boot [PLACE..] [--z80] [--steps N] [--keys SCRIPT]
        [--out-disk IMAGE].. [--keyboard] [--record SCRIPT] [--progress]
        [--stop-idle] [--raw] [--quiet] [--partial] [--status]
        [--replay RECORDING] [--pace N] [--system IMAGE]
-       [--out-folder FOLDER].. [--list FILE]
+       [--out-folder FOLDER].. [--list FILE] [--save FILE] [--from FILE]
 
 Start CP/M at its prompt A>. The first PLACE is in drive A, and further ones are
 in B, C and D. A PLACE is the image of a disk, or a folder, whose files are
@@ -22,7 +22,7 @@ Options:
               A step is an instruction, or a part of a system call. Without
               --steps there is a limit with --keys or --replay, of 1,000,000
               steps from the last key on that comes by its count, but none with
-              --keyboard, --out-disk, --out-folder, --list or --record
+              --keyboard, --out-disk, --out-folder, --list, --save or --record
   --keys SCRIPT
               press the keys of SCRIPT, which is written as for com
   --replay RECORDING
@@ -46,6 +46,15 @@ Options:
               of users other than 0, which are told
   --list FILE
               write what is sent to the printer to FILE
+  --save FILE
+              write the machine, as it is at the end, to FILE: its registers,
+              memory, drives, and the keys that wait. --from goes on with it.
+              The disks that --out-disk names are written all the same
+  --from FILE
+              go on with the machine that --save wrote to FILE, in place of a
+              program, a processor and drives. The system drive must be the
+              same. --steps and the counts of keys begin at 0 where it was
+              saved
   --partial   write what --out-disk and --out-folder name also where CP/M was
               cut off by its limit of steps
   --progress  report on standard error how much of the steps is done. It goes

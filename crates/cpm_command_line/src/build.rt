@@ -3,7 +3,7 @@ ghost use Rattle.std.specs.Prelude.{IfOk};
 ghost use Rattle.clap.specs.Words.{App, new_app, with_subcommand};
 ghost use Rattle.cpm_command_line.specs.Arguments.{app_for, rule_for, with_arguments, with_commands};
 ghost use Rattle.cpm_command_line.specs.CommandLine.{IsArgumentOf, IsCommandOf, count_option, flag, host_app, operand};
-ghost use Rattle.cpm_command_line.specs.CommandLine.{repeated_option, top_app, value_option, words_left_out};
+ghost use Rattle.cpm_command_line.specs.CommandLine.{repeated_option, top_app, value_option, word_left_out, words_left_out};
 ghost use Rattle.cpm_command_line.specs.DiskLine.{disk_app, operands, user_if_any_option, user_option};
 
 use clap::{Arg, ArgAction, Command};
@@ -16,6 +16,8 @@ pub(crate) enum Argument {
     Word(&'static str, &'static str),
     /// A word that has to be there, and further ones.
     Words(&'static str, &'static str),
+    /// A word that may be left out.
+    WordIfAny(&'static str, &'static str),
     /// Any number of words, which may be left out.
     WordsIfAny(&'static str, &'static str),
     /// A flag of this name.
@@ -36,11 +38,11 @@ pub(crate) enum Argument {
 type NamedCommand = (&'static str, &'static [Argument]);
 
 /// The program's commands, but for `disk`.
-const HOST_COMMANDS: [NamedCommand; 7] = [
+const HOST_COMMANDS: [NamedCommand; 8] = [
     (
         "com",
         &[
-            Argument::Word("file", "FILE"),
+            Argument::WordIfAny("file", "FILE"),
             Argument::WordsIfAny("tail", "TAIL"),
             Argument::Flag("z80"),
             Argument::Count("steps"),
@@ -60,6 +62,8 @@ const HOST_COMMANDS: [NamedCommand; 7] = [
             Argument::Value("system", "IMAGE"),
             Argument::Values("out-folder", "FOLDER"),
             Argument::Value("list", "FILE"),
+            Argument::Value("save", "FILE"),
+            Argument::Value("from", "FILE"),
         ],
     ),
     (
@@ -83,6 +87,8 @@ const HOST_COMMANDS: [NamedCommand; 7] = [
             Argument::Value("system", "IMAGE"),
             Argument::Values("out-folder", "FOLDER"),
             Argument::Value("list", "FILE"),
+            Argument::Value("save", "FILE"),
+            Argument::Value("from", "FILE"),
         ],
     ),
     (
@@ -117,11 +123,14 @@ const HOST_COMMANDS: [NamedCommand; 7] = [
     (
         "debug",
         &[
-            Argument::Word("file", "FILE"),
+            Argument::WordIfAny("file", "FILE"),
             Argument::Flag("z80"),
             Argument::Value("list", "FILE"),
+            Argument::Value("from", "FILE"),
+            Argument::Value("system", "IMAGE"),
         ],
     ),
+    ("saved", &[Argument::Word("file", "FILE")]),
 ];
 
 /// The commands of `disk`.
@@ -189,11 +198,18 @@ fn required_words<'a>(alloc: Global, id: &'a str, shown: &'a str) -> Arg<'a>
     required_word(alloc, id, shown).num_args(1..)
 }
 
+/// A word that may be left out.
+fn optional_word<'a>(alloc: Global, id: &'a str, shown: &'a str) -> Arg<'a>
+    ensures { IsArgumentOf (word_left_out id.now) result }
+{
+    Arg::new(alloc, id).value_name(shown)
+}
+
 /// Any number of words, which may be left out.
 fn optional_words<'a>(alloc: Global, id: &'a str, shown: &'a str) -> Arg<'a>
     ensures { IsArgumentOf (words_left_out id.now) result }
 {
-    Arg::new(alloc, id).value_name(shown).num_args(1..)
+    optional_word(alloc, id, shown).num_args(1..)
 }
 
 /// A flag of this name.
@@ -245,6 +261,7 @@ fn argument_of<'a>(alloc: Global, argument: Argument) -> Arg<'a>
     match argument {
         Argument::Word(id, shown) => required_word(alloc, id, shown),
         Argument::Words(id, shown) => required_words(alloc, id, shown),
+        Argument::WordIfAny(id, shown) => optional_word(alloc, id, shown),
         Argument::WordsIfAny(id, shown) => optional_words(alloc, id, shown),
         Argument::Flag(name) => flag_argument(alloc, name),
         Argument::Value(name, shown) => value_argument(alloc, name, shown),

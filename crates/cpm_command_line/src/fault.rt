@@ -51,6 +51,21 @@ pub enum UsageFault {
     /// An option was given twice.
     #[error("the argument '{0}' was given twice")]
     GivenTwice(ShownWord),
+    /// There is neither a program nor a saved machine.
+    #[error("the argument <FILE> is missing")]
+    NoProgram,
+    /// A saved machine is to go on, and a program, a processor or drives are given too.
+    #[error("'--from' goes on with a saved machine, which has its program, its processor and its drives; leave out FILE, '--z80' and '--disk'")]
+    FromWithStart,
+    /// The same, where the drives are given as places.
+    #[error("'--from' goes on with a saved machine, which has its program, its processor and its drives; leave out PLACE and '--z80'")]
+    FromWithPlace,
+    /// A saved machine is to be debugged, and a program or a processor is given too.
+    #[error("'--from' debugs a saved machine, which has its program and its processor; leave out FILE and '--z80'")]
+    FromWithProgram,
+    /// A system drive is given to a program that is debugged, whose own is blank.
+    #[error("'--system' needs '--from'")]
+    SystemWithoutFrom,
     /// The keys of a program are to be recorded, and come from nowhere.
     #[error("'--record' takes the keys of '--keyboard', '--keys' or '--replay'; give one of these with it")]
     RecordAlone,

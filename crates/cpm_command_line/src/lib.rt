@@ -16,5 +16,5 @@ mod usage;
 pub use fault::{ShownWord, UsageError, UsageFault, UsageRefusal, shown, shown_line};
 pub use pages::{page_line, page_text};
 pub use read::command;
-pub use task::{DiskTask, PlayTask, RunTask, Task};
+pub use task::{DebugTask, DiskTask, PlayTask, RunTask, Task};
 pub use usage::{Page, VERSION, asks_version};

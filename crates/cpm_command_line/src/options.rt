@@ -1,10 +1,12 @@
 //! Options that don't go together, in a task that the reader of command lines takes.
 ghost use Rattle.std.specs.Prelude.{◌≡◌};
-ghost use Rattle.cpm_command_line.specs.Options.{fault_of_boot, fault_of_com, fault_of_play, fault_of_run};
-ghost use Rattle.cpm_command_line.specs.Options.{is_zero_pace, task_fault};
+ghost use Rattle.cpm_command_line.specs.Options.{fault_of_boot, fault_of_com, fault_of_debug, fault_of_play, fault_of_run};
+ghost use Rattle.cpm_command_line.specs.Options.{fault_of_folders, fault_of_outs};
+ghost use Rattle.cpm_command_line.specs.Options.{has_start, is_z80, is_zero_pace, task_fault, written_at_most};
 
 use crate::fault::UsageFault;
-use crate::task::{PlayTask, RunTask, Task};
+use crate::task::{DebugTask, PlayTask, RunTask, Task};
+use cpm_flags::Cpu;
 
 /// How many drives can have an image: A to D.
 const DRIVES: usize = 4;
@@ -16,6 +18,52 @@ fn is_zero_pace(pace: Option<u64>) -> bool
     match pace {
         Some(n) => n == 0,
         None => false,
+    }
+}
+
+/// Whether a processor is the Z80.
+fn is_z80(cpu: Cpu) -> bool
+    ensures { result ≡ is_z80 cpu }
+{
+    match cpu {
+        Cpu::I8080 => false,
+        Cpu::Z80 => true,
+    }
+}
+
+/// Whether something was given that a saved machine has of its own: a program, the Z80 or drives.
+fn has_start(task: &PlayTask<'_>) -> bool
+    ensures { result ≡ has_start task.now }
+{
+    task.file.is_some() || is_z80(task.cpu) || !task.drives.is_empty()
+}
+
+/// How many drives can be written at most, where a machine that begins anew has this many. How many a saved one has isn't known yet.
+fn written_at_most(task: &PlayTask<'_>, drives: usize) -> usize
+    ensures { result ≡ written_at_most task.now drives }
+{
+    if task.from.is_some() { DRIVES } else { drives }
+}
+
+/// What is wrong with too many of `--out-disk` in `com`: each wants a `--disk`, unless it goes on from a saved machine.
+fn out_fault(goes_on: bool) -> UsageFault
+    ensures { result ≡ fault_of_outs goes_on }
+{
+    if goes_on {
+        UsageFault::OutWithoutDrive
+    } else {
+        UsageFault::OutWithoutDisk
+    }
+}
+
+/// What is wrong with too many of `--out-folder` in `com`.
+fn folder_fault(goes_on: bool) -> UsageFault
+    ensures { result ≡ fault_of_folders goes_on }
+{
+    if goes_on {
+        UsageFault::FolderWithoutDrive
+    } else {
+        UsageFault::FolderWithoutDisk
     }
 }
 
@@ -39,16 +87,21 @@ fn com_fault(task: &PlayTask<'_>) -> Option<UsageFault>
     ensures { result ≡ fault_of_com task.now }
 {
     let has_script = task.keys.is_some() || task.replay.is_some();
-    if task.record.is_some() && !task.is_live && !has_script {
+    let most = written_at_most(task, task.drives.len());
+    if task.file.is_none() && task.from.is_none() {
+        Some(UsageFault::NoProgram)
+    } else if task.from.is_some() && has_start(task) {
+        Some(UsageFault::FromWithStart)
+    } else if task.record.is_some() && !task.is_live && !has_script {
         Some(UsageFault::RecordAlone)
     } else if task.keys.is_some() && task.replay.is_some() {
         Some(UsageFault::TwoScripts)
     } else if task.drives.len() > DRIVES {
         Some(UsageFault::TooManyDisks)
-    } else if task.outs.len() > task.drives.len() {
-        Some(UsageFault::OutWithoutDisk)
-    } else if task.out_folders.len() > task.drives.len() {
-        Some(UsageFault::FolderWithoutDisk)
+    } else if task.outs.len() > most {
+        Some(out_fault(task.from.is_some()))
+    } else if task.out_folders.len() > most {
+        Some(folder_fault(task.from.is_some()))
     } else {
         play_fault(task, UsageFault::ProgressAtKeyboard)
     }
@@ -58,13 +111,16 @@ fn com_fault(task: &PlayTask<'_>) -> Option<UsageFault>
 fn boot_fault(task: &PlayTask<'_>) -> Option<UsageFault>
     ensures { result ≡ fault_of_boot task.now }
 {
-    if task.keys.is_some() && task.replay.is_some() {
+    let most = written_at_most(task, task.drives.len().max(1));
+    if task.from.is_some() && has_start(task) {
+        Some(UsageFault::FromWithPlace)
+    } else if task.keys.is_some() && task.replay.is_some() {
         Some(UsageFault::TwoScripts)
     } else if task.drives.len() > DRIVES {
         Some(UsageFault::TooManyPlaces)
-    } else if task.outs.len() > task.drives.len().max(1) {
+    } else if task.outs.len() > most {
         Some(UsageFault::OutWithoutDrive)
-    } else if task.out_folders.len() > task.drives.len().max(1) {
+    } else if task.out_folders.len() > most {
         Some(UsageFault::FolderWithoutDrive)
     } else {
         play_fault(task, UsageFault::ProgressAtPrompt)
@@ -88,6 +144,21 @@ fn run_fault(task: &RunTask<'_>) -> Option<UsageFault>
     }
 }
 
+/// What is wrong first with the words and the options of `debug`.
+fn debug_fault(task: &DebugTask<'_>) -> Option<UsageFault>
+    ensures { result ≡ fault_of_debug task.now }
+{
+    if task.file.is_none() && task.from.is_none() {
+        Some(UsageFault::NoProgram)
+    } else if task.from.is_some() && (task.file.is_some() || is_z80(task.cpu)) {
+        Some(UsageFault::FromWithProgram)
+    } else if task.system.is_some() && task.from.is_none() {
+        Some(UsageFault::SystemWithoutFrom)
+    } else {
+        None
+    }
+}
+
 /// What is wrong first with the options of the task.
 pub(crate) fn options_fault(task: &Task<'_>) -> Option<UsageFault>
     ensures { result ≡ task_fault task.now }
@@ -96,6 +167,7 @@ pub(crate) fn options_fault(task: &Task<'_>) -> Option<UsageFault>
         Task::Com(com) => com_fault(com),
         Task::Boot(boot) => boot_fault(boot),
         Task::Run(run) => run_fault(run),
+        Task::Debug(debug) => debug_fault(debug),
         _ => None,
     }
 }

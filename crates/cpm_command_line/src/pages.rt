@@ -24,6 +24,7 @@ Commands:
   list        list a program as instructions
   check       check the directory in the image of a drive
   debug       run a program step by step, as lines of standard input say
+  saved       tell what the machine is that was saved in a file
   disk        make the image of a disk, or work with the files in one
 
 'cpmhost help COMMAND', or 'cpmhost COMMAND --help', prints the page of a
@@ -40,7 +41,8 @@ Usage: cpmhost com FILE [TAIL..] [--z80] [--steps N] [--keys SCRIPT]
        [--disk IMAGE].. [--out-disk IMAGE].. [--keyboard] [--record SCRIPT]
        [--progress] [--stop-idle] [--raw] [--quiet] [--partial] [--status]
        [--replay RECORDING] [--pace N] [--system IMAGE]
-       [--out-folder FOLDER].. [--list FILE]
+       [--out-folder FOLDER].. [--list FILE] [--save FILE]
+       cpmhost com --from FILE [OPTIONS..]
 
 Run the CP/M program in FILE, such as a .COM file, with the words TAIL..
 after its name on the command line of CP/M, and print what it writes to its
@@ -52,7 +54,7 @@ Options:
               A step is an instruction, or a part of a system call. Without
               --steps there is a limit of 1,000,000 steps from the last key on
               that comes by its count, but none with --keyboard, --out-disk,
-              --out-folder, --list or --record
+              --out-folder, --list, --save or --record
   --keys SCRIPT
               press the keys of SCRIPT. A line of it is empty, a comment that
               begins with '#', or says when keys come: 'N KEYS' after N steps,
@@ -81,6 +83,15 @@ Options:
               this folder; given again, those in B, C and D
   --list FILE
               write what is sent to the printer to FILE
+  --save FILE
+              write the machine, as it is at the end, to FILE: its registers,
+              memory, drives, and the keys that wait. --from goes on with it.
+              The disks that --out-disk names are written all the same
+  --from FILE
+              go on with the machine that --save wrote to FILE, in place of a
+              program, a processor and drives. The system drive must be the
+              same. --steps and the counts of keys begin at 0 where it was
+              saved
   --partial   write what --out-disk and --out-folder name also where the program
               was cut off by its limit of steps
   --keyboard  take the keys from standard input as they are typed; '^]', Control
@@ -220,17 +231,27 @@ are those that 'cpmhost help com' lists, but for Exited, and one more:
 /// The page of `debug`.
 pub const DEBUG_PAGE: &str = "\
 Usage: cpmhost debug FILE [--z80] [--list FILE]
+       cpmhost debug --from FILE [--list FILE] [--system IMAGE]
 
-Run the program in FILE as the lines of standard input say.
+Run the program in FILE, or the machine that was saved in FILE, as the lines of
+standard input say.
 
 Options:
   --z80       run it on the Z80; it is the 8080 unless this is given
   --list FILE
               read a listing of the program, as asm writes it, from FILE
+  --from FILE
+              go on with the machine that com or boot wrote to FILE by --save,
+              with its registers, memory, drives, keys and count of steps, in
+              place of a program. Nothing is written to FILE
+  --system IMAGE
+              the image of the disk in the system drive of that machine, which
+              must be the same; a blank disk unless this is given
   -h, --help  print this page
 
 Examples:
   cpmhost debug hello.com --list hello.lst
+  cpmhost debug --from turbo.sav
 
 Lines that debug reads, where HHHH is an address of four hexadecimal digits:
   S N         make N steps
@@ -241,6 +262,22 @@ Lines that debug reads, where HHHH is an address of four hexadecimal digits:
   K KEYS      press keys, written as in a key script
   O           show what the console got
   Q           end
+";
+
+/// The page of `saved`.
+pub const SAVED_PAGE: &str = "\
+Usage: cpmhost saved FILE
+
+Tell what the machine is that --save wrote to FILE: the version of its format,
+its processor, how many steps it has executed, how it ended or that it runs and
+whether it waits for a key, its registers, how many pages it has written and may
+write, the digest of its system drive, and its drives with their files.
+
+Options:
+  -h, --help  print this page
+
+Examples:
+  cpmhost saved turbo.sav
 ";
 
 /// The page of exit statuses.
@@ -287,6 +324,7 @@ pub fn page_text(page: Page) -> &'static str
         Page::Check => CHECK_PAGE,
         Page::Run => RUN_PAGE,
         Page::Debug => DEBUG_PAGE,
+        Page::Saved => SAVED_PAGE,
         Page::Disk => DISK_PAGE,
         Page::DiskNew => DISK_NEW_PAGE,
         Page::DiskList => DISK_LIST_PAGE,
@@ -312,6 +350,7 @@ pub fn page_line(page: Page) -> &'static str
         Page::Check => "cpmhost help check",
         Page::Run => "cpmhost help run",
         Page::Debug => "cpmhost help debug",
+        Page::Saved => "cpmhost help saved",
         Page::Disk => "cpmhost help disk",
         Page::DiskNew => "cpmhost help disk new",
         Page::DiskList => "cpmhost help disk list",

@@ -2,8 +2,8 @@
 ghost use Rattle.std.specs.Prelude.{◌≡◌, IfOk, IfErr, IsSomeAnd, None, Some, codes, map, true, false};
 ghost use Rattle.clap.specs.Words.{all_of, fault_of, found_of, one_of, rows_of, subcommand_rows_of, takes};
 ghost use Rattle.cpm_command_line.specs.CommandLine.{HasEntriesOf, HasPlayEntries, IsFlag, IsTyped, IsWhole, IsWholeAsm};
-ghost use Rattle.cpm_command_line.specs.CommandLine.{IsWholeCheck, IsWholeCom, IsWholeDebug, IsWholeList, IsWholeOf, IsWholePlay};
-ghost use Rattle.cpm_command_line.specs.CommandLine.{IsWholeRun, ReadsWordsIfAny, host_app};
+ghost use Rattle.cpm_command_line.specs.CommandLine.{IsWholeCheck, IsWholeDebug, IsWholeList, IsWholeOf, IsWholePlay};
+ghost use Rattle.cpm_command_line.specs.CommandLine.{IsWholeRun, IsWholeSaved, ReadsWordsIfAny, host_app};
 ghost use Rattle.cpm_command_line.specs.HelpWords.{is_help_line, named_by, page_of_line};
 ghost use Rattle.cpm_command_line.specs.Line.{HasUsers, IsFaultless, IsHostTask, IsPageOrMemory, IsTaskOf};
 ghost use Rattle.cpm_command_line.specs.Line.{app_of_line, asked_page, asks_by_flag, names_disk, words_of_line};
@@ -15,7 +15,7 @@ use crate::disk::disk_task;
 use crate::entries::{count_if_any, cpu_of, flag_of, text_if_any, text_of, texts_if_any};
 use crate::fault::{UsageError, UsageRefusal, answer};
 use crate::options::options_fault;
-use crate::task::{PlayTask, RunTask, Task};
+use crate::task::{DebugTask, PlayTask, RunTask, Task};
 use crate::usage::{Page, is_help_line, page_of_help_line, page_of_line};
 use clap::ArgMatches;
 use std::alloc::{AllocError, Global};
@@ -57,19 +57,21 @@ fn play_task<'a>(
         system: text_if_any(matches, "system"),
         out_folders,
         list: text_if_any(matches, "list"),
+        save: text_if_any(matches, "save"),
+        from: text_if_any(matches, "from"),
     }
 }
 
 /// The task of `com`. What it owns is made here, where memory may be refused.
 fn com_task<'a>(alloc: Global, matches: &ArgMatches<'a>) -> Result<Task<'a>, AllocError>
-    requires { IsWholeCom (rows_of (found_of matches.now)) }
+    requires { IsWholePlay (rows_of (found_of matches.now)) }
     ensures { IfOk result (HasEntriesOf (codes "com", rows_of (found_of matches.now))) }
 {
     let tail = texts_if_any(alloc, matches, "tail")?;
     let drives = texts_if_any(alloc, matches, "disk")?;
     let outs = texts_if_any(alloc, matches, "out-disk")?;
     let out_folders = texts_if_any(alloc, matches, "out-folder")?;
-    let file = Some(text_of(matches, "file"));
+    let file = text_if_any(matches, "file");
     let is_live = flag_of(matches, "keyboard");
     let task = play_task(matches, file, tail, drives, outs, out_folders, is_live);
     Ok(Task::Com(task))
@@ -161,11 +163,22 @@ fn debug_task<'a>(matches: &ArgMatches<'a>) -> Task<'a>
     requires { IsWholeDebug (rows_of (found_of matches.now)) }
     ensures { HasEntriesOf (codes "debug", rows_of (found_of matches.now)) result }
 {
-    let cpu = cpu_of(matches);
-    Task::Debug {
-        file: text_of(matches, "file"),
-        cpu,
+    Task::Debug(DebugTask {
+        file: text_if_any(matches, "file"),
+        cpu: cpu_of(matches),
         list: text_if_any(matches, "list"),
+        from: text_if_any(matches, "from"),
+        system: text_if_any(matches, "system"),
+    })
+}
+
+/// The task of `saved`.
+fn saved_task<'a>(matches: &ArgMatches<'a>) -> Task<'a>
+    requires { IsWholeSaved (rows_of (found_of matches.now)) }
+    ensures { HasEntriesOf (codes "saved", rows_of (found_of matches.now)) result }
+{
+    Task::Saved {
+        file: text_of(matches, "file"),
     }
 }
 
@@ -185,7 +198,8 @@ fn task_named<'a>(
         "list" => Ok(list_task(matches)),
         "check" => Ok(check_task(matches)),
         "run" => run_task(alloc, matches),
-        _ => Ok(debug_task(matches)),
+        "debug" => Ok(debug_task(matches)),
+        _ => Ok(saved_task(matches)),
     }
 }
 

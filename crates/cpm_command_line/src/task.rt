@@ -28,12 +28,11 @@ pub enum Task<'a> {
     },
     /// `run ..`: run the sessions of a configuration.
     Run(RunTask<'a>),
-    /// `debug FILE [--z80] [--list FILE]`: run the program in FILE on that processor, as lines of standard
-    /// input say. `list` is a listing as `asm` writes it, which is read.
-    Debug {
+    /// `debug ..`: run a program, or go on with a saved machine, as lines of standard input say.
+    Debug(DebugTask<'a>),
+    /// `saved FILE`: tell what the machine is that is saved in FILE.
+    Saved {
         file: &'a str,
-        cpu: Cpu,
-        list: Option<&'a str>,
     },
     /// `disk ..`: make an image of a disk, or do something with the files in one.
     Disk(DiskTask<'a>),
@@ -41,33 +40,37 @@ pub enum Task<'a> {
     Help(Page),
 }
 
-/// A machine that is played: by `com` with a program, or by `boot` from the prompt of CP/M.
+/// A machine that is played: by `com` with a program, or by `boot` from the prompt of CP/M; or by either from
+/// where it was saved.
 ///
 /// `com FILE [TAIL..] [--z80] [--steps N] [--keys SCRIPT] [--disk IMAGE].. [--out-disk IMAGE]..
 /// [--keyboard] [--record SCRIPT] [--progress] [--stop-idle] [--raw] [--quiet] [--partial] [--status]
-/// [--replay RECORDING] [--pace N] [--system IMAGE] [--out-folder FOLDER].. [--list FILE]`: run the program
-/// in FILE.
+/// [--replay RECORDING] [--pace N] [--system IMAGE] [--out-folder FOLDER].. [--list FILE] [--save FILE]`: run
+/// the program in FILE.
 ///
 /// `boot [PLACE..] [--z80] [--steps N] [--keys SCRIPT] [--out-disk IMAGE].. [--keyboard]
 /// [--record SCRIPT] [--progress] [--stop-idle] [--raw] [--quiet] [--partial] [--status]
-/// [--replay RECORDING] [--pace N] [--system IMAGE] [--out-folder FOLDER].. [--list FILE]`: start CP/M
-/// with these drives.
+/// [--replay RECORDING] [--pace N] [--system IMAGE] [--out-folder FOLDER].. [--list FILE] [--save FILE]`: start
+/// CP/M with these drives.
+///
+/// `com --from FILE` and `boot --from FILE`, with the same options but for `--z80` and `--disk`: go on with
+/// the machine that is saved in FILE.
 #[derive(Drop)]
 pub struct PlayTask<'a> {
-    /// The file that the program is in. There is one for `com`, and none for `boot`.
+    /// The file that the program is in. There is one for `com` without `from`, and else none.
     pub file: Option<&'a str>,
-    /// The words after the program's name: none for `boot`.
+    /// The words after the program's name: none where there is no program.
     pub tail: Vec<&'a str>,
-    /// The processor that it runs on.
+    /// The processor that it runs on. With `from` it is the 8080 here, and that of the saved machine counts.
     pub cpu: Cpu,
     /// How many steps it makes at most, where that was given.
     pub steps: Option<u64>,
     /// The file of a key script, whose keys are pressed. Not with `replay`.
     pub keys: Option<&'a str>,
-    /// The images of the drives from A on, of which there are four at most. A folder stands for a drive with
-    /// its files.
+    /// The images of the drives from A on, of which there are four at most, and none with `from`. A folder
+    /// stands for a drive with its files.
     pub drives: Vec<&'a str>,
-    /// The files that these drives are written to.
+    /// The files that these drives, or those of the saved machine, are written to: four at most.
     pub outs: Vec<&'a str>,
     /// The keys of standard input are taken as they are typed, after those of a script or a recording. For
     /// `boot` they are also where it has neither.
@@ -92,10 +95,14 @@ pub struct PlayTask<'a> {
     pub pace: Option<u64>,
     /// The image of the system drive, where one was given.
     pub system: Option<&'a str>,
-    /// The folders that the files of these drives are written to, where they are new or changed.
+    /// The folders that the files of these drives are written to, where they are new or changed: four at most.
     pub out_folders: Vec<&'a str>,
     /// The file for what the machine prints, if it is kept.
     pub list: Option<&'a str>,
+    /// The file that the machine is saved to at the end, if it is.
+    pub save: Option<&'a str>,
+    /// The file of a saved machine that it goes on from, in place of a program, a processor and drives.
+    pub from: Option<&'a str>,
 }
 
 /// `run CONFIG [--keyboard NAME] [--record SCRIPT] [--progress] [--stop-idle] [--record-all FOLDER] [--raw]
@@ -125,6 +132,25 @@ pub struct RunTask<'a> {
     pub pace: Option<u64>,
     /// The recordings whose keys are pressed in place of the scripts of sessions, each as NAME=FILE.
     pub replays: Vec<&'a str>,
+}
+
+/// A machine that is debugged: one that begins a program, or one that was saved.
+///
+/// `debug FILE [--z80] [--list FILE]`: the program in FILE on that processor.
+///
+/// `debug --from FILE [--list FILE] [--system IMAGE]`: the machine that is saved in FILE.
+#[derive(Drop)]
+pub struct DebugTask<'a> {
+    /// The file that the program is in. There is one without `from`, and else none.
+    pub file: Option<&'a str>,
+    /// The processor that it runs on. With `from` it is the 8080 here, and that of the saved machine counts.
+    pub cpu: Cpu,
+    /// The file of a listing as `asm` writes it, which is read, where one was given.
+    pub list: Option<&'a str>,
+    /// The file of a saved machine, in place of a program and a processor.
+    pub from: Option<&'a str>,
+    /// The image of the system drive of that machine, where one was given. Only with `from`.
+    pub system: Option<&'a str>,
 }
 
 /// A command of `disk` with its words. The files are those of `user`, from 0 to 15.

@@ -29,6 +29,8 @@ pub enum Page {
     Run,
     /// The page of `debug`.
     Debug,
+    /// The page of `saved`.
+    Saved,
     /// The page of `disk`.
     Disk,
     /// The page of `disk new`.
@@ -66,6 +68,7 @@ fn command_page(word: &str) -> Option<Page>
         "check" => Some(Page::Check),
         "run" => Some(Page::Run),
         "debug" => Some(Page::Debug),
+        "saved" => Some(Page::Saved),
         _ => None,
     }
 }

@@ -1,4 +1,5 @@
 pub mod CountLemmas
+pub mod DebugLemmas
 pub mod DiskLemmas
 pub mod DriveLemmas
 pub mod GetLemmas

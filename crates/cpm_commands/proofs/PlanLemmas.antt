@@ -4,23 +4,24 @@ use Rattle.std.specs.List.{concat, flat_map, zip}
 use Rattle.std.proofs.Common.{◌≡◌, ◌∙◌, ◌&&◌, ◌==◌, ℕ, zero, suc, Bool, true, false, if◌then◌else◌, List, [], ◌∷◌, ◌++◌, ap, arith, drop, get_or, length, map, refl, string_bytes, subst, sym}
 use Rattle.std.proofs.Common.{Option, is_some, Some, None, option_map, String, Global, All}
 use Rattle.std.proofs.lemmas.List.Elements.{All-append, All-cons, All-contains_itself, All-head, All-map, All-nil, All-tail}
-use Rattle.cpm_batch.specs.Inputs.{SessionInput, known_of}
+use Rattle.cpm_batch.specs.Inputs.{SessionInput, known_of, own_count}
 use Rattle.cpm_batch.specs.Sources.{NoSource, RecordingFile, ScriptFile, SourceOfKeys, key_file, key_source}
 use Rattle.cpm_batch.specs.declared.source.Replay.{Replay}
-use Rattle.cpm_batch.specs.Outputs.{SessionOutput, files_of, files_of_all, image_at, image_outputs, named_bytes, named_image, named_images}
+use Rattle.cpm_batch.specs.Outputs.{SessionOutput, files_of, files_of_all, image_at, image_outputs, named_bytes, named_image, named_images, named_saving}
 use Rattle.cpm_batch.specs.Reads.{AreImagesRead, AreInputsRead, AreRead, IsForkedSaidRead, IsInputReadOf, IsSaidRead}
 use Rattle.cpm_command_line.specs.declared.task.RunTask.{RunTask}
 use Rattle.cpm_config.specs.declared.config.Config.{Config}
 use Rattle.cpm_config.specs.declared.config.Origin.{Origin}
-use Rattle.cpm_config.specs.declared.config.Origin.TheVariants.{Opened, Forked}
+use Rattle.cpm_config.specs.declared.config.Origin.TheVariants.{Opened, Forked, Restored}
 use Rattle.cpm_config.specs.declared.config.SessionConfig.{SessionConfig}
 use Rattle.cpm_command_line.specs.declared.task.PlayTask.{PlayTask}
 use Rattle.cpm_disk_commands.specs.declared.damage.NamedFile.{NamedFile}
 use Rattle.cpm_geom.specs.Disk.{Disk}
 use Rattle.cpm_host.specs.declared.error.HostError.{HostError}
 use Rattle.cpm_machine.specs.MachineState.{MachineState}
+use Rattle.cpm_machine.specs.Saving.{Saving}
 use Rattle.cpm_run.proofs.RunLemmas.{settled_sessions}
-use Rattle.cpm_run.specs.Run.{StoreActs, files_left, outputs_by, own_keys, record_of, record_outputs, run_of, session_output}
+use Rattle.cpm_run.specs.Run.{StoreActs, files_left, left_of, outputs_by, own_keys, record_of, record_outputs, run_of, session_output}
 use Rattle.cpm_run.specs.Settled.{SettledSession, Streams, streams}
 use Rattle.cpm_run.specs.declared.options.RecordFile.{RecordFile}
 use Rattle.cpm_run.specs.declared.report.Report.{Report}
@@ -32,20 +33,20 @@ use Rattle.cpm_store.specs.Files.{StoreName}
 use Rattle.cpm_store.specs.Log.{StoreAccess, Gave, LogLeadsBy, Wrote, writes_of}
 use Rattle.cpm_store.specs.Writes.{NamedBytes}
 use Rattle.cpm_commands.specs.Drives.{AreDrivesRead, AreReadBy, IsFileRead, IsPlaceRead, files_given, inputs_of_place, inputs_of_places}
-use Rattle.cpm_commands.specs.Left.{IsLeftFor, drive_outputs, has_no_folder, list_of_play, named_list, outputs_with, outs_of, plan_of_left, record_of_play}
-use Rattle.cpm_commands.specs.Play.{AreCuesRead, AreKeysReadBy, AreRecordedRead, IsProgramRead, IsSystemRead, ReadActs, plan_of_play, task_starts, write_acts}
+use Rattle.cpm_commands.specs.Left.{IsLeftFor, Texts, drive_outputs, has_no_folder, list_of_play, named_text, outputs_with, outs_of, plan_of_left, record_of_play, save_of_play}
+use Rattle.cpm_commands.specs.Play.{AreCuesRead, AreKeysReadBy, AreRecordedRead, IsProgramRead, IsSavedRead, IsSystemRead, ReadActs, plan_of_play, task_starts, texts_left, write_acts}
 use Rattle.cpm_commands.specs.Laws.{FollowsPlans, IsAsPlanned, IsPlanned, ProgramsFollowPlans, RunsFollowPlans}
 use Rattle.cpm_commands.specs.Plan.{Plan, PlannedName, all_planned, planned_if_any}
 use Rattle.cpm_play.specs.declared.live.PlayEnd.{PlayEnd}
 use Rattle.cpm_run.specs.declared.ending.Ending.{Ending}
 use Rattle.cpm_run.specs.declared.report.SessionReport.{SessionReport}
-use Rattle.cpm_commands.specs.Run.{HasRunAll, drives_named, images_named, plan_by, record_mark, record_marks, session_inputs, session_outputs}
+use Rattle.cpm_commands.specs.Run.{HasRunAll, beginning_named, images_named, plan_by, record_mark, record_marks, session_inputs, session_outputs}
 use Rattle.cpm_commands.specs.declared.drives.DrivePlace.{DrivePlace}
 use Rattle.cpm_commands.specs.declared.drives.DrivePlace.TheVariants as from
 use Rattle.cpm_commands.specs.declared.drives.PlacedFile.{PlacedFile}
 use Rattle.cpm_disk_commands.specs.declared.folder.HostFile.{HostFile}
 use Rattle.cpm_commands.specs.declared.plan.FileRole.{FileRole}
-use Rattle.cpm_commands.specs.declared.plan.FileRole.TheVariants.{Folder, Image, Plain, Script}
+use Rattle.cpm_commands.specs.declared.plan.FileRole.TheVariants.{Folder, Image, Plain, Saving as SavingFile, Script}
 
 -- ---- names that are such
 
@@ -112,23 +113,34 @@ module _ (P : StoreName → Type 0) where
       let at = λ (place : ℕ). image_at_such role names.items drives place such in
       files_joined (image_at names.items drives 0) _ (at 0) (files_joined (image_at names.items drives 1) _ (at 1) (files_joined (image_at names.items drives 2) _ (at 2) (at 3)))
 
+  saving_such : (role : FileRole) (name : Option StoreName) (saved : Option (List ℕ)) → AreSuch (planned_if_any role name) → AreSuchFiles (named_saving name saved)
+  saving_such role name None such = no_files
+  saving_such role name (Some bytes) such = bytes_such role name bytes such
+
   files_such : (o : SessionOutput) → AreSuch (session_outputs o.session) → AreSuchFiles (files_of o)
   files_such o such =
       let s = o.session in
-      let listed = planned_if_any Plain (option_map string_bytes s.list) in
+      let list_name = option_map string_bytes s.list in
+      let save_name = option_map string_bytes s.save in
+      let listed = planned_if_any Plain list_name in
       let imaged = all_planned Image (images_named s.out) in
+      let saved = planned_if_any SavingFile save_name in
+      let behind = such_right listed (imaged ++ saved) such.1 in
       file_more (string_bytes s.console) o.console _ such.0
-      (files_joined (named_bytes (option_map string_bytes s.list) o.list) (named_images s.out o.drives)
-      (bytes_such Plain (option_map string_bytes s.list) o.list (such_left listed imaged such.1)) (images_such Image s.out o.drives (such_right listed imaged such.1)))
+      (files_joined (named_bytes list_name o.list) (named_images s.out o.drives ++ named_saving save_name o.saved)
+      (bytes_such Plain list_name o.list (such_left listed (imaged ++ saved) such.1))
+      (files_joined (named_images s.out o.drives) (named_saving save_name o.saved) (images_such Image s.out o.drives (such_left imaged saved behind))
+      (saving_such SavingFile save_name o.saved (such_right imaged saved behind))))
 
   -- those that sessions leave
-  pub left_such : (f : SettledSession → MachineState) (ss : List SettledSession) → AreSuch (flat_map session_outputs (map (λ s. s.session) ss))
-      → AreSuchFiles (files_of_all (map (λ s. session_output s.session (f s)) ss))
-  left_such f [] such = no_files
-  left_such f (s ∷ ss) such =
+  pub left_such : (system : Disk) (f left : SettledSession → MachineState) (ss : List SettledSession) → AreSuch (flat_map session_outputs (map (λ s. s.session) ss))
+      → AreSuchFiles (files_of_all (map (λ s. session_output system s.session (f s) (left s)) ss))
+  left_such system f left [] such = no_files
+  left_such system f left (s ∷ ss) such =
       let rest = flat_map session_outputs (map (λ (x : SettledSession). x.session) ss) in
-      files_joined (files_of (session_output s.session (f s))) _ (files_such (session_output s.session (f s)) (such_left (session_outputs s.session) rest such))
-      (left_such f ss (such_right (session_outputs s.session) rest such))
+      let output = session_output system s.session (f s) (left s) in
+      files_joined (files_of output) _ (files_such output (such_left (session_outputs s.session) rest such))
+      (left_such system f left ss (such_right (session_outputs s.session) rest such))
 
   -- the records of their keys
   unless : (b : Bool) (q : NamedBytes) → P q.0 → AreSuchFiles (if b then [] else q ∷ [])
@@ -154,10 +166,10 @@ module _ (P : StoreName → Type 0) where
   drives_such role (name ∷ names) (d ∷ drives) such =
       files_joined (named_image (Some name) d) (drive_outputs names drives) (image_such role (Some name) d (such.0, tt)) (drives_such role names drives such.1)
 
-  -- what was printed
-  pub list_such : (role : FileRole) (name : Option StoreName) (printed : Option (List ℕ)) → AreSuch (planned_if_any role name) → AreSuchFiles (named_list name printed)
-  list_such role name None such = no_files
-  list_such role name (Some bytes) such = bytes_such role name bytes such
+  -- what was printed, or the machine
+  pub text_such : (role : FileRole) (name : Option StoreName) (text : Option (List ℕ)) → AreSuch (planned_if_any role name) → AreSuchFiles (named_text name text)
+  text_such role name None such = no_files
+  text_such role name (Some bytes) such = bytes_such role name bytes such
 
 -- what is planned is among what is planned
 such_itself : (ps : List PlannedName) → AreSuch (IsPlanned ps) ps
@@ -198,7 +210,7 @@ module _ (plan : Plan) where
   forked_read role (RecordingFile name) at before cues log h such = one_read name h.text log h.calls such.0
 
   input_read : (replays : List Replay) (before : List SessionInput) (o : Origin) (i : SessionInput) (log : List StoreAccess) → IsInputReadOf replays before o i log
-      → AreInputs (all_planned Image (drives_named o) ++ planned_if_any Plain (key_file (key_source replays i.session))) → All (IsAsPlanned plan) log
+      → AreInputs (beginning_named o ++ planned_if_any Plain (key_file (key_source replays i.session))) → All (IsAsPlanned plan) log
   input_read replays before (Opened cpu quota drives) i log h such =
       let P = IsPlanned plan.inputs in
       let named = all_planned Image (map string_bytes drives.items) in
@@ -206,7 +218,12 @@ module _ (plan : Plan) where
       let keys = planned_if_any Plain (key_file source) in
       joined log h.calls.first h.calls.rest h.calls.order (images_read Image drives.items h.drives h.calls.first h.calls.begins (such_left P named keys such))
       (said_read Plain source i.said h.calls.rest h.calls.goes_on (such_right P named keys such))
-  input_read replays before (Forked parent at) i log h such = forked_read Plain (key_source replays i.session) at (known_of replays at h.parent) i.said log h.calls such
+  input_read replays before (Forked parent at) i log h such =
+      let own = own_count h.parent at in
+      forked_read Plain (key_source replays i.session) own (known_of replays own h.parent) i.said log h.calls such
+  input_read replays before (Restored saving) i log h such =
+      joined log h.calls.first h.calls.rest h.calls.order (one_read (string_bytes saving) h.calls.begins.bytes h.calls.first h.calls.begins.calls such.0)
+      (said_read Plain (key_source replays i.session) i.said h.calls.rest h.calls.goes_on such.1)
 
   inputs_read : (replays : List Replay) (before is : List SessionInput) (log : List StoreAccess) → AreInputsRead replays before is log
       → AreInputs (flat_map (session_inputs replays) (map (λ i. i.session) is)) → All (IsAsPlanned plan) log
@@ -250,7 +267,7 @@ run_calls store tells_name task config replays scripts report io old new h =
     let named = all_planned Script (map string_bytes scripts) in
     let outputs = subst (λ (ss : List SessionConfig). AreSuch O (flat_map session_outputs ss)) (sym sessions)
     (such_left O all (recorded_to ++ named) outs) in
-    let files = left_such O (run_of parts.system parts.settled) parts.settled outputs in
+    let files = left_such O parts.system (run_of parts.system parts.settled) (left_of parts.system parts.settled) parts.settled outputs in
     let records = records_such O (is_some h.asked.kept) typed h.options.records.now parts.settled config.sessions.items scripts h.asked.records
     (such_right O recorded_to named (such_right O all (recorded_to ++ named) outs)) in
     let written = all_written plan (outputs_by h.options parts) writing.0 writing.1 (files_joined O (files_of_all (files_left parts.system parts.settled)) _ files records) in
@@ -318,6 +335,12 @@ module _ {F : Type 0} (does : F → StoreAccess → F → Type 0) (plan : Plan) 
   program_led (Some name) None s t h such = absurd h
   program_led (Some name) (Some p) s t h such = led_by name p s t such.0 h
 
+  saved_led : (name : Option StoreName) (x : Option Saving) (s t : F) → IsSavedRead does name s t x → AreInputs plan (planned_if_any SavingFile name) → IsLed s t
+  saved_led None None s t h such = none_led s t h
+  saved_led None (Some x) s t h such = absurd h
+  saved_led (Some name) None s t h such = absurd h
+  saved_led (Some name) (Some x) s t h such = led_by name h.0 s t such.0 h.1
+
   system_led : (name : Option StoreName) (d : Option Disk) (s t : F) → IsSystemRead does name s t d → AreInputs plan (planned_if_any Image name) → IsLed s t
   system_led None None s t h such = none_led s t h
   system_led None (Some d) s t h such = absurd h
@@ -343,12 +366,12 @@ planned_files P role (q ∷ qs) such = file_more P q.0 q.1 qs such.0 (planned_fi
 
 -- what is written was planned
 module _ {F : Type 0} (acts : ReadActs F) (gives_names : F → Option HostError → F → Type 0) (task : PlayTask) (places : List DrivePlace)
-    (starts : List (StoreName × Option Disk)) (printed : Option (List ℕ)) (drives : List (Option Disk)) (old seen read new : F) (unwritten : List (List ℕ × NamedFile)) where
+    (starts : List (StoreName × Option Disk)) (texts : Texts) (drives : List (Option Disk)) (old seen read new : F) (unwritten : List (List ℕ × NamedFile)) where
   abbrev played_plan : Plan
   played_plan = plan_of_play task places
 
   abbrev alone : List NamedBytes
-  alone = outputs_with (list_of_play task) (outs_of task) printed drives []
+  alone = outputs_with task texts drives []
 
   alone_led : (log : List StoreAccess) → log ≡ writes_of alone → All (IsAsPlanned played_plan) log
   alone_led log calls =
@@ -357,11 +380,17 @@ module _ {F : Type 0} (acts : ReadActs F) (gives_names : F → Option HostError 
       let folders = all_planned Folder (map (λ n. n.now) task.out_folders.items) in
       let recorded = planned_if_any Plain (record_of_play task) in
       let listed = planned_if_any Plain (list_of_play task) in
+      let saved = planned_if_any SavingFile (save_of_play task) in
       let all = such_itself played_plan.outputs in
-      let both = such_left O (images ++ folders) recorded (such_left O (images ++ folders ++ recorded) listed all) in
+      let named = such_left O (images ++ folders ++ recorded ++ listed) saved all in
+      let both = such_left O (images ++ folders) recorded (such_left O (images ++ folders ++ recorded) listed named) in
+      let printed_to = named_text (list_of_play task) texts.printed in
+      let saved_to = named_text (save_of_play task) texts.saved in
       all_written played_plan alone log calls
-      (files_joined O (named_list (list_of_play task) printed) (drive_outputs (outs_of task) drives)
-      (list_such O Plain (list_of_play task) printed (such_right O (images ++ folders ++ recorded) listed all))
+      (files_joined O (printed_to ++ saved_to) (drive_outputs (outs_of task) drives)
+      (files_joined O printed_to saved_to
+      (text_such O Plain (list_of_play task) texts.printed (such_right O (images ++ folders ++ recorded) listed named))
+      (text_such O SavingFile (save_of_play task) texts.saved (such_right O (images ++ folders ++ recorded ++ listed) saved all)))
       (drives_such O Image (outs_of task) drives (such_left O images folders both)))
 
   left_led : (outputs : List NamedBytes) (log : List StoreAccess) → log ≡ writes_of outputs → All (IsAsPlanned (plan_of_left outputs (record_of_play task))) log
@@ -372,7 +401,7 @@ module _ {F : Type 0} (acts : ReadActs F) (gives_names : F → Option HostError 
       (planned_files O Plain outputs (such_left O (all_planned Plain (map (λ q. q.0) outputs)) (planned_if_any Plain (record_of_play task)) (such_itself second.outputs)))
 
   follows : (has_none : Bool) → acts.sees_to old played_plan None seen → IsLed acts.does played_plan seen read
-      → IsLeftFor has_none (write_acts acts gives_names) task starts printed drives read new unwritten → FollowsPlans has_none acts gives_names task played_plan old new
+      → IsLeftFor has_none (write_acts acts gives_names) task starts texts drives read new unwritten → FollowsPlans has_none acts gives_names task played_plan old new
   follows true sees reads left = record {
     seen = seen;
     ended = left.0.written;
@@ -385,7 +414,7 @@ module _ {F : Type 0} (acts : ReadActs F) (gives_names : F → Option HostError 
       record {
         seen = seen;
         read = read;
-        printed = printed;
+        texts = texts;
         drives = drives;
         left = left.left;
         sees = sees;
@@ -394,7 +423,7 @@ module _ {F : Type 0} (acts : ReadActs F) (gives_names : F → Option HostError 
           seen = w.seen;
           ended = w.written.written;
           sees = w.sees;
-          calls = (w.written.calls.0, left_led (outputs_with (list_of_play task) (outs_of task) printed drives left.left) w.written.calls.0 w.written.calls.1, w.written.calls.2);
+          calls = (w.written.calls.0, left_led (outputs_with task texts drives left.left) w.written.calls.0 w.written.calls.1, w.written.calls.2);
           named = w.written.named;
         };
       }
@@ -406,6 +435,7 @@ programs_follow {F} acts gives_names ended told task io old new status h =
     let r = p.reads in
     let plan = plan_of_play task p.places in
     let I = IsPlanned plan.inputs in
+    let going = planned_if_any SavingFile (option_map (λ n. n.now) task.from) in
     let file = planned_if_any Plain (option_map (λ n. n.now) task.file) in
     let places = inputs_of_places p.places in
     let system = planned_if_any Image (option_map (λ n. n.now) task.system) in
@@ -414,15 +444,24 @@ programs_follow {F} acts gives_names ended told task io old new status h =
     let script = planned_if_any Plain keys in
     let recording = planned_if_any Plain replay in
     let ins = such_itself plan.inputs in
-    let scripted = such_left I (file ++ places ++ system ++ script) recording ins in
-    let started = such_left I (file ++ places ++ system) script scripted in
-    let first = such_left I (file ++ places) system started in
-    let program = program_led acts.does plan (option_map (λ n. n.now) task.file) p.g.program r.seen r.start.begun r.start.read
-    (such_left I file places first) in
-    let disks = drives_led acts.does plan p.places p.g.drives r.start.begun r.start.between r.start.drives (such_right I file places first) in
-    let drive = system_led acts.does plan (option_map (λ n. n.now) task.system) p.g.system r.start.between r.started r.start.system (such_right I (file ++ places) system started) in
+    let scripted = such_left I (going ++ file ++ places ++ system ++ script) recording ins in
+    let started = such_left I (going ++ file ++ places ++ system) script scripted in
+    let placed = such_left I (going ++ file ++ places) system started in
+    let first = such_left I (going ++ file) places placed in
+    let saved = saved_led acts.does plan (option_map (λ n. n.now) task.from) p.g.saved r.seen r.start.given r.start.saved (such_left I going file first) in
+    let program = program_led acts.does plan (option_map (λ n. n.now) task.file) p.g.program r.start.given r.start.begun r.start.read
+    (such_right I going file first) in
+    let disks = drives_led acts.does plan p.places p.g.drives r.start.begun r.start.between r.start.drives (such_right I (going ++ file) places placed) in
+    let drive = system_led acts.does plan (option_map (λ n. n.now) task.system) p.g.system r.start.between r.started r.start.system
+    (such_right I (going ++ file ++ places) system started) in
     let said = keys_led acts.does plan keys replay p.said r.started h.read r.keys
-    (such_both I script recording (such_right I (file ++ places ++ system) script scripted) (such_right I (file ++ places ++ system ++ script) recording ins)) in
-    let begun = led_on acts.does plan r.seen r.start.begun r.started program (led_on acts.does plan r.start.begun r.start.between r.started disks drive) in
-    let reads = led_on acts.does plan r.seen r.started h.read begun said in
-    (p.places, r.prepared.found, follows acts gives_names task p.places (task_starts task p.g) h.printed h.play.drives old r.seen h.read new h.unwritten (has_no_folder task) r.prepared.sees reads h.left)
+    (such_both I script recording (such_right I (going ++ file ++ places ++ system) script scripted)
+    (such_right I (going ++ file ++ places ++ system ++ script) recording ins)) in
+    let loaded = led_on acts.does plan r.seen r.start.given r.start.begun saved program in
+    let begun = led_on acts.does plan r.seen r.start.begun r.started loaded (led_on acts.does plan r.start.begun r.start.between r.started disks drive) in
+    let reads = led_on acts.does plan r.seen r.started h.read begun said in (
+      p.places,
+      r.prepared.found,
+      follows acts gives_names task p.places (task_starts task p.g) (texts_left h.printed h.play) h.play.drives old r.seen h.read new
+          h.unwritten (has_no_folder task) r.prepared.sees reads h.left,
+    )

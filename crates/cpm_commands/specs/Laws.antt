@@ -19,7 +19,7 @@ use Rattle.cpm_store.specs.Log.{StoreAccess, Gave, LogLeadsBy, Missed, Wrote}
 use Rattle.cpm_store.specs.Writes.{NamedBytes}
 use Rattle.cpm_commands.specs.Drives.{ArePlacesFound}
 use Rattle.cpm_commands.specs.Plan.{Plan, PlannedName}
-use Rattle.cpm_commands.specs.Left.{has_no_folder, list_of_play, outputs_with, outs_of, plan_of_left, record_of_play}
+use Rattle.cpm_commands.specs.Left.{Texts, has_no_folder, outputs_with, plan_of_left, record_of_play}
 use Rattle.cpm_commands.specs.Play.{HasPlayedTask, ReadActs, plan_of_play}
 use Rattle.cpm_commands.specs.Run.{ArePlayedBack, AreScripts, HasRunSessions, IsConfigRead, plan_by}
 use Rattle.cpm_commands.specs.declared.drives.DrivePlace.{DrivePlace}
@@ -58,13 +58,13 @@ pub record FollowsTwoPlans {F : Type 0} (does : F → StoreAccess → F → Type
     (gives_names : F → Option HostError → F → Type 0) (task : PlayTask) (plan : Plan) (old new : F) : Type 0 where
   pub seen : F
   pub read : F
-  pub printed : Option (List ℕ)
+  pub texts : Texts
   pub drives : List (Option Disk)
   pub left : List NamedBytes
   pub sees : sees_to old plan None seen
   pub calls : LogLeadsBy does (All (IsAsPlanned plan)) seen read
   pub follows : FollowsPlan does sees_to gives_names
-      (plan_of_left (outputs_with (list_of_play task) (outs_of task) printed drives left) (record_of_play task)) read new
+      (plan_of_left (outputs_with task texts drives left) (record_of_play task)) read new
 
 -- it follows one plan where no files of its drives go into folders, and else two
 abbrev pub FollowsPlans : {F : Type 0} → (has_none : Bool) → ReadActs F → (F → Option HostError → F → Type 0) → PlayTask → Plan → F → F → Type 0

@@ -17,5 +17,6 @@ pub mod Record
 pub mod Replays
 pub mod Report
 pub mod Run
+pub mod Saved
 pub mod Task
 pub mod Typed

@@ -5,7 +5,9 @@ use Rattle.cpm_command_line.specs.declared.task.PlayTask.{PlayTask}
 use Rattle.cpm_disk_commands.specs.declared.damage.NamedFile.{NamedFile}
 use Rattle.cpm_geom.specs.Disk.{Disk}
 use Rattle.cpm_host.specs.Program.{AreRecorded, IsCueRefusal, IsRecordingRefusal, IsPlayedBy, IsProgramPlayRefusal, IsProgramRefusal, ProgramInput}
-use Rattle.cpm_host.specs.Program.{machine_of, system_disk}
+use Rattle.cpm_host.specs.Program.{HasSaved, machine_of, system_disk}
+use Rattle.cpm_host.specs.Saved.{IsSavingRefusal}
+use Rattle.cpm_machine.specs.Saving.{Saving, restored}
 use Rattle.cpm_host.specs.Tails.{IsTailRefusal, tail_from}
 use Rattle.cpm_host.specs.declared.error.HostError.{HostError}
 use Rattle.cpm_host.specs.declared.error.HostError.TheVariants.{CutOff, OutOfMemory}
@@ -27,27 +29,28 @@ use Rattle.cpm_store.specs.Log.{StoreAccess, Gave, Missed}
 use Rattle.cpm_commands.specs.Disk.{IsDiskRead, IsDiskUnread}
 use Rattle.cpm_commands.specs.Drives.{AreDrivesRead, AreDrivesRefused, ArePlacesFound, ArePlacesUnfound, inputs_of_places}
 use Rattle.cpm_commands.specs.Files.{IsUnread}
-use Rattle.cpm_commands.specs.Left.{IsPlayLeft, IsPlayUnleft, WriteActs}
+use Rattle.cpm_commands.specs.Left.{IsPlayLeft, IsPlayUnleft, Texts, WriteActs}
 use Rattle.cpm_commands.specs.ListText.{MayBeDropped, kept_if}
 use Rattle.cpm_commands.specs.OutFolder.{folder_view, folder_starts_of}
 use Rattle.cpm_commands.specs.Plan.{Plan, all_planned, planned_if_any}
 use Rattle.cpm_commands.specs.Record.{IsUnrecorded}
 use Rattle.cpm_commands.specs.declared.drives.DrivePlace.{DrivePlace}
-use Rattle.cpm_commands.specs.declared.plan.FileRole.TheVariants.{Folder, Image, Plain}
+use Rattle.cpm_commands.specs.declared.plan.FileRole.TheVariants.{Folder, Image, Plain, Saving as SavingFile}
 use Rattle.cpm_commands.specs.declared.plan.OutputNaming.TheVariants.{Replaces}
 use Rattle.cpm_commands.specs.declared.play.StartedPlay.{StartedPlay}
 
 -- ---- what is asked
 
--- the program is read and what its drives come from, the system drive, a script and a recording; its drives are written, files of them into folders, the
--- record of its keys, and what it prints
+-- a saved machine is read, or the program and what its drives come from, the system drive, a script and a recording; its drives are written, files of them
+-- into folders, the record of its keys, what it prints, and the machine
 abbrev pub plan_of_play : PlayTask → List DrivePlace → Plan
 plan_of_play task places = record {
-  inputs = planned_if_any Plain (option_map (λ n. n.now) task.file) ++ inputs_of_places places
+  inputs = planned_if_any SavingFile (option_map (λ n. n.now) task.from) ++ planned_if_any Plain (option_map (λ n. n.now) task.file) ++ inputs_of_places places
       ++ planned_if_any Image (option_map (λ n. n.now) task.system)
       ++ planned_if_any Plain (option_map (λ n. n.now) task.keys) ++ planned_if_any Plain (option_map (λ n. n.now) task.replay);
   outputs = all_planned Image (map (λ n. n.now) task.outs.items) ++ all_planned Folder (map (λ n. n.now) task.out_folders.items)
-      ++ planned_if_any Plain (option_map (λ n. n.now) task.record) ++ planned_if_any Plain (option_map (λ n. n.now) task.list);
+      ++ planned_if_any Plain (option_map (λ n. n.now) task.record) ++ planned_if_any Plain (option_map (λ n. n.now) task.list)
+      ++ planned_if_any SavingFile (option_map (λ n. n.now) task.save);
   naming = Replaces;
 }
 
@@ -55,9 +58,9 @@ plan_of_play task places = record {
 abbrev pub writes_disks : PlayTask → Bool
 writes_disks task = not (length task.outs.items == 0) || not (length task.out_folders.items == 0)
 
--- files are named for what comes of it: for its drives, for what it prints, or for its keys
+-- files are named for what comes of it: for its drives, for what it prints, for its keys, or for the machine
 abbrev pub writes_files : PlayTask → Bool
-writes_files task = writes_disks task || is_some task.list || is_some task.record
+writes_files task = writes_disks task || is_some task.list || is_some task.record || is_some task.save
 
 -- how many steps it has at most where nobody says: there is no limit where a person ends it, and where files are written; else they count from the last key
 -- with a count, so that all such keys come
@@ -99,28 +102,50 @@ abbrev pub IsSystemUnread : {F : Type 0} → (F → StoreAccess → F → Type 0
 IsSystemUnread {F} does None old new e = ⊥
 IsSystemUnread {F} does (Some name) old new e = IsDiskUnread does name old new e
 
--- the program, its drives and then the system drive were read, with which it runs
+-- the file of a saved machine gave it, if one is named
+abbrev pub IsSavedRead : {F : Type 0} → (F → StoreAccess → F → Type 0) → Option StoreName → F → F → Option Saving → Type 0
+IsSavedRead {F} does None old new None = new ≡ old
+IsSavedRead {F} does (Some name) old new (Some x) = (bytes : List ℕ) × does old (Gave name bytes) new × (restored bytes ≡ Ok x)
+IsSavedRead {F} does _ old new _ = ⊥
+
+-- the file can't be read, or is no saved machine; or memory was refused
+abbrev pub IsSavedUnread : {F : Type 0} → (F → StoreAccess → F → Type 0) → Option StoreName → F → F → HostError → Type 0
+IsSavedUnread {F} does None old new e = ⊥
+IsSavedUnread {F} does (Some name) old new e =
+    (IsUnread name e × does old (Missed name) new) ⊎ ((bytes : List ℕ) × does old (Gave name bytes) new × IsSavingRefusal name bytes e)
+
+-- a saved machine, or the program and its drives, and then the system drive were read, with which it runs
 pub record IsStartRead {F : Type 0} (does : F → StoreAccess → F → Type 0) (task : PlayTask) (places : List DrivePlace) (tail : Option (List ℕ)) (old new : F)
     (g : ProgramInput) : Type 0 where
+  pub given : F
   pub begun : F
   pub between : F
-  pub read : IsProgramRead does (option_map (λ n. n.now) task.file) old begun g.program
+  pub saved : IsSavedRead does (option_map (λ n. n.now) task.from) old given g.saved
+  pub read : IsProgramRead does (option_map (λ n. n.now) task.file) given begun g.program
   pub drives : AreDrivesRead does places begun between g.drives
   pub system : IsSystemRead does (option_map (λ n. n.now) task.system) between new g.system
   pub cpu : g.cpu ≡ task.cpu
   pub tail_left : g.tail ≡ tail
 
--- the program can't be read, or is too long; or a drive can't be read, or is none; or there are too many; or the system drive can't be read
+-- the saved machine can't be read, or is none; or the program can't be read, or is too long; or a drive can't be read, or is none; or there are too many;
+-- or the system drive can't be read
 pub data IsStartRefused {F : Type 0} (does : F → StoreAccess → F → Type 0) (task : PlayTask) (places : List DrivePlace) (old new : F) (e : HostError)
     : Type 0 where
-  Unread : IsProgramUnread does (option_map (λ n. n.now) task.file) old new e → IsStartRefused does task places old new e
-  TooLong : (g : ProgramInput) → IsProgramRead does (option_map (λ n. n.now) task.file) old new g.program → g.drives ≡ [] → IsProgramRefusal g e
+  NoSaved : IsSavedUnread does (option_map (λ n. n.now) task.from) old new e → IsStartRefused does task places old new e
+  Unread : (saved : Option Saving) (given : F) → IsSavedRead does (option_map (λ n. n.now) task.from) old given saved
+      → IsProgramUnread does (option_map (λ n. n.now) task.file) given new e → IsStartRefused does task places old new e
+  TooLong : (g : ProgramInput) (given : F) → IsSavedRead does (option_map (λ n. n.now) task.from) old given g.saved
+      → IsProgramRead does (option_map (λ n. n.now) task.file) given new g.program → g.drives ≡ [] → IsProgramRefusal g e
       → IsStartRefused does task places old new e
-  NoDrives : (program : Option (List ℕ)) (begun : F) → IsProgramRead does (option_map (λ n. n.now) task.file) old begun program
+  NoDrives : (saved : Option Saving) (program : Option (List ℕ)) (given begun : F) → IsSavedRead does (option_map (λ n. n.now) task.from) old given saved
+      → IsProgramRead does (option_map (λ n. n.now) task.file) given begun program
       → AreDrivesRefused does places begun new e → IsStartRefused does task places old new e
-  TooMany : (g : ProgramInput) (begun : F) → IsProgramRead does (option_map (λ n. n.now) task.file) old begun g.program
+  TooMany : (g : ProgramInput) (given begun : F) → IsSavedRead does (option_map (λ n. n.now) task.from) old given g.saved
+      → IsProgramRead does (option_map (λ n. n.now) task.file) given begun g.program
       → AreDrivesRead does places begun new g.drives → IsProgramRefusal g e → IsStartRefused does task places old new e
-  NoSystem : (program : Option (List ℕ)) (drives : List Disk) (begun between : F) → IsProgramRead does (option_map (λ n. n.now) task.file) old begun program
+  NoSystem : (saved : Option Saving) (program : Option (List ℕ)) (drives : List Disk) (given begun between : F)
+      → IsSavedRead does (option_map (λ n. n.now) task.from) old given saved
+      → IsProgramRead does (option_map (λ n. n.now) task.file) given begun program
       → AreDrivesRead does places begun between drives → IsSystemUnread does (option_map (λ n. n.now) task.system) between new e
       → IsStartRefused does task places old new e
 
@@ -176,9 +201,9 @@ by_steps (Some end) = false
 abbrev pub is_cut_off : PlayTask → ProgramPlay → Bool
 is_cut_off task play = is_some task.steps && is_running play.ending.ended && not play.waits && by_steps play.end
 
--- its disks were to be written, but not in part
+-- its disks were to be written, but not in part; where the machine is saved, which can go on, they are written all the same
 abbrev pub is_kept_back : PlayTask → ProgramPlay → Bool
-is_kept_back task play = writes_disks task && not task.is_partial && is_cut_off task play
+is_kept_back task play = writes_disks task && not task.is_partial && not (is_some task.save) && is_cut_off task play
 
 -- the exit status that tells how a program ended
 abbrev pub status_of_end : End → ℕ
@@ -231,6 +256,7 @@ pub record HasPlayedMachine {F : Type 0} (acts : ReadActs F) (task : PlayTask) (
   pub source : Source
   pub source_is : source_of task said source
   pub played : IsPlayedBy source (system_disk g) (machine_of g) (steps_asked task said) play io
+  pub saves : HasSaved (is_some task.save) (system_disk g) (machine_of g) play
 
 -- how far it came that was not played
 pub data IsPlayStopped {F : Type 0} (acts : ReadActs F) (task : PlayTask) (io : Streams) (old new : F) (e : HostError) : Type 0 where
@@ -254,7 +280,7 @@ pub data IsPlayStopped {F : Type 0} (acts : ReadActs F) (task : PlayTask) (io : 
       → IsPlayStopped acts task io old new e
   -- it was not played to its end
   NotPlayed : (places : List DrivePlace) (g : ProgramInput) (said : List Cue) (source : Source) → IsPlayRead acts task places old new g said
-      → source_of task said source → IsProgramPlayRefusal source g (steps_asked task said) io e → IsPlayStopped acts task io old new e
+      → source_of task said source → IsProgramPlayRefusal (is_some task.save) source g (steps_asked task said) io e → IsPlayStopped acts task io old new e
 
 -- the folders, each with its drive as the machine began with it
 abbrev pub task_starts : PlayTask → ProgramInput → List (StoreName × Option Disk)
@@ -269,6 +295,13 @@ write_acts {F} acts gives_names = record {
   unlists = acts.unlists;
 }
 
+-- what it printed, and the machine as it was left, if it is saved
+abbrev pub texts_left : (printed : Option (List ℕ)) → ProgramPlay → Texts
+texts_left printed play = record {
+  printed = printed;
+  saved = option_map (λ v. v.items) play.saved;
+}
+
 -- with what it printed: that is known from nothing on where a file is named for it
 abbrev pub with_printed : PlayTask → Streams → (printed : Option (List ℕ)) → Streams
 with_printed task io printed =
@@ -280,9 +313,9 @@ pub record HasPlayedWith {F : Type 0} (acts : ReadActs F) (task : PlayTask) (io 
   pub played : HasPlayedMachine acts task io old new p.play
   pub starts : map folder_view p.starts.items ≡ task_starts task played.g
 
--- A program was played, and then the record of its keys was ended, and what it printed was written where a file is named for it, and its drives, or files of
--- them, and got their names: it was not cut off, or they are written in part. It was told which files were not written, how it ended, whether it was to stop
--- where it waits, and did, and whether what it printed was dropped; and the status is given.
+-- A program was played, and then the record of its keys was ended, and what it printed was written where a file is named for it, and the machine, and its
+-- drives, or files of them, and got their names: it was not cut off, or they are written in part. It was told which files were not written, how it ended,
+-- whether it was to stop where it waits, and did, and whether what it printed was dropped; and the status is given.
 pub record HasPlayedTask {F : Type 0} (acts : ReadActs F) (gives_names : F → Option HostError → F → Type 0) (ended : Option HostError → Type 0)
     (told : List (List ℕ × NamedFile) → Ending → (waits : Bool) → Option PlayEnd → (dropped : Bool) → Type 0) (task : PlayTask) (io : Streams)
     (old new : F) (status : ℕ) : Type 0 where
@@ -295,7 +328,7 @@ pub record HasPlayedTask {F : Type 0} (acts : ReadActs F) (gives_names : F → O
   pub drops : MayBeDropped printed dropped
   pub recorded : ended None
   pub whole : is_kept_back task play ≡ false
-  pub left : IsPlayLeft (write_acts acts gives_names) task (task_starts task played.g) printed play.drives read new unwritten
+  pub left : IsPlayLeft (write_acts acts gives_names) task (task_starts task played.g) (texts_left printed play) play.drives read new unwritten
   pub tells : told unwritten play.ending (play.waits && task.stops_idle) play.end dropped
   pub gives : status ≡ status_of task play.ending
 
@@ -316,5 +349,5 @@ pub data IsPlayRefused {F : Type 0} (acts : ReadActs F) (gives_names : F → Opt
   -- what was played can't be written, or can't have its names
   NotLeft : (play : ProgramPlay) (printed : Option (List ℕ)) (read : F)
       → (played : HasPlayedMachine acts task (with_printed task io printed) old read play) → ended None → is_kept_back task play ≡ false
-      → IsPlayUnleft (write_acts acts gives_names) task (task_starts task played.g) printed play.drives read new e
+      → IsPlayUnleft (write_acts acts gives_names) task (task_starts task played.g) (texts_left printed play) play.drives read new e
       → IsPlayRefused acts gives_names ended task io old new e

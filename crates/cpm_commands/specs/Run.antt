@@ -8,7 +8,7 @@ use Rattle.cpm_command_line.specs.declared.task.RunTask.{RunTask}
 use Rattle.cpm_config.specs.Rules.{IsRead}
 use Rattle.cpm_config.specs.declared.config.Config.{Config}
 use Rattle.cpm_config.specs.declared.config.Origin.{Origin}
-use Rattle.cpm_config.specs.declared.config.Origin.TheVariants.{Opened, Forked}
+use Rattle.cpm_config.specs.declared.config.Origin.TheVariants.{Opened, Forked, Restored}
 use Rattle.cpm_config.specs.declared.config.SessionConfig.{SessionConfig}
 use Rattle.cpm_config.specs.declared.fault.ConfigError.{ConfigError}
 use Rattle.cpm_host.specs.Refusals.{host_error_of_config, host_error_of_run}
@@ -31,7 +31,7 @@ use Rattle.cpm_commands.specs.Record.{IsUnrecorded}
 use Rattle.cpm_commands.specs.Replays.{IsReplayRefusal, replay_view, replays_from}
 use Rattle.cpm_commands.specs.Report.{IsReported, IsUnprinted, report_text}
 use Rattle.cpm_commands.specs.Typed.{IsScriptKept, is_typed_at, typed_script}
-use Rattle.cpm_commands.specs.declared.plan.FileRole.TheVariants.{Configuration, Image, Plain, Script}
+use Rattle.cpm_commands.specs.declared.plan.FileRole.TheVariants.{Configuration, Image, Plain, Saving, Script}
 use Rattle.cpm_commands.specs.declared.plan.OutputNaming.TheVariants.{Replaces}
 
 -- ---- the configuration
@@ -48,23 +48,26 @@ IsConfigRefused {F} does name old new e =
 
 -- ---- its files
 
--- the drives of a session that is opened
-abbrev pub drives_named : Origin → List StoreName
-drives_named (Opened cpu quota drives) = map string_bytes drives.items
-drives_named (Forked parent at) = []
+-- what a session begins with: its drives where it is opened, and the saving that it goes on from
+abbrev pub beginning_named : Origin → List PlannedName
+beginning_named (Opened cpu quota drives) = all_planned Image (map string_bytes drives.items)
+beginning_named (Forked parent at) = []
+beginning_named (Restored saving) = planned (string_bytes saving) Saving ∷ []
 
 abbrev pub images_named : Option (Vec (String Global) Global) → List StoreName
 images_named None = []
 images_named (Some names) = map string_bytes names.items
 
--- what a session reads: its drives, and its script, or the recording in place of that
+-- what a session reads: what it begins with, and its script, or the recording in place of that
 abbrev pub session_inputs : List Replay → SessionConfig → List PlannedName
-session_inputs replays s = all_planned Image (drives_named s.origin) ++ planned_if_any Plain (key_file (key_source replays s))
+session_inputs replays s = beginning_named s.origin ++ planned_if_any Plain (key_file (key_source replays s))
 
--- what it writes: the text of its console, that of its list device, and its drives, as far as files are named for them
+-- what it writes: the text of its console, that of its list device, its drives and its saving, as far as files are named for them
 abbrev pub session_outputs : SessionConfig → List PlannedName
 session_outputs s =
-    planned (string_bytes s.console) Plain ∷ (planned_if_any Plain (option_map string_bytes s.list) ++ all_planned Image (images_named s.out))
+    planned (string_bytes s.console) Plain
+    ∷ (planned_if_any Plain (option_map string_bytes s.list)
+    ++ (all_planned Image (images_named s.out) ++ planned_if_any Saving (option_map string_bytes s.save)))
 
 -- what a run reads, in this order: the configuration, the system drive, and what each session does
 abbrev pub run_inputs : StoreName → Config → List Replay → List PlannedName

@@ -6,7 +6,7 @@ use Rattle.cpm_command_line.specs.declared.task.DiskTask.{DiskTask}
 use Rattle.cpm_command_line.specs.declared.task.DiskTask.TheVariants.{New, List as Listing, Put, Get, Remove, Rename}
 use Rattle.cpm_command_line.specs.declared.task.PlayTask.{PlayTask}
 use Rattle.cpm_command_line.specs.declared.task.Task.{Task}
-use Rattle.cpm_command_line.specs.declared.task.Task.TheVariants.{Com, Boot, Asm, List as Lines, Check, Run, Debug, Disk, Help}
+use Rattle.cpm_command_line.specs.declared.task.Task.TheVariants.{Com, Boot, Asm, List as Lines, Check, Run, Debug, Saved, Disk, Help}
 use Rattle.cpm_disk_commands.specs.declared.damage.NamedFile.{NamedFile}
 use Rattle.cpm_host.specs.declared.error.HostError.{HostError}
 use Rattle.cpm_play.specs.declared.live.PlayEnd.{PlayEnd}
@@ -18,7 +18,7 @@ use Rattle.cpm_store.specs.Files.{StoreFiles, StoreName}
 use Rattle.cpm_store.specs.Log.{StoreAccess}
 use Rattle.cpm_commands.specs.Asm.{HasAssembled, IsAsmRefused}
 use Rattle.cpm_commands.specs.Check.{HasChecked, IsCheckRefused}
-use Rattle.cpm_commands.specs.Debug.{HasDebugged, IsDebugRefused}
+use Rattle.cpm_commands.specs.Debug.{IsDebugTaskDone, IsDebugTaskRefused}
 use Rattle.cpm_commands.specs.Disk.{ArePut, HasChanged, HasListedDisk, HasMadeDisk, HasRemoved, HasRenamedOn}
 use Rattle.cpm_commands.specs.Disk.{IsChangeRefused, IsDiskListRefused, IsNewRefused, IsNotRemoved, IsPutStopped, IsRenameRefused}
 use Rattle.cpm_commands.specs.Get.{HasGot, IsGetRefused}
@@ -27,6 +27,7 @@ use Rattle.cpm_commands.specs.Plan.{Plan}
 use Rattle.cpm_commands.specs.Play.{HasPlayedTask, IsPlayRefused, ReadActs}
 use Rattle.cpm_commands.specs.Report.{IsUnprinted}
 use Rattle.cpm_commands.specs.Run.{HasRunSessions, IsRunStopped}
+use Rattle.cpm_commands.specs.Saved.{HasToldSaved, IsSavedTellingRefused}
 use Rattle.cpm_commands.specs.declared.drives.DrivePlace.{DrivePlace}
 
 -- ---- what a command goes through
@@ -113,8 +114,8 @@ IsPlainTaskDone {F} {W} acts told p (Check image) = HasChecked acts.does image.n
 IsPlainTaskDone {F} {W} acts told p (Run task) =
     HasRunSessions (store_acts acts) acts.sees_to acts.gives_names acts.tells_name told.ended told.told_illegal task p.old p.new
     p.io.unread p.io.left p.io.before.console p.io.written.console p.io.unrecorded p.io.record_now
-IsPlainTaskDone {F} {W} acts told p (Debug file cpu list) =
-    HasDebugged acts.does file.now cpu (option_map (λ n. n.now) list) p.old p.new p.unread p.io.before.console p.io.written.console
+IsPlainTaskDone {F} {W} acts told p (Debug task) = IsDebugTaskDone acts.does task p.old p.new p.unread p.io.before.console p.io.written.console
+IsPlainTaskDone {F} {W} acts told p (Saved file) = HasToldSaved acts.does file.now p.old p.new p.io.before.console p.io.written.console
 IsPlainTaskDone {F} {W} acts told p (Disk task) = IsDiskTaskDone acts p task
 IsPlainTaskDone {F} {W} acts told p (Help page) = (p.new ≡ p.old) × Appends p.io.before.console p.io.written.console (text_of_page page)
 
@@ -127,7 +128,7 @@ plays_programs _ = false
 
 -- it takes its orders from standard input
 abbrev pub reads_orders : Task → Bool
-reads_orders (Debug file cpu list) = true
+reads_orders (Debug task) = true
 reads_orders _ = false
 
 -- The command that the words name, by their values, and no other; and the exit status.
@@ -170,7 +171,8 @@ IsTaskRefused {F} {W} acts told p (Check image) e = IsCheckRefused acts.does ima
 IsTaskRefused {F} {W} acts told p (Run task) e =
     IsRunStopped (store_acts acts) acts.sees_to acts.gives_names acts.tells_name told.ended told.told_illegal task p.old p.new
     p.io.unread p.io.left p.io.before.console p.io.written.console p.io.unrecorded p.io.record_now e
-IsTaskRefused {F} {W} acts told p (Debug file cpu list) e =
-    IsDebugRefused acts.does file.now cpu (option_map (λ n. n.now) list) p.old p.new p.unread p.io.before.console p.io.written.console p.out p.out_now e
+IsTaskRefused {F} {W} acts told p (Debug task) e =
+    IsDebugTaskRefused acts.does task p.old p.new p.unread p.io.before.console p.io.written.console p.out p.out_now e
+IsTaskRefused {F} {W} acts told p (Saved file) e = IsSavedTellingRefused acts.does file.now p.old p.new p.out p.out_now e
 IsTaskRefused {F} {W} acts told p (Disk task) e = IsDiskTaskRefused acts p task e
 IsTaskRefused {F} {W} acts told p (Help page) e = (p.new ≡ p.old) × IsUnprinted e

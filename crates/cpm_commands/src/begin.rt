@@ -1,15 +1,20 @@
 //! What a machine begins with, and its keys: read of their files.
-ghost use Rattle.std.specs.Prelude.{IfErr, IfOk, map, option_map};
+ghost use Rattle.std.specs.Prelude.{◌≡◌, IfErr, IfOk, is_some, map, option_map};
 ghost use Rattle.cpm_commands.specs.Play.{AreCuesRead, AreCuesRefused, AreKeysRead, AreKeysRefused, AreRecordedRead, AreRecordedRefused};
-ghost use Rattle.cpm_commands.specs.Play.{IsProgramRead, IsProgramUnread, IsStartRead, IsStartRefused, IsSystemRead, IsSystemUnread, IsTailOf};
+ghost use Rattle.cpm_commands.specs.Play.{IsProgramRead, IsProgramUnread, IsSavedRead, IsSavedUnread, IsStartRead, IsStartRefused};
+ghost use Rattle.cpm_commands.specs.Play.{IsSystemRead, IsSystemUnread, IsTailOf};
 ghost use Rattle.cpm_host.specs.Program.{AreFit, program_given};
+ghost use Rattle.cpm_batch.specs.Savings.{saving_view};
 ghost use Rattle.cpm_host.specs.Tails.{IsTailRefusal};
 
 use crate::disk::read_image;
 use crate::drives::{DrivePlace, read_drives};
 use crate::files::{CommandFiles, read_file};
 use cpm_geom::Image;
-use cpm_host::{Cue, HostError, PlayTask, ProgramStart, Tail, cues_of, recorded_cues_of, tail_of};
+use cpm_host::{
+    Cue, HostError, PlayTask, ProgramStart, SavedMachine, Tail, cues_of, recorded_cues_of,
+    saved_machine_of, tail_of,
+};
 use std::alloc::Global;
 
 /// The tail that is left in the memory: none where there is no program, or neither a word of it nor a disk.
@@ -38,8 +43,24 @@ fn read_program<F: CommandFiles>(
     }
 }
 
+/// The machine that was saved in a file, if one is named.
+fn read_saved<F: CommandFiles>(
+    alloc: Global,
+    name: Option<&str>,
+    files: &mut F,
+) -> Result<Option<Box<SavedMachine>>, HostError>
+    ensures read { IfOk result (λ s. IsSavedRead F.does (option_map (λ n. n.now) name.entry) files.old files.new (option_map (λ b. saving_view b.value) s)) }
+    ensures refusal { IfErr result (IsSavedUnread F.does (option_map (λ n. n.now) name.entry) files.old files.new) }
+{
+    let Some(name) = name else {
+        return Ok(None);
+    };
+    let bytes = read_file(alloc, files, name)?;
+    Ok(Some(saved_machine_of(alloc, name, bytes.as_slice())?))
+}
+
 /// The system drive in a file, if one is named.
-fn read_system<F: CommandFiles>(
+pub(crate) fn read_system<F: CommandFiles>(
     alloc: Global,
     name: Option<&str>,
     files: &mut F,
@@ -53,7 +74,7 @@ fn read_system<F: CommandFiles>(
     }
 }
 
-/// What a machine begins with: a program, its drives and then the system drive, each read and checked before the next.
+/// What a machine begins with: a saved machine, or a program and its drives, and then the system drive, each read and checked before the next.
 pub(crate) fn read_start<F: CommandFiles>(
     alloc: Global,
     task: &PlayTask<'_>,
@@ -62,8 +83,10 @@ pub(crate) fn read_start<F: CommandFiles>(
     files: &mut F,
 ) -> Result<ProgramStart, HostError>
     ensures read { IfOk result (λ start. IsStartRead F.does task.now places.now tail files.old files.new (program_given start)) }
+    ensures saves { IfOk result (λ start. start.is_saved ≡ is_some task.now.save) }
     ensures refusal { IfErr result (IsStartRefused F.does task.now places.now files.old files.new) }
 {
+    let saved = read_saved(alloc, task.from, files)?;
     let program = read_program(alloc, task.file, files)?;
     let mut start = ProgramStart {
         cpu: task.cpu,
@@ -71,6 +94,8 @@ pub(crate) fn read_start<F: CommandFiles>(
         tail,
         drives: Vec::new(alloc),
         system: None,
+        saved,
+        is_saved: task.save.is_some(),
     };
     start.check()?;
     start.drives = read_drives(alloc, places, files)?;

@@ -1,10 +1,10 @@
-//! What is written once a machine was played: what it printed, images of its drives, and files of them into folders.
+//! What is written once a machine was played: what it printed, the machine itself, images of its drives, and files of them into folders.
 ghost use Rattle.std.specs.Prelude.{◌≡◌, ◌⊎◌, ◌<◌, ◌≤◌, ◌+◌, ◌++◌, [], IfErr, IfOk, IsOk, OnOk, Some, map, option_map, string_bytes, vec_len};
 ghost use Rattle.std.specs.Vec.{vec_capacity};
 ghost use Rattle.cpm_batch.specs.Outputs.{named_image};
 ghost use Rattle.cpm_commands.specs.Files.{AreUnwritten, AreWritten};
 ghost use Rattle.cpm_commands.specs.Left.{AreFoldersUnwritten, AreFoldersWritten, HasAllLeft, IsPlayLeft, IsPlayUnleft, IsSeenUnwritten, IsSeenWritten};
-ghost use Rattle.cpm_commands.specs.Left.{drive_outputs, named_list, outputs_with, plan_of_left};
+ghost use Rattle.cpm_commands.specs.Left.{drive_outputs, named_text, outputs_with, plan_of_left, left_texts_view};
 ghost use Rattle.cpm_commands.specs.OutFolder.{AreFoldersUnleft, HasAddedFiles, IsEven, folder_view, unwritten_view};
 ghost use Rattle.cpm_commands.specs.Plan.{plan_view};
 ghost use Rattle.cpm_store.specs.Writes.{named_output};
@@ -18,19 +18,26 @@ use cpm_host::{HostError, PlayTask};
 use cpm_store::Output;
 use std::alloc::{AllocError, Global};
 
-/// Adds what was printed to what is written, where it was kept and a file is named for it.
-fn add_list<'a>(
+/// What is written beside the drives: what was printed, where it was kept, and the bytes of the machine, where it was saved.
+#[derive(Drop)]
+pub(crate) struct LeftTexts {
+    pub printed: Option<Vec<u8>>,
+    pub saved: Option<Vec<u8>>,
+}
+
+/// Adds bytes to what is written, where there are any and a file is named for them.
+fn add_text<'a>(
     outputs: &mut Vec<Output<'a>>,
     name: Option<&'a str>,
-    printed: Option<Vec<u8>>,
+    bytes: Option<Vec<u8>>,
 ) -> Result<(), AllocError>
     ensures added { OnOk result (map named_output outputs.new.items
-        ≡ map named_output outputs.old.items ++ named_list (option_map (λ n. n.now) name.entry) (option_map (λ v. v.items) printed)) }
+        ≡ map named_output outputs.old.items ++ named_text (option_map (λ n. n.now) name.entry) (option_map (λ v. v.items) bytes)) }
     ensures grown { vec_len outputs.new ≤ vec_len outputs.old + 1 }
     ensures capacity { vec_capacity outputs.old ≤ vec_capacity outputs.new }
     ensures room { vec_len outputs.old < vec_capacity outputs.old → IsOk result }
 {
-    if let (Some(name), Some(bytes)) = (name, printed) {
+    if let (Some(name), Some(bytes)) = (name, bytes) {
         outputs.push(Output { name, bytes })?;
     }
     Ok(())
@@ -72,41 +79,37 @@ fn add_drives<'a>(
     Ok(())
 }
 
-/// Writes what was printed and the images of the drives A to D, as far as files are named for them, and gives them their names.
-fn write_list_and_drives<'a, F: CommandFiles>(
+/// Writes the texts and the images of the drives A to D, as far as files are named for them, and gives them their names.
+fn write_texts_and_drives<'a, F: CommandFiles>(
     outputs: Vec<Output<'a>>,
-    list: Option<&'a str>,
-    outs: &[&'a str],
-    printed: Option<Vec<u8>>,
+    task: &PlayTask<'a>,
+    texts: LeftTexts,
     drives: [Option<Image>; 4],
     files: &mut F,
 ) -> Result<(), HostError>
     requires none { outputs.items ≡ [] }
-    requires room { 5 ≤ vec_capacity outputs }
-    ensures written { OnOk result (AreWritten F.does F.gives_names
-        (outputs_with (option_map (λ n. n.now) list.entry) (map (λ n. n.now) outs.now) (option_map (λ v. v.items) printed) drives [])
-        files.old files.new) }
-    ensures refusal { IfErr result (AreUnwritten F.does F.gives_names
-        (outputs_with (option_map (λ n. n.now) list.entry) (map (λ n. n.now) outs.now) (option_map (λ v. v.items) printed) drives [])
-        files.old files.new) }
+    requires room { 6 ≤ vec_capacity outputs }
+    ensures written { OnOk result (AreWritten F.does F.gives_names (outputs_with task.now (left_texts_view texts) drives []) files.old files.new) }
+    ensures refusal { IfErr result (AreUnwritten F.does F.gives_names (outputs_with task.now (left_texts_view texts) drives []) files.old files.new) }
 {
     let mut outputs = outputs;
-    add_list(&mut outputs, list, printed)?;
-    add_drives(&mut outputs, outs, drives)?;
+    add_text(&mut outputs, task.list, texts.printed)?;
+    add_text(&mut outputs, task.save, texts.saved)?;
+    add_drives(&mut outputs, &task.outs, drives)?;
     write_named(outputs.as_slice(), files)
 }
 
-/// Adds what was printed to what is written beside the files of folders, where it was kept and a file is named for it.
-fn add_list_beside(
+/// Adds bytes to what is written beside the files of folders, where there are any and a file is named for them.
+fn add_text_beside(
     alloc: Global,
     left: &mut LeftFiles,
     name: Option<&str>,
-    printed: Option<Vec<u8>>,
+    bytes: Option<Vec<u8>>,
 ) -> Result<(), AllocError>
     requires { IsEven left.old }
-    ensures { OnOk result (HasAddedFiles left.old left.new (named_list (option_map (λ n. n.now) name.entry) (option_map (λ v. v.items) printed)) []) }
+    ensures { OnOk result (HasAddedFiles left.old left.new (named_text (option_map (λ n. n.now) name.entry) (option_map (λ v. v.items) bytes)) []) }
 {
-    match (name, printed) {
+    match (name, bytes) {
         (Some(name), Some(bytes)) => left.add_output(String::from_str(alloc, name)?, bytes),
         _ => Ok(()),
     }
@@ -144,23 +147,22 @@ fn add_images(
     Ok(())
 }
 
-/// All that is written where there are folders: their files, what was printed, and the images.
+/// All that is written where there are folders: their files, the texts, and the images.
 fn all_left<F: CommandFiles>(
     alloc: Global,
-    list: Option<&str>,
-    outs: &[&str],
+    task: &PlayTask<'_>,
     starts: &[FolderStart],
-    printed: Option<Vec<u8>>,
+    texts: LeftTexts,
     drives: [Option<Image>; 4],
     files: &F,
 ) -> Result<LeftFiles, HostError>
-    ensures left { IfOk result (HasAllLeft F.lists files.now (option_map (λ n. n.now) list.entry) (map (λ n. n.now) outs.now) (map folder_view starts.now)
-        (option_map (λ v. v.items) printed) drives) }
+    ensures left { IfOk result (HasAllLeft F.lists files.now task.now (map folder_view starts.now) (left_texts_view texts) drives) }
     ensures refusal { IfErr result (λ e. AreFoldersUnleft F.unlists files.now (map folder_view starts.now) drives e ⊎ (e ≡ HostError.OutOfMemory)) }
 {
     let mut left = left_files(alloc, starts, drives.as_slice(), files)?;
-    add_list_beside(alloc, &mut left, list, printed)?;
-    add_images(alloc, &mut left, outs, drives)?;
+    add_text_beside(alloc, &mut left, task.list, texts.printed)?;
+    add_text_beside(alloc, &mut left, task.save, texts.saved)?;
+    add_images(alloc, &mut left, &task.outs, drives)?;
     Ok(left)
 }
 
@@ -209,56 +211,56 @@ fn write_seen<F: CommandFiles>(
     write_named(outputs, files)
 }
 
-/// Writes the files of drives into their folders, what was printed, and images, and gives them their names. What is not written is given.
+/// Writes the files of drives into their folders, the texts, and images, and gives them their names. What is not written is given.
 fn write_folders<F: CommandFiles>(
     alloc: Global,
     task: &PlayTask<'_>,
     starts: &[FolderStart],
-    printed: Option<Vec<u8>>,
+    texts: LeftTexts,
     drives: [Option<Image>; 4],
     files: &mut F,
 ) -> Result<Vec<UnwrittenFile>, HostError>
     ensures left { IfOk result (λ u. AreFoldersWritten
         (record { does = F.does; sees_to = F.sees_to; gives_names = F.gives_names; lists = F.lists; unlists = F.unlists })
-        task.now (map folder_view starts.now) (option_map (λ v. v.items) printed) drives files.old files.new (map unwritten_view u.items)) }
+        task.now (map folder_view starts.now) (left_texts_view texts) drives files.old files.new (map unwritten_view u.items)) }
     ensures refusal { IfErr result (AreFoldersUnwritten
         (record { does = F.does; sees_to = F.sees_to; gives_names = F.gives_names; lists = F.lists; unlists = F.unlists })
-        task.now (map folder_view starts.now) (option_map (λ v. v.items) printed) drives files.old files.new) }
+        task.now (map folder_view starts.now) (left_texts_view texts) drives files.old files.new) }
 {
     let LeftFiles {
         paths,
         contents,
         unwritten,
-    } = all_left(alloc, task.list, &task.outs, starts, printed, drives, files)?;
+    } = all_left(alloc, task, starts, texts, drives, files)?;
     let outputs = outputs_of(alloc, paths.as_slice(), contents)?;
     let record = owned_if_any(alloc, task.record)?;
     write_seen(alloc, outputs.as_slice(), &record, files)?;
     Ok(unwritten)
 }
 
-/// Writes what was played: what it printed, images, and the files of drives that have folders. What is not written into these is given.
+/// Writes what was played: what it printed, the machine, images, and the files of drives that have folders. What is not written into these is given.
 pub(crate) fn write_left<'a, F: CommandFiles>(
     alloc: Global,
     task: &PlayTask<'a>,
     starts: &[FolderStart],
     room: Vec<Output<'a>>,
-    printed: Option<Vec<u8>>,
+    texts: LeftTexts,
     drives: [Option<Image>; 4],
     files: &mut F,
 ) -> Result<Vec<UnwrittenFile>, HostError>
     requires none { room.items ≡ [] }
-    requires room { 5 ≤ vec_capacity room }
+    requires room { 6 ≤ vec_capacity room }
     ensures left { IfOk result (λ u. IsPlayLeft
         (record { does = F.does; sees_to = F.sees_to; gives_names = F.gives_names; lists = F.lists; unlists = F.unlists })
-        task.now (map folder_view starts.now) (option_map (λ v. v.items) printed) drives files.old files.new (map unwritten_view u.items)) }
+        task.now (map folder_view starts.now) (left_texts_view texts) drives files.old files.new (map unwritten_view u.items)) }
     ensures refusal { IfErr result (IsPlayUnleft
         (record { does = F.does; sees_to = F.sees_to; gives_names = F.gives_names; lists = F.lists; unlists = F.unlists })
-        task.now (map folder_view starts.now) (option_map (λ v. v.items) printed) drives files.old files.new) }
+        task.now (map folder_view starts.now) (left_texts_view texts) drives files.old files.new) }
 {
     if task.out_folders.is_empty() {
-        write_list_and_drives(room, task.list, &task.outs, printed, drives, files)?;
+        write_texts_and_drives(room, task, texts, drives, files)?;
         Ok(Vec::new(alloc))
     } else {
-        write_folders(alloc, task, starts, printed, drives, files)
+        write_folders(alloc, task, starts, texts, drives, files)
     }
 }

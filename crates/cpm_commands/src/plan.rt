@@ -22,6 +22,8 @@ pub enum FileRole {
     Configuration,
     /// The image of a drive, which may be written where one was read.
     Image,
+    /// A saved machine, which may be written where one was read.
+    Saving,
     /// A key script in the folder that a run writes its scripts to.
     Script,
     /// A folder that files are written into.

@@ -14,7 +14,7 @@ ghost use Rattle.cpm_script.specs.Cues.{cue_text, last_cue_count};
 use crate::begin::{read_keys, read_start, tail_if_any};
 use crate::drives::{DrivePlace, add_places, find_places, tell_left_out};
 use crate::files::CommandFiles;
-use crate::left::write_left;
+use crate::left::{LeftTexts, write_left};
 use crate::list_text::ListText;
 use crate::messages::{Messages, tell_end};
 use crate::out_folder::{FolderStart, folder_starts, tell_unwritten};
@@ -39,6 +39,7 @@ fn plan_of<'a>(
     ensures { IfOk result (λ p. plan_view p ≡ plan_of_play task.now places.entry.now) }
 {
     let mut inputs = Vec::new(alloc);
+    add_if_any(&mut inputs, task.from, FileRole::Saving)?;
     add_if_any(&mut inputs, task.file, FileRole::Plain)?;
     add_places(&mut inputs, places)?;
     add_if_any(&mut inputs, task.system, FileRole::Image)?;
@@ -49,6 +50,7 @@ fn plan_of<'a>(
     add_all(&mut outputs, &task.out_folders, FileRole::Folder)?;
     add_if_any(&mut outputs, task.record, FileRole::Plain)?;
     add_if_any(&mut outputs, task.list, FileRole::Plain)?;
+    add_if_any(&mut outputs, task.save, FileRole::Saving)?;
     Ok(FilePlan {
         inputs,
         outputs,
@@ -78,11 +80,11 @@ fn writes_disks(task: &PlayTask<'_>) -> bool
     !task.outs.is_empty() || !task.out_folders.is_empty()
 }
 
-/// Whether files are written of what comes of it: its disks, what it prints, or its keys.
+/// Whether files are written of what comes of it: its disks, what it prints, its keys, or the machine.
 fn writes_files(task: &PlayTask<'_>) -> bool
     ensures { result ≡ writes_files task.now }
 {
-    writes_disks(task) || task.list.is_some() || task.record.is_some()
+    writes_disks(task) || task.list.is_some() || task.record.is_some() || task.save.is_some()
 }
 
 /// The count of a key, where it has one; and else this one.
@@ -156,11 +158,11 @@ fn is_cut_off(task: &PlayTask<'_>, play: &ProgramPlay) -> bool
     task.steps.is_some() && runs(play.ending.ended) && !play.waits && by_steps(play.end)
 }
 
-/// Whether its disks are to be written only where it was not cut off, and it was.
+/// Whether its disks are to be written only where it was not cut off, and it was. Where the machine is saved, which can go on, they are written too.
 fn is_kept_back(task: &PlayTask<'_>, play: &ProgramPlay) -> bool
     ensures { result ≡ is_kept_back task.now play.now }
 {
-    writes_disks(task) && !task.is_partial && is_cut_off(task, play)
+    writes_disks(task) && !task.is_partial && task.save.is_none() && is_cut_off(task, play)
 }
 
 /// The exit status.
@@ -262,8 +264,9 @@ fn play_machine<F: CommandFiles, P: Typist, W: Write, L: Write, R: Write, T: Run
     Ok(StartedPlay { play, starts })
 }
 
-/// Plays a machine, by a program or from the prompt of CP/M. It shows its text as it comes. Once it was played it writes what it printed and its drives where
-/// files are named for them, and those of their files that are new or changed where folders are, and tells how it ended. It gives the exit status.
+/// Plays a machine, by a program, from the prompt of CP/M, or from where it was saved. It shows its text as it comes. Once it was played it writes what it
+/// printed, its drives and the machine itself where files are named for them, and those of their files that are new or changed where folders are, and tells
+/// how it ended. It gives the exit status.
 ///
 /// One that its limit of steps has cut off is `CutOff` where files or folders are named for its drives, and these are not to be written in part: nothing is
 /// written then, but the record of its keys is.
@@ -303,7 +306,7 @@ pub fn do_play_task<F: CommandFiles, P: Typist, W: Write, R: KeyRecord, T: RunWa
         (streams (P.typing typist.old) (P.typing typist.new) (W.contents out.old) (W.contents out.new) (R.contents «record».old) (R.contents «record».new))
         files.old files.new) }
 {
-    let room = Vec::with_capacity(alloc, 5)?;
+    let room = Vec::with_capacity(alloc, 6)?;
     let mut list = ListText::new(alloc, task.list.is_some());
     let StartedPlay { play, starts } = play_machine(
         alloc, task, files, typist, out, &mut list, record, watcher,
@@ -317,11 +320,15 @@ pub fn do_play_task<F: CommandFiles, P: Typist, W: Write, R: KeyRecord, T: RunWa
         drives,
         waits,
         end,
+        saved,
         ..
     } = play;
     let dropped = list.has_dropped();
-    let printed = list.into_kept();
-    let unwritten = write_left(alloc, task, starts.as_slice(), room, printed, drives, files)?;
+    let texts = LeftTexts {
+        printed: list.into_kept(),
+        saved,
+    };
+    let unwritten = write_left(alloc, task, starts.as_slice(), room, texts, drives, files)?;
     tell_unwritten(unwritten.as_slice(), watcher);
     tell_end(
         ending,

@@ -1,13 +1,14 @@
 //! The command `run`.
 ghost use Rattle.std.specs.Prelude.{◌≡◌, ◌++◌, ◌&&◌, IfErr, IfOk, None, OnOk, map, option_map, string_bytes, zip};
 ghost use Rattle.cpm_commands.specs.Messages.{HasToldIllegal};
-ghost use Rattle.cpm_commands.specs.Plan.{named_files, plan_view};
+ghost use Rattle.cpm_commands.specs.Plan.{all_planned, named_files, plan_view};
 ghost use Rattle.cpm_commands.specs.Record.{HasEndedRecord};
 ghost use Rattle.cpm_commands.specs.Report.{IsReported, report_text};
 ghost use Rattle.cpm_commands.specs.Replays.{IsReplayRefusal};
 ghost use Rattle.cpm_commands.specs.Run.{ArePlayedBack, HasRunAll, HasRunSessions, IsConfigRead, IsConfigRefused, IsEndStopped, IsRunAllStopped, IsRunStopped};
 ghost use Rattle.cpm_commands.specs.Run.{IsRunUnseen, plan_by, plan_of_run, record_mark, record_marks, run_inputs, run_outputs, script_names};
-ghost use Rattle.cpm_commands.specs.Run.{session_inputs, session_outputs};
+ghost use Rattle.cpm_commands.specs.Run.{beginning_named, images_named, session_inputs, session_outputs};
+ghost use Rattle.cpm_commands.specs.declared.plan.FileRole.TheVariants.{Image};
 ghost use Rattle.cpm_commands.specs.Typed.{IsScriptKept, is_typed_at, typed_script};
 ghost use Rattle.cpm_run.specs.Settled.{streams};
 
@@ -69,7 +70,18 @@ fn script_names(
     Ok(names)
 }
 
-/// Adds the drives of a session that is opened, and its script, or the recording in place of that.
+/// Adds what a session begins with: its drives where it is opened, and the saving that it goes on from.
+fn add_beginning<'a>(files: &mut Vec<PlannedFile<'a>>, origin: &'a Origin) -> Result<(), AllocError>
+    ensures { OnOk result (named_files files.new.items ≡ named_files files.old.items ++ beginning_named origin.entry.now) }
+{
+    match origin {
+        Origin::Opened { drives, .. } => add_strings(files, drives, FileRole::Image),
+        Origin::Restored { saving } => add_file(files, saving.as_str(), FileRole::Saving),
+        Origin::Forked { .. } => Ok(()),
+    }
+}
+
+/// Adds what a session begins with, and its script, or the recording in place of that.
 fn add_inputs<'a>(
     files: &mut Vec<PlannedFile<'a>>,
     session: &'a SessionConfig,
@@ -77,13 +89,24 @@ fn add_inputs<'a>(
 ) -> Result<(), AllocError>
     ensures { OnOk result (named_files files.new.items ≡ named_files files.old.items ++ session_inputs replays.now session.entry.now) }
 {
-    if let Origin::Opened { drives, .. } = &session.origin {
-        add_strings(files, drives, FileRole::Image)?;
-    }
+    add_beginning(files, &session.origin)?;
     add_if_any(files, key_file(replays, session), FileRole::Plain)
 }
 
-/// Adds the text of a session's console, that of its list device, and its drives, as far as files are named for them.
+/// Adds the images of a session's drives, where files are named for them.
+fn add_images<'a>(
+    files: &mut Vec<PlannedFile<'a>>,
+    names: &'a Option<Vec<String>>,
+) -> Result<(), AllocError>
+    ensures { OnOk result (named_files files.new.items ≡ named_files files.old.items ++ all_planned Image (images_named names.entry.now)) }
+{
+    match names {
+        Some(names) => add_strings(files, names, FileRole::Image),
+        None => Ok(()),
+    }
+}
+
+/// Adds the text of a session's console, that of its list device, its drives and its saving, as far as files are named for them.
 fn add_outputs<'a>(
     files: &mut Vec<PlannedFile<'a>>,
     session: &'a SessionConfig,
@@ -92,10 +115,8 @@ fn add_outputs<'a>(
 {
     add_file(files, session.console.as_str(), FileRole::Plain)?;
     add_if_any(files, session.list.as_deref(), FileRole::Plain)?;
-    match &session.out {
-        Some(images) => add_strings(files, images, FileRole::Image),
-        None => Ok(()),
-    }
+    add_images(files, &session.out)?;
+    add_if_any(files, session.save.as_deref(), FileRole::Saving)
 }
 
 /// The files that a run reads.

@@ -14,7 +14,7 @@ ghost use Rattle.cpm_run.specs.Settled.{streams};
 
 use crate::asm::assemble_file;
 use crate::check::check_image;
-use crate::debug::debug_program;
+use crate::debug::do_debug_task;
 use crate::disk::{PutOptions, list_disk, new_disk, put_files, remove_from_disk, rename_on_disk};
 use crate::files::CommandFiles;
 use crate::get::{GetOptions, get_files};
@@ -24,6 +24,7 @@ use crate::play::do_play_task;
 use crate::record::KeyRecord;
 use crate::report::{LineWriter, print_text};
 use crate::run::{SessionsWatcher, run_sessions};
+use crate::saved::tell_saved;
 use cpm_command_line::{Page, page_text};
 use cpm_host::{DiskTask, HostError, Task, Typist};
 use std::alloc::Global;
@@ -227,9 +228,8 @@ pub fn do_task<
         Task::List { file, cpu } => plain(list_program(alloc, file, *cpu, files, out)),
         Task::Check { image } => plain(check_image(alloc, image, files, out)),
         Task::Run(task) => plain(run_sessions(alloc, task, files, typist, out, record, watcher)),
-        Task::Debug { file, cpu, list } => {
-            plain(debug_program(alloc, file, *cpu, *list, files, input, out))
-        }
+        Task::Debug(task) => plain(do_debug_task(alloc, task, files, input, out)),
+        Task::Saved { file } => plain(tell_saved(alloc, file, files, out)),
         Task::Disk(task) => plain(do_disk(alloc, task, files, out)),
         Task::Help(page) => plain(print_page(*page, out)),
     }

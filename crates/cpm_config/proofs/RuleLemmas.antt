@@ -6,8 +6,8 @@ use Rattle.std.proofs.lemmas.Bool.Decides.{nat_tests}
 use Rattle.std.proofs.lemmas.Int.{to_z-of_z}
 use mir.Syntax.{w64}
 use mir.Val.{SFits, of_z, to_z}
-use Rattle.cpm_config.specs.Entries.{ConfigEntries, Forks, Opens, OriginEntries, SessionEntries, Text}
-use Rattle.cpm_config.specs.Rules.{ForkLaw, IsOriginKept, at_fault, session_origin_fault, field_or, fork_field_fault, forked_fault, is_at, is_between, is_cpu, is_length_between, is_name, is_steps, opened_fault, origin_fault, parent_in, range_fault, session_fault, sessions_fault}
+use Rattle.cpm_config.specs.Entries.{ConfigEntries, Forks, Opens, OriginEntries, Restores, SessionEntries, Text}
+use Rattle.cpm_config.specs.Rules.{ForkLaw, IsOriginKept, at_fault, session_origin_fault, field_or, fork_field_fault, forked_fault, is_at, is_between, is_cpu, is_length_between, is_name, is_steps, opened_fault, origin_fault, parent_in, range_fault, restored_fault, session_fault, sessions_fault}
 use Rattle.cpm_config.proofs.FaultLemmas.{fewer_faults}
 use Rattle.cpm_config.specs.declared.field.Field.{Field}
 
@@ -73,7 +73,14 @@ at-kept (Some p) steps at none within =
     let is = and_parts (int_le (pos 0) at) _ (last_kept (is_at p.steps steps at) _ none) in
     below steps at is.0 (and_parts (int_le at p.steps) (int_le at steps) is.1).1 within
 
--- what is kept of a session that breaks no rule, opened or forked
+-- what is kept of the steps of a session that goes on from a saving and breaks no rule
+good-restored : (s : SessionEntries) → restored_fault s ≡ None → is_between 0 (2 ^ 63) s.steps ≡ true
+unfolding restored_fault
+good-restored s none =
+    let after_name = kept (is_name s.name) _ _ none in
+    good-steps s.steps (kept (is_steps s.steps) _ _ after_name.1).0
+
+-- what is kept of a session that breaks no rule, however it begins
 good-origin : (before : List SessionEntries) (s : SessionEntries) (origin : OriginEntries) → s.origin ≡ origin → session_origin_fault before s origin ≡ None
     → IsOriginKept origin × (is_between 0 (2 ^ 63) s.steps ≡ true)
 good-origin before s (Opens cpu quota drives) is none = good-opened s cpu quota drives none
@@ -81,6 +88,7 @@ good-origin before s (Forks parent at) is none =
     let stands = forked-stands before s none in
     let from : origin_fault before s.steps (Forks parent at) ≡ None = rw is at stands.0 in
     (at-kept (parent_in before parent) s.steps at from stands.1, good-steps s.steps stands.1)
+good-origin before s (Restores saving) is none = (tt, good-restored s none)
 
 -- what is kept of a session that breaks no rule
 pub good-session : (before : List SessionEntries) (s : SessionEntries) → session_fault before s ≡ None → IsGood s
@@ -93,6 +101,7 @@ stands : (before : List SessionEntries) (s : SessionEntries) (origin : OriginEnt
     → fork_field_fault before s ≡ None
 stands before s (Opens cpu quota drives) is none = ap (origin_fault before s.steps) is
 stands before s (Forks parent at) is none = (forked-stands before s none).0
+stands before s (Restores saving) is none = ap (origin_fault before s.steps) is
 
 -- what holds of a configuration that breaks no rule
 pub record AreGood (c : ConfigEntries) : Type 0 where

@@ -97,12 +97,13 @@ has_only known ms = list_all (λ k. list_any (λ f. bytes_eq k (field_name f)) k
 
 -- ---- a session
 
--- how a session begins: it is opened, or forked from another one, at a count of its steps
+-- how a session begins: it is opened, or forked from another one, at a count of its steps, or it goes on from the saving in a file
 pub data OriginEntries : Type 0 where
   Opens : (cpu : Text) (quota : ℤ) (drives : List Text) → OriginEntries
   Forks : (parent : Text) (at : ℤ) → OriginEntries
+  Restores : (saving : Text) → OriginEntries
 
--- the steps of a forked session are its whole count, those before the fork included
+-- the steps of a session are its whole count: those before the fork are included, or those before the saving
 pub record SessionEntries : Type 0 where
   pub name : Text
   pub origin : OriginEntries
@@ -111,10 +112,12 @@ pub record SessionEntries : Type 0 where
   pub keys : Option Text
   pub list : Option Text
   pub out : Option (List Text)
+  -- the file for its own saving
+  pub save : Option Text
 
 abbrev pub session_fields : List Field
-session_fields = field.Name ∷ field.Cpu ∷ field.Quota ∷ field.Fork ∷ field.At ∷ field.Steps ∷ field.Drives
-    ∷ field.Console ∷ field.Keys ∷ field.List ∷ field.Out ∷ []
+session_fields = field.Name ∷ field.Cpu ∷ field.Quota ∷ field.Fork ∷ field.At ∷ field.From ∷ field.Steps ∷ field.Drives
+    ∷ field.Console ∷ field.Keys ∷ field.List ∷ field.Out ∷ field.Save ∷ []
 
 abbrev pub known_in_session : ℕ → Members → Result (Unit {0}) KeyFault
 known_in_session session ms =
@@ -132,6 +135,7 @@ session_with n ms name origin steps = do
   console ← text_at n field.Console ms
   keys ← optional_text_at n field.Keys ms
   list ← optional_text_at n field.List ms
+  save ← optional_text_at n field.Save ms
   out ← optional_texts_at n field.Out ms
   Ok (record {
     name = name;
@@ -141,6 +145,7 @@ session_with n ms name origin steps = do
     keys = keys;
     list = list;
     out = out;
+    save = save;
   })
 
 -- the entries of an opened session, or its first fault in this order
@@ -166,10 +171,22 @@ forked_of_table n ms = do
   steps ← number_at n field.Steps ms
   session_with n ms name (Forks parent at) steps
 
--- the entries of the table of the session with this number: one that says what it is forked from is forked
+-- the entries of a session that goes on from a saving, or its first fault in this order
+unfoldable pub restored_of_table : ℕ → Members → Result SessionEntries KeyFault
+restored_of_table n ms = do
+  known ← known_in_session n ms
+  name ← text_at n field.Name ms
+  placed ← misplaced n (field.Cpu ∷ field.Quota ∷ field.Fork ∷ field.At ∷ field.Drives ∷ []) ms
+  saving ← text_at n field.From ms
+  steps ← number_at n field.Steps ms
+  session_with n ms name (Restores saving) steps
+
+-- the entries of the table of the session with this number: one that names a saving goes on from that; else one that says what it is forked from is
+-- forked
 unfoldable pub session_of_table : ℕ → Members → Result SessionEntries KeyFault
 session_of_table n ms =
-    if has field.Fork ms then forked_of_table n ms else opened_of_table n ms
+    if has field.From ms then restored_of_table n ms
+    else (if has field.Fork ms then forked_of_table n ms else opened_of_table n ms)
 
 abbrev pub session_in : ℕ → Data → Result SessionEntries KeyFault
 session_in n (table ms) = session_of_table n ms
@@ -224,6 +241,7 @@ text_view = option_map (λ t. t.now)
 abbrev pub origin_draft_view : OriginDraft → OriginEntries
 origin_draft_view (draft.Opened cpu quota drives) = Opens cpu.now quota (texts_view drives)
 origin_draft_view (draft.Forked parent at) = Forks parent.now at
+origin_draft_view (draft.Restored saving) = Restores saving.now
 
 abbrev pub session_draft_view : SessionDraft → SessionEntries
 session_draft_view s = record {
@@ -234,6 +252,7 @@ session_draft_view s = record {
   keys = text_view s.keys;
   list = text_view s.list;
   out = option_map texts_view s.out;
+  save = text_view s.save;
 }
 
 abbrev pub draft_view : Draft → ConfigEntries

@@ -2,7 +2,7 @@
 use Rattle.std.specs.Prelude.{ℕ, List, codes}
 use Rattle.cpm_config.specs.declared.field.Field.{Field}
 use Rattle.cpm_config.specs.declared.field.Field.TheVariants.{Frames, Quantum, System, Sessions, Name, Cpu, Quota, Fork}
-use Rattle.cpm_config.specs.declared.field.Field.TheVariants.{At, Steps, Drives, Console, Keys, List as ListKey, Out}
+use Rattle.cpm_config.specs.declared.field.Field.TheVariants.{At, From, Steps, Drives, Console, Keys, List as ListKey, Out, Save}
 
 -- each key as it stands in the file
 abbrev pub field_name : Field → List ℕ
@@ -15,9 +15,11 @@ field_name Cpu = codes "cpu"
 field_name Quota = codes "quota"
 field_name Fork = codes "fork"
 field_name At = codes "at"
+field_name From = codes "from"
 field_name Steps = codes "steps"
 field_name Drives = codes "drives"
 field_name Console = codes "console"
 field_name Keys = codes "keys"
 field_name ListKey = codes "list"
 field_name Out = codes "out"
+field_name Save = codes "save"

@@ -1,5 +1,5 @@
 -- The rules on a configuration's entries, and what is read of a file. All of it is own.
-use Rattle.std.specs.Prelude.{◌≡◌, ℕ, ◌+◌, ◌^◌, ℤ, pos, int_le, nat_le, List, [], ◌∷◌, ◌++◌, length, map, Bool, true, false, not, ◌==◌}
+use Rattle.std.specs.Prelude.{⊤, ◌≡◌, ℕ, ◌+◌, ◌^◌, ℤ, pos, int_le, nat_le, List, [], ◌∷◌, ◌++◌, length, map, Bool, true, false, not, ◌==◌}
 use Rattle.std.specs.Prelude.{◌&&◌, ◌||◌, if◌then◌else◌, Option, Some, None, option_map, codes, string_bytes, Result, Ok, Err, String, Vec}
 use Rattle.std.specs.List.{find, list_all, list_any, position_from}
 use Rattle.std.specs.Str.{IsUtf8, bytes_eq}
@@ -8,7 +8,7 @@ use Rattle.toml.specs.Data.{Members}
 use Rattle.toml.specs.Parse.{parse_document}
 use Rattle.cpm_flags.specs.declared.regs.Cpu.{Cpu}
 use Rattle.cpm_flags.specs.declared.regs.Cpu.TheVariants.{I8080, Z80}
-use Rattle.cpm_config.specs.Entries.{ConfigEntries, OriginEntries, Opens, Forks, SessionEntries, Text, config_in, config_key, top}
+use Rattle.cpm_config.specs.Entries.{ConfigEntries, OriginEntries, Opens, Forks, Restores, SessionEntries, Text, config_in, config_key, top}
 use Rattle.cpm_config.specs.declared.config.Config.{Config}
 use Rattle.cpm_config.specs.declared.config.Origin.{Origin}
 use Rattle.cpm_config.specs.declared.config.Origin.TheVariants as origin
@@ -50,6 +50,11 @@ abbrev pub is_out : List Text → Option (List Text) → Bool
 is_out drives None = true
 is_out drives (Some names) = length names == length drives
 
+-- names of 1 to 4 drives, where there are any
+abbrev pub is_any_out : Option (List Text) → Bool
+is_any_out None = true
+is_any_out (Some names) = is_length_between 1 4 names
+
 -- ---- forks
 
 -- a session has this name
@@ -64,10 +69,11 @@ named_in ss name = find (is_session_named name) ss
 abbrev pub place_of : Text → List SessionEntries → Option ℕ
 place_of name = position_from (is_session_named name) 0
 
--- a session that begins so is opened, and not forked
+-- a session that begins so is opened, or goes on from a saving: it is not forked
 abbrev pub is_opened : OriginEntries → Bool
 is_opened (Opens cpu quota drives) = true
 is_opened (Forks parent at) = false
+is_opened (Restores saving) = true
 
 -- a session that was found, where it is opened
 abbrev pub if_opened : Option SessionEntries → Option SessionEntries
@@ -91,6 +97,7 @@ at_fault (Some parent) steps at = if is_at parent.steps steps at then None else 
 abbrev pub origin_fault : List SessionEntries → ℤ → OriginEntries → Option Field
 origin_fault before steps (Opens cpu quota drives) = None
 origin_fault before steps (Forks parent at) = at_fault (parent_in before parent) steps at
+origin_fault before steps (Restores saving) = None
 
 -- the field by which a session is not forked from one of those before it, if it is forked
 abbrev pub fork_field_fault : List SessionEntries → SessionEntries → Option Field
@@ -111,24 +118,26 @@ first_fault fault n before (s ∷ ss) =
 abbrev pub forks_fault : ℕ → List SessionEntries → List SessionEntries → Option ConfigKey
 forks_fault = first_fault fork_field_fault
 
--- the drives of an opened session
-abbrev pub own_drives : OriginEntries → List Text
-own_drives (Opens cpu quota drives) = drives
-own_drives (Forks parent at) = []
+-- names for the drives of a session that is not forked: as many as it has. Those of a saving aren't known before it is read.
+abbrev pub is_own_out : OriginEntries → Option (List Text) → Bool
+is_own_out (Opens cpu quota drives) out = is_out drives out
+is_own_out (Forks parent at) out = is_out [] out
+is_own_out (Restores saving) out = is_any_out out
 
--- the drives of a session that was found
-abbrev pub drives_if_any : Option SessionEntries → List Text
-drives_if_any None = []
-drives_if_any (Some s) = own_drives s.origin
+-- of one that was found
+abbrev pub is_out_if_any : Option SessionEntries → Option (List Text) → Bool
+is_out_if_any None out = is_out [] out
+is_out_if_any (Some s) out = is_own_out s.origin out
 
--- the drives of a session that begins so: its own, or its parent's
-abbrev pub origin_drives : List SessionEntries → OriginEntries → List Text
-origin_drives before (Opens cpu quota drives) = drives
-origin_drives before (Forks parent at) = drives_if_any (named_in before parent)
+-- of one that begins so: its own, or its parent's
+abbrev pub is_origin_out : List SessionEntries → OriginEntries → Option (List Text) → Bool
+is_origin_out before (Opens cpu quota drives) out = is_own_out (Opens cpu quota drives) out
+is_origin_out before (Forks parent at) out = is_out_if_any (named_in before parent) out
+is_origin_out before (Restores saving) out = is_own_out (Restores saving) out
 
--- the drives of a session, after those before it
-abbrev pub drives_of : List SessionEntries → SessionEntries → List Text
-drives_of before s = origin_drives before s.origin
+-- of a session, after those before it
+abbrev pub is_session_out : List SessionEntries → SessionEntries → Bool
+is_session_out before s = is_origin_out before s.origin s.out
 
 -- ---- sessions
 
@@ -158,13 +167,22 @@ forked_fault before s =
     if not (is_name s.name) then Some field.Name
     else (if not (is_steps s.steps) then Some field.Steps
     else field_or (fork_field_fault before s)
-    (if not (is_out (drives_of before s) s.out) then Some field.Out
+    (if not (is_session_out before s) then Some field.Out
+    else None))
+
+-- the first field of a session that goes on from a saving that breaks a rule
+unfoldable pub restored_fault : SessionEntries → Option Field
+restored_fault s =
+    if not (is_name s.name) then Some field.Name
+    else (if not (is_steps s.steps) then Some field.Steps
+    else (if not (is_any_out s.out) then Some field.Out
     else None))
 
 -- the same of a session that begins so
 abbrev pub session_origin_fault : List SessionEntries → SessionEntries → OriginEntries → Option Field
 session_origin_fault before s (Opens cpu quota drives) = opened_fault s cpu quota drives
 session_origin_fault before s (Forks parent at) = forked_fault before s
+session_origin_fault before s (Restores saving) = restored_fault s
 
 -- the first field of a session, after those before it, that breaks a rule
 abbrev pub session_fault : List SessionEntries → SessionEntries → Option Field
@@ -206,7 +224,7 @@ all_placed_if_any p (Some ts) = all_placed p ts
 -- the files that a session writes
 abbrev pub file_names_of : ℕ → SessionEntries → List PlacedName
 file_names_of n s = (config_key n field.Console, s.console) ∷ (placed_if_any (config_key n field.List) s.list
-    ++ all_placed_if_any (config_key n field.Out) s.out)
+    ++ (all_placed_if_any (config_key n field.Out) s.out ++ placed_if_any (config_key n field.Save) s.save))
 
 abbrev pub file_names_of_all : ℕ → List SessionEntries → List PlacedName
 file_names_of_all n [] = []
@@ -243,6 +261,7 @@ twice_fault c = some_or (repeated (session_names 1 c.sessions)) (repeated (file_
 abbrev pub IsOriginKept : OriginEntries → Type 0
 IsOriginKept (Opens cpu quota drives) = (is_cpu cpu ≡ true) × (is_between 0 65535 quota ≡ true)
 IsOriginKept (Forks parent at) = is_between 0 (2 ^ 63) at ≡ true
+IsOriginKept (Restores saving) = ⊤
 
 abbrev pub texts_of_strings : Vec (String Global) Global → List Text
 texts_of_strings v = map string_bytes v.items
@@ -250,6 +269,7 @@ texts_of_strings v = map string_bytes v.items
 abbrev pub origin_view : Origin → OriginEntries
 origin_view (origin.Opened cpu quota drives) = Opens (cpu_text cpu) (pos quota) (texts_of_strings drives)
 origin_view (origin.Forked parent at) = Forks (string_bytes parent) (pos at)
+origin_view (origin.Restored saving) = Restores (string_bytes saving)
 
 abbrev pub session_view : SessionConfig → SessionEntries
 session_view s = record {
@@ -260,6 +280,7 @@ session_view s = record {
   keys = option_map string_bytes s.keys;
   list = option_map string_bytes s.list;
   out = option_map texts_of_strings s.out;
+  save = option_map string_bytes s.save;
 }
 
 abbrev pub config_view : Config → ConfigEntries

@@ -34,6 +34,10 @@ pub enum Origin {
         parent: String,
         at: u64,
     },
+    /// It goes on from the saving in this file.
+    Restored {
+        saving: String,
+    },
 }
 
 /// A session of a run.
@@ -42,8 +46,9 @@ pub struct SessionConfig {
     /// 1 to 16 letters, digits, `-` and `_`; no other session has it.
     pub name: String,
     pub origin: Origin,
-    /// The most steps that it executes, up to 1,000,000,000,000; where it is forked, its whole count,
-    /// with the steps of its parent up to the fork.
+    /// The most steps that it executes, up to 1,000,000,000,000: its whole count, with the steps of its
+    /// parent up to the fork where it is forked, and with those before the saving from which it, or its
+    /// parent, goes on.
     pub steps: u64,
     /// The file for the text of its console.
     pub console: String,
@@ -52,8 +57,10 @@ pub struct SessionConfig {
     /// The file for the text of its list device.
     pub list: Option<String>,
     /// The files for the images of its drives after the run, as many as it has drives, which are its
-    /// parent's where it is forked.
+    /// parent's where it is forked, and those of the saving where it goes on from one.
     pub out: Option<Vec<String>>,
+    /// The file for its own saving after the run.
+    pub save: Option<String>,
 }
 
 /// The configuration of a run.

@@ -82,6 +82,9 @@ fn origin_of(alloc: Global, origin: &OriginDraft<'_>) -> Result<Origin, AllocErr
             parent: String::from_str(alloc, parent)?,
             at: unsigned(*at),
         }),
+        OriginDraft::Restored { saving } => Ok(Origin::Restored {
+            saving: String::from_str(alloc, saving)?,
+        }),
     }
 }
 
@@ -99,6 +102,7 @@ fn session_of(alloc: Global, draft: &SessionDraft<'_>) -> Result<SessionConfig, 
         keys: copy_if_any(alloc, draft.keys)?,
         list: copy_if_any(alloc, draft.list)?,
         out: copies_if_any(alloc, &draft.out)?,
+        save: copy_if_any(alloc, draft.save)?,
     })
 }
 

@@ -2,9 +2,9 @@
 ghost use Rattle.std.specs.Prelude.{◌≡◌, [], ℤ, Err, IfErr, IfOk, IsErrOf, Ok, map};
 ghost use Rattle.toml.specs.Data.{no_members};
 ghost use Rattle.toml.specs.View.{items_view, table_view, view};
-ghost use Rattle.cpm_config.specs.Entries.{◌>>=◌ as ◌and_then◌, Forks, Opens, OriginEntries, ReadsEntry, Text};
+ghost use Rattle.cpm_config.specs.Entries.{◌>>=◌ as ◌and_then◌, Forks, Opens, OriginEntries, ReadsEntry, Restores, Text};
 ghost use Rattle.cpm_config.specs.Entries.{config_in, draft_view, forked_of_table, known_at_top, known_in_session, misplaced};
-ghost use Rattle.cpm_config.specs.Entries.{opened_of_table, optional_text_at, origin_draft_view, session_draft_view, session_in};
+ghost use Rattle.cpm_config.specs.Entries.{opened_of_table, optional_text_at, origin_draft_view, restored_of_table, session_draft_view, session_in};
 ghost use Rattle.cpm_config.specs.Entries.{session_of_table, session_with, sessions_at, sessions_of, text_at, text_view, texts_at};
 
 use crate::fault::{DocumentStop, KeyFault};
@@ -15,6 +15,15 @@ use crate::values::{
 };
 use std::alloc::Global;
 use toml::{Table, Value};
+
+/// The keys that a session doesn't have that goes on from a saving.
+const NOT_RESTORED: [Field; 5] = [
+    Field::Cpu,
+    Field::Quota,
+    Field::Fork,
+    Field::At,
+    Field::Drives,
+];
 
 /// How a session begins, as its entries have it.
 #[derive(Drop)]
@@ -28,6 +37,9 @@ pub(crate) enum OriginDraft<'a> {
         parent: &'a str,
         at: i64,
     },
+    Restored {
+        saving: &'a str,
+    },
 }
 
 /// A session's entries.
@@ -40,6 +52,7 @@ pub(crate) struct SessionDraft<'a> {
     pub(crate) keys: Option<&'a str>,
     pub(crate) list: Option<&'a str>,
     pub(crate) out: Option<Vec<&'a str>>,
+    pub(crate) save: Option<&'a str>,
 }
 
 /// The entries of a whole configuration.
@@ -139,12 +152,40 @@ fn forked_head<'a>(table: &'a Table, session: u64) -> Result<ForkedHead<'a>, Key
     })
 }
 
-/// The entries of a session between its beginning and the files of its drives.
+/// The entries of a session that goes on from a saving, before its console.
+#[derive(Drop)]
+struct RestoredHead<'a> {
+    name: &'a str,
+    saving: &'a str,
+    steps: i64,
+}
+
+/// Reads the entries before the console.
+#[tactic(auto, unfolding(crate::specs::Entries::restored_of_table))]
+fn restored_head<'a>(table: &'a Table, session: u64) -> Result<RestoredHead<'a>, KeyFault>
+    ensures read { IfOk result (λ h. restored_of_table session (table_view table.now)
+        ≡ session_with session (table_view table.now) h.name.now (Restores h.saving.now) h.steps) }
+    ensures fault { IfErr result (λ e. restored_of_table session (table_view table.now) ≡ Err e) }
+{
+    check_session_keys(table, session)?;
+    let name = text_at(table, session, Field::Name)?;
+    check_places(table, session, &NOT_RESTORED)?;
+    let saving = text_at(table, session, Field::From)?;
+    let steps = number_at(table, session, Field::Steps)?;
+    Ok(RestoredHead {
+        name,
+        saving,
+        steps,
+    })
+}
+
+/// The entries of a session that it has however it begins, but for the files of its drives.
 #[derive(Drop)]
 struct Files<'a> {
     console: &'a str,
     keys: Option<&'a str>,
     list: Option<&'a str>,
+    save: Option<&'a str>,
 }
 
 /// Reads the entries from the console on; a fault is the session's first where none came before it.
@@ -153,16 +194,19 @@ fn files_of<'a>(table: &'a Table, session: u64) -> Result<Files<'a>, KeyFault>
     ensures console { IfOk result (λ f. text_at session Field.Console (table_view table.now) ≡ Ok f.console.now) }
     ensures keys { IfOk result (λ f. optional_text_at session Field.Keys (table_view table.now) ≡ Ok (text_view f.keys)) }
     ensures list { IfOk result (λ f. optional_text_at session Field.List (table_view table.now) ≡ Ok (text_view f.list)) }
+    ensures save { IfOk result (λ f. optional_text_at session Field.Save (table_view table.now) ≡ Ok (text_view f.save)) }
     ensures fault { IfErr result (λ e. (name : Text) (origin : OriginEntries) (steps : ℤ)
         → session_with session (table_view table.now) name origin steps ≡ Err e) }
 {
     let console = text_at(table, session, Field::Console)?;
     let keys = optional_text_at(table, session, Field::Keys)?;
     let list = optional_text_at(table, session, Field::List)?;
+    let save = optional_text_at(table, session, Field::Save)?;
     Ok(Files {
         console,
         keys,
         list,
+        save,
     })
 }
 
@@ -188,6 +232,7 @@ fn session_with<'a>(
         keys: files.keys,
         list: files.list,
         out,
+        save: files.save,
     })
 }
 
@@ -225,6 +270,21 @@ fn forked_of_table<'a>(
     session_with(alloc, table, session, head.name, origin, head.steps)
 }
 
+/// The entries of the table of a session with this number that goes on from a saving.
+fn restored_of_table<'a>(
+    alloc: Global,
+    table: &'a Table,
+    session: u64,
+) -> Result<SessionDraft<'a>, DocumentStop>
+    ensures { ReadsEntry session_draft_view result (restored_of_table session (table_view table.now)) }
+{
+    let head = restored_head(table, session)?;
+    let origin = OriginDraft::Restored {
+        saving: head.saving,
+    };
+    session_with(alloc, table, session, head.name, origin, head.steps)
+}
+
 /// The entries of the table of the session with this number.
 #[tactic(auto, unfolding(crate::specs::Entries::session_of_table))]
 fn session_of_table<'a>(
@@ -234,7 +294,9 @@ fn session_of_table<'a>(
 ) -> Result<SessionDraft<'a>, DocumentStop>
     ensures { ReadsEntry session_draft_view result (session_of_table session (table_view table.now)) }
 {
-    if value_at(table, Field::Fork).is_some() {
+    if value_at(table, Field::From).is_some() {
+        restored_of_table(alloc, table, session)
+    } else if value_at(table, Field::Fork).is_some() {
         forked_of_table(alloc, table, session)
     } else {
         opened_of_table(alloc, table, session)

@@ -16,13 +16,13 @@ pub enum KeyFault {
     #[error("the top has a key other than frames, quantum, system and session")]
     UnknownAtTop,
     /// The session of this number, from 1, has a key that no session has.
-    #[error("session {0} has a key other than name, cpu, quota, fork, at, steps, drives, console, keys, list and out")]
+    #[error("session {0} has a key other than name, cpu, quota, fork, at, from, steps, drives, console, keys, list, out and save")]
     UnknownInSession(u64),
     /// The key is missing, or its value is of another type.
     #[error("{0} is missing or of another type: {wanted} is wanted", wanted = .0.field.wanted())]
     Wanted(ConfigKey),
     /// The key does not belong to a session that begins as this one does.
-    #[error("{0} is out of place: a session has cpu, quota and drives, or fork and at")]
+    #[error("{0} is out of place: a session has cpu, quota and drives, or fork and at, or from")]
     Misplaced(ConfigKey),
 }
 

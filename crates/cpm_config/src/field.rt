@@ -16,12 +16,14 @@ pub enum Field {
     Quota,
     Fork,
     At,
+    From,
     Steps,
     Drives,
     Console,
     Keys,
     List,
     Out,
+    Save,
 }
 
 impl Field {
@@ -39,12 +41,14 @@ impl Field {
             Field::Quota => "quota",
             Field::Fork => "fork",
             Field::At => "at",
+            Field::From => "from",
             Field::Steps => "steps",
             Field::Drives => "drives",
             Field::Console => "console",
             Field::Keys => "keys",
             Field::List => "list",
             Field::Out => "out",
+            Field::Save => "save",
         }
     }
 
@@ -61,12 +65,14 @@ impl Field {
             Field::Fork => "the name of an earlier session that is not forked itself",
             Field::At =>
                 "a number from 0 to the steps of this session and of the one that it is forked from",
+            Field::From => "the name of the file of a saved machine",
             Field::Steps => "a number from 0 to 1000000000000",
             Field::Drives => "an array of 1 to 4 names of images",
             Field::Console => "the name of the file for the console's text",
             Field::Keys => "the name of a key script, or no such key",
             Field::List => "the name of the file for the list device's text, or no such key",
             Field::Out => "an array of as many names as there are drives, or no such key",
+            Field::Save => "the name of the file for the saved machine, or no such key",
         }
     }
 }

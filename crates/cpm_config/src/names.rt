@@ -89,7 +89,8 @@ fn add_files<'a>(
 {
     add(names, number, Field::Console, session.console)?;
     add_if_any(names, number, Field::List, session.list)?;
-    add_all_if_any(names, number, Field::Out, &session.out)
+    add_all_if_any(names, number, Field::Out, &session.out)?;
+    add_if_any(names, number, Field::Save, session.save)
 }
 
 /// The names of the sessions.

@@ -2,9 +2,9 @@
 ghost use Rattle.std.specs.Prelude.{◌≡◌, [], Some, map, option_map};
 ghost use Rattle.std.specs.List.{list_all};
 ghost use Rattle.cpm_config.specs.Entries.{Forks, draft_view, config_key, session_draft_view, texts_view};
-ghost use Rattle.cpm_config.specs.Rules.{at_fault, drives_if_any, forked_fault, if_opened, is_between, is_cpu};
-ghost use Rattle.cpm_config.specs.Rules.{is_length_between, is_name, is_name_byte, is_out, is_steps, named_in};
-ghost use Rattle.cpm_config.specs.Rules.{opened_fault, origin_fault, range_fault, session_fault, sessions_fault};
+ghost use Rattle.cpm_config.specs.Rules.{at_fault, forked_fault, if_opened, is_any_out, is_between, is_cpu};
+ghost use Rattle.cpm_config.specs.Rules.{is_length_between, is_name, is_name_byte, is_out, is_out_if_any, is_steps, named_in};
+ghost use Rattle.cpm_config.specs.Rules.{opened_fault, origin_fault, range_fault, restored_fault, session_fault, sessions_fault};
 
 use crate::draft::{Draft, OriginDraft, SessionDraft};
 use crate::field::{ConfigKey, Field};
@@ -64,6 +64,16 @@ fn is_out(drives: &[&str], out: &Option<Vec<&str>>) -> bool
 {
     match out {
         Some(names) => names.len() == drives.len(),
+        None => true,
+    }
+}
+
+/// Whether there are 1 to 4 names, where there are any.
+fn is_any_out(out: &Option<Vec<&str>>) -> bool
+    ensures { result ≡ is_any_out (option_map texts_view out.now) }
+{
+    match out {
+        Some(names) => has_one_to_four(names.as_slice()),
         None => true,
     }
 }
@@ -133,11 +143,12 @@ fn fork_fault(before: &[SessionDraft<'_>], steps: i64, parent: &str, at: i64) ->
 
 /// Whether there are as many names as drives of the session that one is forked from.
 fn is_fork_out(before: &[SessionDraft<'_>], parent: &str, out: &Option<Vec<&str>>) -> bool
-    ensures { result ≡ is_out (drives_if_any (named_in (map session_draft_view before.now) parent.now)) (option_map texts_view out.now) }
+    ensures { result ≡ is_out_if_any (named_in (map session_draft_view before.now) parent.now) (option_map texts_view out.now) }
 {
     match named_in(before, parent).map(|parent| &parent.origin) {
         Some(OriginDraft::Opened { drives, .. }) => is_out(drives.as_slice(), out),
-        _ => is_out(&[], out),
+        Some(OriginDraft::Restored { .. }) => is_any_out(out),
+        Some(OriginDraft::Forked { .. }) | None => is_out(&[], out),
     }
 }
 
@@ -168,6 +179,23 @@ fn forked_fault(
     None
 }
 
+/// The first field of a session that goes on from a saving that breaks a rule.
+#[tactic(auto, unfolding(crate::specs::Rules::restored_fault))]
+fn restored_fault(session: &SessionDraft<'_>) -> Option<Field>
+    ensures { result ≡ restored_fault (session_draft_view session.now) }
+{
+    if !is_name(session.name) {
+        return Some(Field::Name);
+    }
+    if !is_steps(session.steps) {
+        return Some(Field::Steps);
+    }
+    if !is_any_out(&session.out) {
+        return Some(Field::Out);
+    }
+    None
+}
+
 /// The first field of a session, after those before it, that breaks a rule.
 fn session_fault(before: &[SessionDraft<'_>], session: &SessionDraft<'_>) -> Option<Field>
     ensures { result ≡ session_fault (map session_draft_view before.now) (session_draft_view session.now) }
@@ -177,6 +205,7 @@ fn session_fault(before: &[SessionDraft<'_>], session: &SessionDraft<'_>) -> Opt
             opened_fault(session, cpu, *quota, drives.as_slice())
         }
         OriginDraft::Forked { parent, at } => forked_fault(before, session, parent, *at),
+        OriginDraft::Restored { .. } => restored_fault(session),
     }
 }
 

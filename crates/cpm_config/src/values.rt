@@ -15,18 +15,20 @@ use std::alloc::Global;
 use toml::{Table, Value};
 
 /// The keys of a session.
-pub(crate) const SESSION_FIELDS: [Field; 11] = [
+pub(crate) const SESSION_FIELDS: [Field; 13] = [
     Field::Name,
     Field::Cpu,
     Field::Quota,
     Field::Fork,
     Field::At,
+    Field::From,
     Field::Steps,
     Field::Drives,
     Field::Console,
     Field::Keys,
     Field::List,
     Field::Out,
+    Field::Save,
 ];
 
 /// The keys at the top.

@@ -203,12 +203,12 @@ unanswered_whole : (system : Disk) (cpu : Cpu) (listing : List ℕ) (start : Mac
     → IsUnanswered system cpu listing start known
 unanswered_whole system cpu listing start known un = record { lines = un.lines; more = un.more; heard = same_heard known (un.lines ++ un.more) un.heard; some = un.some }
 
-pub refusal_whole : {W : Type 0} (cpu : Cpu) (listing program : List ℕ) (known before after_it : Option (List ℕ)) (old new : W) (e : DebugError) → length program ≤ 58112
-    → IsFailure debug_system_drive cpu listing (debugged cpu program) (option_map (take 16777217) known) before after_it e → IsDebugRefusal cpu listing program known before after_it old new e
-refusal_whole cpu listing program known before after_it old new (ProgramTooLong n) fits fails = absurd fails
-refusal_whole cpu listing program known before after_it old new (Unreadable reason) fits fails = (fits, cut_whole debug_system_drive cpu listing (debugged cpu program) known before after_it fails)
-refusal_whole cpu listing program known before after_it old new (Unwritable reason) fits fails = (fits, unanswered_whole debug_system_drive cpu listing (debugged cpu program) known fails)
-refusal_whole cpu listing program known before after_it old new OutOfMemory fits fails = (fits, cut_whole debug_system_drive cpu listing (debugged cpu program) known before after_it fails)
+failure_whole : (system : Disk) (cpu : Cpu) (listing : List ℕ) (start : MachineState) (known before after_it : Option (List ℕ)) (e : DebugError)
+    → IsFailure system cpu listing start (option_map (take 16777217) known) before after_it e → IsFailure system cpu listing start known before after_it e
+failure_whole system cpu listing start known before after_it (ProgramTooLong n) fails = absurd fails
+failure_whole system cpu listing start known before after_it (Unreadable reason) fails = cut_whole system cpu listing start known before after_it fails
+failure_whole system cpu listing start known before after_it (Unwritable reason) fails = unanswered_whole system cpu listing start known fails
+failure_whole system cpu listing start known before after_it OutOfMemory fails = cut_whole system cpu listing start known before after_it fails
 
 -- memory was refused before anything was read
 abbrev heard_of : Option (List ℕ) → List (List ℕ)
@@ -224,22 +224,43 @@ at_once system cpu listing start known before = record { lines = []; more = hear
 
 -- ---- what the debugger answers, from the dialog that it held
 
-pub held_result : {A E : Type 0} (r : Result A E) (system : Disk) (cpu : Cpu) (listing : List ℕ) (s : MachineState) (program : List ℕ) (known k before after_it : Option (List ℕ))
-    → system ≡ debug_system_drive → s ≡ debugged cpu program → k ≡ option_map (take 16777217) known → OnOk r (IsHeld system cpu listing s k before after_it)
-    → OnOk r (IsHeld debug_system_drive cpu listing (debugged cpu program) known before after_it)
-held_result (Err e) system cpu listing s program known k before after_it drive machine reader held = tt
-held_result (Ok x) system cpu listing s program known k before after_it drive machine reader held =
-    let on_drive = subst (λ (d : Disk). IsHeld d cpu listing s k before after_it) drive held in
-    let on_machine = subst (λ (m : MachineState). IsHeld debug_system_drive cpu listing m k before after_it) machine on_drive in
-    held_whole debug_system_drive cpu listing (debugged cpu program) known before after_it
-    (subst (λ (o : Option (List ℕ)). IsHeld debug_system_drive cpu listing (debugged cpu program) o before after_it) reader on_machine)
+pub held_machine : {A E : Type 0} (r : Result A E) (system : Disk) (cpu own : Cpu) (listing : List ℕ) (s : MachineState) (known k before after_it : Option (List ℕ))
+    → cpu ≡ own → k ≡ option_map (take 16777217) known → OnOk r (IsHeld system cpu listing s k before after_it)
+    → OnOk r (IsHeld system own listing s known before after_it)
+held_machine (Err e) system cpu own listing s known k before after_it processor reader held = tt
+held_machine (Ok x) system cpu own listing s known k before after_it processor reader held =
+    let on_processor = subst (λ (p : Cpu). IsHeld system p listing s k before after_it) processor held in
+    held_whole system own listing s known before after_it (subst (λ (o : Option (List ℕ)). IsHeld system own listing s o before after_it) reader on_processor)
 
-pub refused_result : {A W : Type 0} (r : Result A DebugError) (system : Disk) (cpu : Cpu) (listing : List ℕ) (s : MachineState) (program : List ℕ) (known k before after_it : Option (List ℕ)) (old new : W)
-    → system ≡ debug_system_drive → s ≡ debugged cpu program → k ≡ option_map (take 16777217) known → length program ≤ 58112 → IfErr r (IsFailure system cpu listing s k before after_it)
+pub refused_machine : {A : Type 0} (r : Result A DebugError) (system : Disk) (cpu own : Cpu) (listing : List ℕ) (s : MachineState) (known k before after_it : Option (List ℕ))
+    → cpu ≡ own → k ≡ option_map (take 16777217) known → IfErr r (IsFailure system cpu listing s k before after_it)
+    → IfErr r (IsFailure system own listing s known before after_it)
+refused_machine (Ok x) system cpu own listing s known k before after_it processor reader failed = tt
+refused_machine (Err e) system cpu own listing s known k before after_it processor reader failed =
+    let on_processor = subst (λ (p : Cpu). IsFailure system p listing s k before after_it e) processor failed in
+    failure_whole system own listing s known before after_it e (subst (λ (o : Option (List ℕ)). IsFailure system own listing s o before after_it e) reader on_processor)
+
+-- ---- and where it began a program
+
+pub held_program : {A E : Type 0} (r : Result A E) (system : Disk) (cpu : Cpu) (listing : List ℕ) (s : MachineState) (program : List ℕ) (known before after_it : Option (List ℕ))
+    → system ≡ debug_system_drive → s ≡ debugged cpu program → OnOk r (IsHeld system s.cpu listing s known before after_it)
+    → OnOk r (IsHeld debug_system_drive cpu listing (debugged cpu program) known before after_it)
+held_program r system cpu listing s program known before after_it drive machine held =
+    let on_drive = subst (λ (d : Disk). OnOk r (IsHeld d s.cpu listing s known before after_it)) drive held in
+    subst (λ (m : MachineState). OnOk r (IsHeld debug_system_drive m.cpu listing m known before after_it)) machine on_drive
+
+refused_short : {W : Type 0} (cpu : Cpu) (listing program : List ℕ) (known before after_it : Option (List ℕ)) (old new : W) (e : DebugError) → length program ≤ 58112
+    → IsFailure debug_system_drive cpu listing (debugged cpu program) known before after_it e → IsDebugRefusal cpu listing program known before after_it old new e
+refused_short cpu listing program known before after_it old new (ProgramTooLong n) fits fails = absurd fails
+refused_short cpu listing program known before after_it old new (Unreadable reason) fits fails = (fits, fails)
+refused_short cpu listing program known before after_it old new (Unwritable reason) fits fails = (fits, fails)
+refused_short cpu listing program known before after_it old new OutOfMemory fits fails = (fits, fails)
+
+pub refused_program : {A W : Type 0} (r : Result A DebugError) (system : Disk) (cpu : Cpu) (listing : List ℕ) (s : MachineState) (program : List ℕ) (known before after_it : Option (List ℕ))
+    (old new : W) → system ≡ debug_system_drive → s ≡ debugged cpu program → length program ≤ 58112 → IfErr r (IsFailure system s.cpu listing s known before after_it)
     → IfErr r (IsDebugRefusal cpu listing program known before after_it old new)
-refused_result (Ok x) system cpu listing s program known k before after_it old new drive machine reader fits failed = tt
-refused_result (Err e) system cpu listing s program known k before after_it old new drive machine reader fits failed =
-    let on_drive = subst (λ (d : Disk). IsFailure d cpu listing s k before after_it e) drive failed in
-    let on_machine = subst (λ (m : MachineState). IsFailure debug_system_drive cpu listing m k before after_it e) machine on_drive in
-    refusal_whole cpu listing program known before after_it old new e fits
-    (subst (λ (o : Option (List ℕ)). IsFailure debug_system_drive cpu listing (debugged cpu program) o before after_it e) reader on_machine)
+refused_program (Ok x) system cpu listing s program known before after_it old new drive machine fits failed = tt
+refused_program (Err e) system cpu listing s program known before after_it old new drive machine fits failed =
+    let on_drive = subst (λ (d : Disk). IsFailure d s.cpu listing s known before after_it e) drive failed in
+    refused_short cpu listing program known before after_it old new e fits
+    (subst (λ (m : MachineState). IsFailure debug_system_drive m.cpu listing m known before after_it e) machine on_drive)

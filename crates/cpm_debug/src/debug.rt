@@ -78,17 +78,37 @@ fn converse<R: BufRead, W: Write>(
     Ok(())
 }
 
-/// Makes a machine with a program, with this processor, a blank drive and a blank system drive, and answers the orders of the lines that it reads, each
-/// before it reads the next, up to `Q`, to the end of the input, or to 1,000,000 lines. A line is dropped, and ends the dialog, where it doesn't end within the
-/// first 16,777,216 bytes.
+/// Answers the orders of the lines that it reads with a machine over this system drive, each before it reads the next, up to `Q`, to the end of the input, or
+/// to 1,000,000 lines. A line is dropped, and ends the dialog, where it doesn't end within the first 16,777,216 bytes. The machine may have been stopped
+/// anywhere.
 ///
 /// The orders are `S n`, `G addr n`, `D addr`, `L addr`, `R`, `K text`, `O` and `Q`. After the answer to `S`, `G` and `R` comes the line of the
 /// assembler's listing that shows the bytes at the program's PC, if it has one. An empty listing has none.
 ///
 /// What a live reader gives can't be named; what is written is then the answer to some lines.
 ///
-/// `ProgramTooLong` comes before anything is read or written. `Unreadable` has the reader's error: all lines before it are answered; so they are where
-/// `OutOfMemory` comes. `Unwritable` has the error of the writer, who may have got the beginning.
+/// `Unreadable` has the reader's error: all lines before it are answered; so they are where `OutOfMemory` comes. `Unwritable` has the error of the writer, who
+/// may have got the beginning.
+pub fn debug_machine<R: BufRead, W: Write>(
+    alloc: Global,
+    system: &Image,
+    listing: &[u8],
+    machine: Machine,
+    input: &mut R,
+    out: &mut W,
+) -> Result<(), DebugError>
+    ensures held { OnOk result (IsHeld system.now machine.cpu listing.now machine (R.remaining input.old) (W.contents out.old) (W.contents out.new)) }
+    ensures refusal { IfErr result (IsFailure system.now machine.cpu listing.now machine (R.remaining input.old) (W.contents out.old) (W.contents out.new)) }
+{
+    let cpu = machine.cpu();
+    let mut debugged = machine;
+    let mut heard = input.take(MOST_BYTES as u64 + 1);
+    converse(alloc, system, cpu, listing, &mut debugged, &mut heard, out)
+}
+
+/// Makes a machine with a program, with this processor, a blank drive and a blank system drive, and answers lines with it as `debug_machine` does.
+///
+/// `ProgramTooLong` comes before anything is read or written. The other errors are those of `debug_machine`.
 pub fn run_debug<R: BufRead, W: Write>(
     alloc: Global,
     cpu: Cpu,
@@ -108,7 +128,6 @@ pub fn run_debug<R: BufRead, W: Write>(
     if program.len() > MOST_PROGRAM {
         return Err(DebugError::ProgramTooLong(program.len()));
     }
-    let (system, mut machine) = made(alloc, cpu, program)?;
-    let mut heard = input.take(MOST_BYTES as u64 + 1);
-    converse(alloc, &system, cpu, listing, &mut machine, &mut heard, out)
+    let (system, machine) = made(alloc, cpu, program)?;
+    debug_machine(alloc, &system, listing, machine, input, out)
 }

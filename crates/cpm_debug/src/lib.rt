@@ -12,6 +12,6 @@ mod press;
 mod source;
 mod write;
 
-pub use debug::run_debug;
+pub use debug::{debug_machine, run_debug};
 pub use error::DebugError;
 pub use order::Order;

@@ -7,7 +7,7 @@ use Rattle.cpm_script.specs.Cues.{cue_text, cues}
 use Rattle.cpm_script.specs.Script.{script}
 use Rattle.cpm_script.specs.declared.script.Key.{Key}
 use Rattle.cpm_machine.specs.MachineState.{MachineState}
-use Rattle.cpm_play.specs.Playing.{alone_by}
+use Rattle.cpm_play.specs.Playing.{IsFresh, alone_by}
 use Rattle.cpm_play.specs.declared.cued.CuedKeys.{CuedKeys}
 use Rattle.cpm_host.specs.Program.{IsPlayedCued, console_text, printer_text}
 use Rattle.cpm_host.specs.declared.program.ProgramPlay.{ProgramPlay}
@@ -21,9 +21,10 @@ pub record IsRunBy (system : Disk) (start : MachineState) (steps : ℕ) (keys : 
   pub ending : t.ending ≡ ending_of (alone_by system keys steps start)
   pub drives : t.drives ≡ images_of (alone_by system keys steps start).session.disks
 
--- A program that was played by a script which never waits, and doesn't stop where it is idle, did what all keys of that script say, for all its steps.
+-- A machine with no pending key and no byte that waits, which was played by a script that never waits, and doesn't stop where it is idle, did
+-- what all keys of that script say, for all its steps.
 abbrev pub PlainScriptsRunTheirKeys : Type 0
 PlainScriptsRunTheirKeys = (system : Disk) (start : MachineState) (steps : ℕ) (text : List ℕ) (keys : List Key)
     (c : CuedKeys) (t : ProgramPlay) (io : Streams) →
-    script text ≡ Ok keys → cues text ≡ Ok (map cue_text c.cues.now) → c.stops_idle ≡ false → IsPlayedCued system start steps c t io →
+    IsFresh start → script text ≡ Ok keys → cues text ≡ Ok (map cue_text c.cues.now) → c.stops_idle ≡ false → IsPlayedCued system start steps c t io →
     IsRunBy system start steps keys t io

@@ -1,7 +1,10 @@
 pub mod Asm
 pub mod AsmListing
+pub mod Debugged
 pub mod Laws
 pub mod Listing
 pub mod Program
 pub mod Refusals
+pub mod Saved
 pub mod Tails
+pub mod SavedText

@@ -1,7 +1,8 @@
 -- A program, or the prompt of CP/M, that is played by its script or typed at: what it runs with, what it shows and leaves, and when it is refused.
 -- All of it is own.
-use Rattle.std.specs.Prelude.{⊤, ◌≡◌, ◌<◌, ◌≤◌, ◌⊎◌, ℕ, List, [], ◌∷◌, length, map, chars, option_map, Option, Some, None, Ok, Err}
+use Rattle.std.specs.Prelude.{⊤, ◌≡◌, ◌<◌, ◌≤◌, ◌⊎◌, ℕ, Bool, true, false, List, [], ◌∷◌, length, map, chars, option_map, Option, Some, None, Ok, Err, Vec}
 use Rattle.std.specs.Io.KnownBytes.{Appends}
+use Rattle.std.specs.declared.alloc.Global.{Global}
 use Rattle.cpm_batch.specs.declared.error.ReadError.TheVariants as read
 use Rattle.cpm_command_line.specs.Shown.{shown_of}
 use Rattle.cpm_drives.specs.Disks.{images_of}
@@ -19,13 +20,14 @@ use Rattle.cpm_script.specs.declared.fault.ScriptError.TheVariants.{Line}
 use Rattle.cpm_script.specs.declared.fault.ScriptError.TheVariants as script_error
 use Rattle.cpm_machine.specs.MachineState.{MachineState, opened_machine, opened_with, with_tail}
 use Rattle.cpm_machine.specs.Opening.{most_program, opening_fault, program_fault}
+use Rattle.cpm_machine.specs.Saving.{Saving}
 use Rattle.cpm_machine.specs.Serve.{look_of}
 use Rattle.cpm_machine.specs.declared.opening.OpenError.{OpenError}
 use Rattle.cpm_machine.specs.declared.opening.OpenError.TheVariants.{BadDrives}
 use Rattle.cpm_machine.specs.declared.opening.Opening.{Opening}
 use Rattle.cpm_play.specs.Cued.{AreAscii, HasEndedCued, IsCued, IsCutOff, key_count}
 use Rattle.cpm_play.specs.Live.{AreGiven}
-use Rattle.cpm_play.specs.Playing.{IsFresh, alone_by, waits_at}
+use Rattle.cpm_play.specs.Playing.{alone_by, waits_at, state_left}
 use Rattle.cpm_play.specs.Sitting.{IsPlayCut, IsTypedPlay, sitting}
 use Rattle.cpm_play.specs.declared.cued.CuedKeys.{CuedKeys}
 use Rattle.cpm_play.specs.declared.live.LiveError.{LiveError}
@@ -36,10 +38,12 @@ use Rattle.cpm_run.specs.Settled.{AreUntouched, Streams}
 use Rattle.cpm_store.specs.Files.{StoreName}
 use Rattle.cpm_run.specs.declared.error.RunError.TheVariants.{FileRefused}
 use Rattle.cpm_host.specs.Refusals.{host_error_of_live}
+use Rattle.cpm_batch.specs.Savings.{saving_view}
+use Rattle.cpm_host.specs.Saved.{is_of_system, saved_if}
 use Rattle.cpm_host.specs.declared.error.HostError.{HostError}
-use Rattle.cpm_host.specs.declared.error.HostError.TheVariants.{OpeningRefused, OutOfMemory, ProgramTooLong, RunRefused}
+use Rattle.cpm_host.specs.declared.error.HostError.TheVariants.{OpeningRefused, OutOfMemory, ProgramTooLong, RunRefused, SavedElsewhere}
 use Rattle.cpm_host.specs.declared.program.ProgramPlay.{ProgramPlay}
-use Rattle.cpm_host.specs.declared.program.ProgramStart.{ProgramStart}
+use Rattle.cpm_host.specs.declared.start.ProgramStart.{ProgramStart}
 use Rattle.cpm_host.specs.declared.program.Source.{Source}
 use Rattle.cpm_host.specs.declared.program.Source.TheVariants.{Cues, Typed}
 
@@ -53,6 +57,8 @@ pub record ProgramInput : Type 0 where
   pub tail : Option (List ℕ)
   pub drives : List Disk
   pub system : Option Disk
+  -- a saved machine, which goes on in place of one that begins
+  pub saved : Option Saving
 
 abbrev pub program_given : ProgramStart → ProgramInput
 program_given start = record {
@@ -61,6 +67,7 @@ program_given start = record {
   tail = start.tail;
   drives = start.drives.items;
   system = start.system;
+  saved = option_map (λ s. saving_view s.value) start.saved;
 }
 
 -- no byte where there is no program
@@ -95,19 +102,36 @@ abbrev pub machine_begun : Cpu → List Disk → (program tail : Option (List �
 machine_begun cpu drives None tail = opened_machine cpu 256 drives
 machine_begun cpu drives (Some program) tail = with_tail_if_any tail (opened_with cpu drives program)
 
--- the machine that begins so
+-- the saved machine, if there is one
+abbrev pub saved_or : Option Saving → MachineState → MachineState
+saved_or None s = s
+saved_or (Some x) s = x.state
+
+-- the machine that begins so, or that goes on
 abbrev pub machine_of : ProgramInput → MachineState
-machine_of g = machine_begun g.cpu (drives_or_blank g.drives) g.program g.tail
+machine_of g = saved_or g.saved (machine_begun g.cpu (drives_or_blank g.drives) g.program g.tail)
+
+-- a machine goes on over the system drive over which it was saved
+abbrev pub goes_over : Disk → Option Saving → Bool
+goes_over system None = true
+goes_over system (Some x) = is_of_system x.system_digest system
+
+-- what a machine takes
+pub record IsProgramFit (g : ProgramInput) : Type 0 where
+  pub short : program_length g ≤ most_program
+  pub few : length g.drives ≤ 4
+  pub over : goes_over (system_disk g) g.saved ≡ true
 
 -- why none is made that begins a program, or at the prompt
 abbrev pub begin_fault : Opening → Option (List ℕ) → Option OpenError
 begin_fault o None = opening_fault o
 begin_fault o (Some program) = program_fault o program
 
--- how the machine is refused: its program is too long, then there are too many drives, then memory is refused
+-- how the machine is refused: its program is too long, then there are too many drives, then it was saved over another system drive; or memory is refused
 abbrev pub IsProgramRefusal : ProgramInput → HostError → Type 0
 IsProgramRefusal g (ProgramTooLong count) = (most_program < program_length g) × (count ≡ program_length g)
 IsProgramRefusal g (OpeningRefused fault) = (program_length g ≤ most_program) × (4 < length g.drives) × (fault ≡ BadDrives)
+IsProgramRefusal g SavedElsewhere = (program_length g ≤ most_program) × (length g.drives ≤ 4) × (goes_over (system_disk g) g.saved ≡ false)
 IsProgramRefusal g OutOfMemory = (program_length g ≤ most_program) × (length g.drives ≤ 4)
 IsProgramRefusal g _ = ⊥
 
@@ -152,16 +176,28 @@ console_text s = s.session.console.screen
 abbrev pub printer_text : MachineState → List ℕ
 printer_text s = s.session.console.printer
 
--- what a machine came to that was played so
-abbrev pub play_of : MachineState → LivePlay → Option PlayEnd → ProgramPlay
-play_of s live end = record {
+-- what a machine came to that was played so, and its bytes, if it is saved
+abbrev pub play_of : MachineState → LivePlay → Option PlayEnd → Option (Vec ℕ Global) → ProgramPlay
+play_of s live end saved = record {
   ending = ending_of s;
   drives = images_of s.session.disks;
   keys = live.keys;
   steps = live.steps;
   waits = (look_of s).waiting;
   end = end;
+  saved = saved;
 }
+
+-- the machine that was left is saved with the digest of the system drive, if that is asked for
+pub record HasSaved (is_saved : Bool) (system : Disk) (start : MachineState) (t : ProgramPlay) : Type 0 where
+  pub bytes : option_map (λ v. v.items) t.saved ≡ saved_if is_saved system (state_left system t.keys.items t.steps start)
+
+-- it was played, and memory was refused for its bytes
+pub record IsUnsaved (is_saved : Bool) (played : ProgramPlay → Type 0) (e : HostError) : Type 0 where
+  pub play : ProgramPlay
+  pub is_played : played play
+  pub asked : is_saved ≡ true
+  pub told : e ≡ OutOfMemory
 
 -- the lines of keys are a recording of just these, and a script of them where it can have so many
 pub record GivesKeysAgain (keys : List Key) : Type 0 where
@@ -171,7 +207,6 @@ pub record GivesKeysAgain (keys : List Key) : Type 0 where
 -- A machine was played by a script that may wait: the keys that came are those that the script gives to the machine run alone; what it left is that of the
 -- machine run alone by these keys, for so many steps; it ended as a script has it end; and their lines are a recording that gives them again.
 pub record IsRehearsed (system : Disk) (start : MachineState) (steps : ℕ) (c : CuedKeys) (t : ProgramPlay) : Type 0 where
-  pub fresh : IsFresh start
   pub within : t.steps ≤ steps
   pub keys : IsCued system start steps c.waits_from c.cues.now t.keys.items
   pub given : AreGiven (key_count c.cues.now) t.steps t.keys.items
@@ -247,9 +282,14 @@ pub record IsRefusedUnplayed (g : ProgramInput) (io : Streams) (e : HostError) :
 
 -- or a machine takes it, and it was cut short
 pub record IsRefusedInPlay (source : Source) (g : ProgramInput) (steps : ℕ) (io : Streams) (e : HostError) : Type 0 where
-  pub short : program_length g ≤ most_program
-  pub few : length g.drives ≤ 4
+  pub fit : IsProgramFit g
   pub cut : IsCutBy source (system_disk g) (machine_of g) steps io e
 
-abbrev pub IsProgramPlayRefusal : Source → ProgramInput → (steps : ℕ) → Streams → HostError → Type 0
-IsProgramPlayRefusal source g steps io e = IsRefusedUnplayed g io e ⊎ IsRefusedInPlay source g steps io e
+-- or it was played, and can't be saved
+pub record IsRefusedPlayed (is_saved : Bool) (source : Source) (g : ProgramInput) (steps : ℕ) (io : Streams) (e : HostError) : Type 0 where
+  pub fit : IsProgramFit g
+  pub unsaved : IsUnsaved is_saved (λ t. IsPlayedBy source (system_disk g) (machine_of g) steps t io) e
+
+abbrev pub IsProgramPlayRefusal : (is_saved : Bool) → Source → ProgramInput → (steps : ℕ) → Streams → HostError → Type 0
+IsProgramPlayRefusal is_saved source g steps io e =
+    IsRefusedUnplayed g io e ⊎ IsRefusedInPlay source g steps io e ⊎ IsRefusedPlayed is_saved source g steps io e

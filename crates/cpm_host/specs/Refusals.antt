@@ -7,7 +7,8 @@ use Rattle.cpm_host.specs.declared.error.HostError.{HostError}
 use Rattle.cpm_host.specs.declared.error.HostError.TheVariants.{Usage, NotText, CheckRefused, DiskRefused, FileUnreadable}
 use Rattle.cpm_host.specs.declared.error.HostError.TheVariants.{FileUnwritable, InputUnreadable, ListUnwritable, NotAFolder}
 use Rattle.cpm_host.specs.declared.error.HostError.TheVariants.{OutputUnwritable, SourceRefused, OutOfMemory, OpeningRefused}
-use Rattle.cpm_host.specs.declared.error.HostError.TheVariants.{CutOff, NoReplay, ProgramTooLong, RecordUnwritable, ReplayedTwice, RunRefused, TailRefused}
+use Rattle.cpm_host.specs.declared.error.HostError.TheVariants.{CutOff, NoReplay, ProgramTooLong, RecordUnwritable, ReplayedTwice, RunRefused}
+use Rattle.cpm_host.specs.declared.error.HostError.TheVariants.{SavedElsewhere, SavingRefused, TailRefused}
 use Rattle.cpm_check.specs.Check.{code_of_check}
 use Rattle.cpm_check.specs.declared.error.CheckError.{CheckError}
 use Rattle.cpm_check.specs.declared.error.CheckError.TheVariants as check
@@ -49,6 +50,8 @@ code_of_command (SourceRefused line kind found) = code.Source
 code_of_command OutOfMemory = code.OutOfMemory
 code_of_command (OpeningRefused fault) = code.Machine
 code_of_command (ProgramTooLong count) = code.Machine
+code_of_command (SavingRefused refusal) = code.Machine
+code_of_command SavedElsewhere = code.Machine
 code_of_command (CutOff steps) = code.CutOff
 
 -- what a file of this name that is not read comes to
@@ -111,6 +114,7 @@ host_error_of_run (run.RecordUnwritable reason) = RunRefused (run.RecordUnwritab
 host_error_of_run (run.WriteFault name) = RunRefused (run.WriteFault name)
 host_error_of_run run.OutOfMemory = OutOfMemory
 host_error_of_run (run.SessionRefused name fault) = RunRefused (run.SessionRefused name fault)
+host_error_of_run (run.SavedElsewhere name) = RunRefused (run.SavedElsewhere name)
 host_error_of_run (run.FramesExceeded name quotas frames) = RunRefused (run.FramesExceeded name quotas frames)
 
 -- what a refused check of an image comes to

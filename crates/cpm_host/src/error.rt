@@ -5,6 +5,7 @@ ghost use Rattle.cpm_host.specs.Refusals.{code_of_command, host_error_of, host_e
 ghost use Rattle.cpm_host.specs.Refusals.{host_error_of_disk_command, host_error_of_live, host_error_of_opening, host_error_of_run};
 
 use cpm_asm::AsmErrorKind;
+use cpm_batch::SavingRefusal;
 use cpm_check::CheckError;
 use cpm_command_line::{ShownWord, UsageError, UsageRefusal};
 use cpm_config::ConfigError;
@@ -88,6 +89,12 @@ pub enum HostError {
     /// The program has this many bytes, which is more than a machine takes.
     #[error("the program has {0} bytes, and a machine takes at most 58112")]
     ProgramTooLong(usize),
+    /// The file of a saved machine is none, or it is damaged.
+    #[error("{0}")]
+    SavingRefused(SavingRefusal),
+    /// The machine was saved over another system drive than it is to go on over.
+    #[error("the machine was saved over another system drive; '--system' names the one that it had")]
+    SavedElsewhere,
     /// The program still ran when it had made all the steps that it may make, so its disks were not written.
     #[error("the program still ran after {0} steps, so its disks are as they were; give it more '--steps', or '--partial' to write them as they stand")]
     CutOff(u64),
@@ -160,7 +167,10 @@ impl HostError {
             | HostError::NotAFolder(_) => RefusalCode::Unwritable,
             HostError::SourceRefused { .. } => RefusalCode::Source,
             HostError::OutOfMemory => RefusalCode::OutOfMemory,
-            HostError::OpeningRefused(_) | HostError::ProgramTooLong(_) => RefusalCode::Machine,
+            HostError::OpeningRefused(_)
+            | HostError::ProgramTooLong(_)
+            | HostError::SavingRefused(_)
+            | HostError::SavedElsewhere => RefusalCode::Machine,
             HostError::CutOff(_) => RefusalCode::CutOff,
         }
     }

@@ -8,7 +8,7 @@ use Rattle.cpm_machine.specs.Alone.{Press, alone, due}
 use Rattle.cpm_machine.specs.MachineState.{MachineState}
 use Rattle.cpm_slots.proofs.OrderLaws.{quota-after}
 use Rattle.cpm_play.specs.declared.pace.Pace.{Pace}
-use Rattle.cpm_play.specs.Pacing.{forked_pace, IsOn}
+use Rattle.cpm_play.specs.Pacing.{forked_pace, HaveComeAfter, IsOn}
 use Rattle.cpm_play.specs.Playing.{presses_of, IsInOrder}
 use Rattle.cpm_play.specs.Players.{AllBefore}
 
@@ -51,6 +51,13 @@ order-forked n at (k ∷ ks) own less order later = by_test (nat_lt k.count at) 
     by_test true e first rest = (order.0, first (grind (arith, nat_tests)) order.1 later)
     by_test false e first rest = let low : n ≤ k.count = order.0 in rest less (order-weaker n k.count ks low order.1) later
 
+-- keys that come, and come before a fork, come in whatever goes on from it
+come-before : (system : Disk) (start : MachineState) (steps at all : ℕ) (given keys : List Key) → at ≤ all → AllBefore at keys → HaveComeAfter system start steps given keys → HaveComeAfter system start all given keys
+come-before system start steps at all given [] reach before come = tt
+come-before system start steps at all given (k ∷ keys) reach before come =
+    let early = before.0 in
+    (omega (arith, early, reach), come.1, come-before system start steps at all (given ++ k ∷ []) keys reach before.1 come.2)
+
 -- ---- where the fork stands
 
 pub on-fork : (system : Disk) (keys own : List Key) (steps at all : ℕ) (start : MachineState) (pace : Pace) (console list : List ℕ) (now : MachineState) →
@@ -61,6 +68,8 @@ on-fork system keys own steps at all start pace console list now before early re
     record {
       state = on.state ∙ ap (λ (ks : List Key). alone system (presses_of ks) pace.done start) (sym same);
       came = λ i past. ap (λ (ks : List Key). due i (presses_of ks)) same ∙ on.came i past;
+      coming = subst (λ (ks : List Key). HaveComeAfter system start all [] ks) (sym same)
+          (come-before system start steps at all [] (take pace.pressed keys) reach before on.coming);
       later = subst (λ (ks : List Key). IsInOrder pace.done ks) (sym (left-before at pace.pressed keys own before on.within)) (order-forked pace.done at (drop pace.pressed keys) own early on.later order);
       within = within-before at pace.pressed keys own before on.within;
       all = record { within = omega (arith, early, reach); most = omega arith; all = inl refl };

@@ -16,8 +16,7 @@ use Rattle.cpm_machine.proofs.PressLaws.{alone-add, alone-pressed, with_keys-nil
 use Rattle.cpm_play.specs.Cued.{IsOutputTaken, waits_at}
 use Rattle.cpm_play.specs.Live.{AreBy, AreGiven, HadList, HadText, HasCome, HasGone, IsGoing}
 use Rattle.cpm_play.specs.Output.{GetsOutput, OutputState}
-use Rattle.cpm_play.specs.Pacing.{state_left, without_list, without_text}
-use Rattle.cpm_play.specs.Playing.{presses_of, alone_by, EndsAs, HasList, HasText, IsQuiet}
+use Rattle.cpm_play.specs.Playing.{presses_of, alone_by, EndsAs, HasList, HasText, IsQuiet, state_left, without_list, without_text}
 use Rattle.cpm_play.proofs.AloneLemmas.{presses-more}
 use Rattle.cpm_play.proofs.RunLemmas.{bare, behind-bare, quiet-bare, quiet-taken, waits-behind}
 use Rattle.cpm_play.proofs.TextLemmas.{appends_more, appends_none, both_empty}

@@ -1,14 +1,20 @@
 -- A slot in its host: what is asked of it leaves the other slots.
-use Rattle.std.proofs.Common.{◌≡◌, ℕ, suc, Option, Some, None, List, [], ◌∷◌, length, refl, sym, ap, ◌∙◌, subst}
+use Rattle.std.proofs.Common.{◌≡◌, ℕ, suc, Option, Some, None, Ok, Err, List, [], ◌∷◌, length, refl, sym, ap, ◌∙◌, subst}
+use Rattle.std.specs.Prelude.{⊤}
+use Rattle.cpm_slots.specs.declared.event.Refusal.{Refusal}
+use Rattle.cpm_slots.specs.declared.event.Reply.{Reply}
+use Rattle.cpm_slots.specs.declared.event.Reply.TheVariants as reply
 use Rattle.cpm_slots.specs.declared.event.SlotId.{SlotId}
 use Rattle.cpm_geom.specs.Disk.{Disk}
-use Rattle.cpm_slots.specs.Host.{Host, SlotState, slot_at, with_slot, after_ask, reply_at, quotas_of, IsHost, IsOrdered}
+use Rattle.cpm_slots.specs.Host.{Host, SlotState, slot_at, with_slot, after_ask, look_reply, reply_at, quotas_of, IsHost, IsOrdered}
 use Rattle.cpm_slots.specs.Serving.{Calls, reply_of, serve_slot}
 use Rattle.cpm_slots.proofs.EventLaws.{apart}
 use Rattle.cpm_slots.proofs.OrderLaws.{IsHost-ask, quota-serve, quotas-set}
 use Rattle.cpm_slots.proofs.SlotLaws.{slot_at-same, with_slot-none}
-use Rattle.cpm_machine.specs.Calls.{Call, serve}
+use Rattle.cpm_machine.specs.Calls.{Call, LookAt, serve}
 use Rattle.cpm_machine.specs.MachineState.{MachineState}
+use Rattle.cpm_machine.specs.Serve.{look_of}
+use Rattle.cpm_machine.specs.declared.reply.Look.{Look}
 use Rattle.cpm_play.specs.declared.scripted_slot.ScriptedSlot.{ScriptedSlot}
 use Rattle.cpm_play.specs.ScriptedSlots.{script_keys, Moves, StaysOrderly}
 
@@ -22,6 +28,28 @@ slot-served h id call s at =
 pub reply-served : (h : Host) (id : ℕ) (call : Call) (s : MachineState) → slot_at id h.slots ≡ Some s → reply_at h id (Calls call) ≡ reply_of (serve h.system call s).answer
 unfolding serve_slot
 reply-served h id call s at = ap (λ o. (serve_slot h.system (Calls call) o).reply) at
+
+-- what is seen of an open slot
+abbrev look_in : Look → Reply → Look
+look_in other (reply.Looked look) = look
+look_in other _ = other
+
+abbrev IsRefused : Reply → Type 0
+IsRefused (reply.Refused fault) = ⊤
+IsRefused _ = ⊥
+
+pub looked : (h : Host) (id : ℕ) (look : Look) (s : MachineState) → look_reply (Ok look) ≡ reply_at h id (Calls LookAt) → slot_at id h.slots ≡ Some s → look ≡ look_of s
+unfolding serve
+looked h id look s replied at = ap (look_in look) (replied ∙ reply-served h id LookAt s at)
+
+pub looks : (h : Host) (id : ℕ) (fault : Refusal) (s : MachineState) → look_reply (Err fault) ≡ reply_at h id (Calls LookAt) → slot_at id h.slots ≡ Some s → ⊥
+unfolding serve
+looks h id fault s replied at = subst IsRefused (replied ∙ reply-served h id LookAt s at) tt
+
+-- how it ended
+pub seen-ended : (h : Host) (id : ℕ) (look : Look) (s : MachineState) → look_reply (Ok look) ≡ reply_at h id (Calls LookAt) → slot_at id h.slots ≡ Some s → look.ended ≡ s.ended
+unfolding look_of
+seen-ended h id look s replied at = ap (λ (l : Look). l.ended) (looked h id look s replied at)
 
 -- ---- how many slots there are, and their quotas
 

@@ -11,6 +11,7 @@ pub mod ForkLemmas
 pub mod PlayerLemmas
 pub mod ForkedLemmas
 pub mod RoundLemmas
+pub mod BeginLemmas
 pub mod PlayLemmas
 pub mod ScriptLemmas
 pub mod TypingLemmas

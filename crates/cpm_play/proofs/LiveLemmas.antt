@@ -19,8 +19,7 @@ use Rattle.cpm_play.specs.Output.{GetsOutput, OutputState}
 use Rattle.cpm_play.specs.declared.live.LiveError.{LiveError}
 use Rattle.cpm_play.specs.declared.live.LiveError.TheVariants.{Unreadable, Unwritable, Unprinted, Unrecorded, OutOfMemory}
 use Rattle.cpm_play.specs.declared.live.PlayEnd.TheVariants.{Steps, Ended, Typing}
-use Rattle.cpm_play.specs.Pacing.{without_list, without_text}
-use Rattle.cpm_play.specs.Playing.{IsQuiet, last_count, screen_at, waits_at}
+use Rattle.cpm_play.specs.Playing.{IsQuiet, last_count, screen_at, waits_at, without_list, without_text}
 use Rattle.cpm_play.specs.Sitting.{AreScripted, HasHeardOneMore, HasListened, HasPaused, IsCutShort, IsTypedPlay, IsWantedByPatient, Sitting}
 use Rattle.cpm_play.specs.Typing.{HasReadKeys}
 use Rattle.cpm_play.specs.Typist.{AreOften, HasAttended, HasHeard, HasHeardNothing, Hearing, IsHeard, IsHeardPatiently, TypingState, breaks, hearing, is_over, wants_key, key_heard, keys_heard}

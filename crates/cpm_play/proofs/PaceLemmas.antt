@@ -1,8 +1,8 @@
 -- A session that is played: one more key, turn and take, and its end.
-use Rattle.std.proofs.Common.{◌≡◌, ℕ, ◌+◌, ◌-◌, ◌<◌, ◌≤◌, nat_le, ◌==◌, ◌&&◌, min, Bool, true, false, Option, Some, None, ◌⊎◌, inl, inr, ⊎_elim, List, [], ◌∷◌, ◌++◌, length, take, drop, refl, sym, ap, ap₂, ◌∙◌, subst, arith, append-nil, take-append-drop, if◌then◌else◌, slice_get}
+use Rattle.std.proofs.Common.{◌≡◌, ℕ, zero, suc, ◌+◌, ◌-◌, ◌<◌, ◌≤◌, nat_le, nat_lt, ◌==◌, ◌&&◌, min, Bool, true, false, Option, Some, None, ◌⊎◌, inl, inr, ⊎_elim, List, [], ◌∷◌, ◌++◌, length, take, drop, refl, sym, ap, ap₂, ◌∙◌, subst, arith, append-nil, take-append-drop, if◌then◌else◌, slice_get}
 use Rattle.std.proofs.lemmas.Bool.Decides.{nat_tests}
 use Rattle.std.proofs.lemmas.Bool.{cases_lt}
-use Rattle.std.proofs.lemmas.List.{take_more}
+use Rattle.std.proofs.lemmas.List.{append_assoc, take_more}
 use Rattle.std.proofs.lemmas.Option.{get_or_from_slice_get, slice_get_within}
 use Rattle.std.proofs.lemmas.Option.{none-some, same_Some}
 use Rattle.cpm_geom.specs.Disk.{Disk}
@@ -15,28 +15,48 @@ use Rattle.cpm_machine.specs.Calls.{state_behind}
 use Rattle.cpm_machine.specs.declared.reply.End.{End}
 use Rattle.cpm_machine.specs.MachineState.{MachineState}
 use Rattle.cpm_machine.specs.Serve.{executed, keyed, taken, taken_list, takes_key}
-use Rattle.cpm_machine.specs.Step.{after, can_step, is_running}
+use Rattle.cpm_machine.specs.Step.{after, can_step, is_running, step}
 use Rattle.cpm_machine.proofs.AloneLaws.{after-behind, taken-behind, taken_list-behind}
 use Rattle.cpm_machine.proofs.GrantLaws.{longest-is}
 use Rattle.cpm_machine.proofs.PressLaws.{alone-add, alone-pressed, with_keys-nil, AllCame-later, AllCame-pressed}
 use Rattle.cpm_slots.proofs.ServeLaws.{taken_from}
 use Rattle.cpm_play.specs.declared.pace.Pace.{Pace}
-use Rattle.cpm_play.specs.Pacing.{due_at, first_pace, left_in, turn_of, up_to, IsOfAll, IsOn}
-use Rattle.cpm_play.specs.Playing.{alone_by, presses_of, HaveRoom, IsFresh, IsInOrder, IsPlayed, IsQuiet}
+use Rattle.cpm_play.specs.Pacing.{due_at, first_pace, left_in, turn_of, up_to, HaveComeAfter, IsOfAll, IsOn}
+use Rattle.cpm_play.specs.Playing.{alone_by, coming_after, coming_keys, presses_of, runs_at, state_left, without_list, without_text, HaveRoom, IsInOrder, IsPlayed, IsQuiet}
 use Rattle.cpm_play.specs.ScriptedSlots.{console_with, list_with}
-use Rattle.cpm_play.proofs.AloneLemmas.{after-ended, alone-ended, alone-taken, keyless, keyless-ended, none-due, presses-append, presses-more}
+use Rattle.cpm_play.proofs.AloneLemmas.{after-ended, alone-ended, alone-taken, keyless, keyless-ended, none-due, presses-append, presses-more, step-stays}
 use Rattle.cpm_play.proofs.OrderLemmas.{order-first, order-later}
 use Rattle.cpm_play.proofs.RoomLemmas.{room-at}
 
--- ---- the keys that are still to come
+-- ---- the keys that come
+
+-- one more that does
+come-more : (system : Disk) (start : MachineState) (steps : ℕ) (given keys : List Key) (key : Key) → key.count < steps → runs_at system start (given ++ keys) key.count ≡ true →
+    HaveComeAfter system start steps given keys → HaveComeAfter system start steps given (keys ++ key ∷ [])
+come-more system start steps given [] key early runs come = (early, ap (λ ks. runs_at system start ks key.count) (sym (append-nil given)) ∙ runs, tt)
+come-more system start steps given (k ∷ keys) key early runs come = (
+  come.0,
+  come.1,
+  come-more system start steps (given ++ k ∷ []) keys key early (ap (λ ks. runs_at system start ks key.count) (append_assoc given (k ∷ []) keys) ∙ runs) come.2,
+)
+
+-- those that come are all up to one that doesn't
+coming-all : (system : Disk) (start : MachineState) (steps : ℕ) (given keys rest : List Key) → HaveComeAfter system start steps given keys → coming_after system start steps (given ++ keys) rest ≡ [] →
+    coming_after system start steps given (keys ++ rest) ≡ keys
+coming-all system start steps given [] rest come none = ap (λ ks. coming_after system start steps ks rest) (sym (append-nil given)) ∙ none
+coming-all system start steps given (k ∷ keys) rest come none =
+    let early : nat_lt k.count steps ≡ true = let low = come.0 in grind (arith, nat_tests) in
+    rw (early, come.1)
+    (ap (λ ks. k ∷ ks) (coming-all system start steps (given ++ k ∷ []) keys rest come.2 (ap (λ ks. coming_after system start steps ks rest) (append_assoc given (k ∷ []) keys) ∙ none)))
 
 -- ---- one call more
 
 -- before the first turn
-pub on-start : (system : Disk) (keys : List Key) (steps : ℕ) (start : MachineState) → IsFresh start → IsInOrder 0 keys → IsOn system keys steps start (first_pace steps) [] [] start
-on-start system keys steps start fresh order = record {
+pub on-start : (system : Disk) (keys : List Key) (steps : ℕ) (start : MachineState) → IsInOrder 0 keys → IsOn system keys steps start (first_pace steps) [] [] start
+on-start system keys steps start order = record {
   state = sym (with_keys-nil start);
   came = λ i past. refl;
+  coming = tt;
   later = order;
   within = omega arith;
   all = record { within = omega arith; most = omega arith; all = inl refl };
@@ -62,8 +82,9 @@ key-more keys pace byte is =
     take_more keys pace.pressed is.key (slice_get_within keys pace.pressed is.key is.at) ∙ ap (λ k. take pace.pressed keys ++ k ∷ []) (get_or_from_slice_get keys pace.pressed is.key is.key is.at)
 
 pub on-key : (system : Disk) (keys : List Key) (steps byte : ℕ) (start : MachineState) (pace : Pace) (console list : List ℕ) (now : MachineState) →
-    IsDue keys pace byte → IsOn system keys steps start pace console list now → IsOn system keys steps start (record pace { pressed = pace.pressed + 1 }) console list (keyed byte now)
-on-key system keys steps byte start pace console list now is on =
+    IsDue keys pace byte → 0 < left_in pace → is_running now.ended ≡ true →
+    IsOn system keys steps start pace console list now → IsOn system keys steps start (record pace { pressed = pace.pressed + 1 }) console list (keyed byte now)
+on-key system keys steps byte start pace console list now is left runs on =
     let key = is.key in
     let order = order-first pace.done pace.pressed keys key is.at on.later in
     let low : pace.done ≤ key.count = order.0 in
@@ -76,6 +97,12 @@ on-key system keys steps byte start pace console list now is on =
     record {
       state = ap (keyed byte) on.state ∙ sym (alone-pressed system (presses_of (take pace.pressed keys)) pace.done byte start) ∙ ap (λ ps. alone system ps pace.done start) (sym presses);
       came = λ i past. ap (due i) presses ∙ AllCame-pressed (presses_of (take pace.pressed keys)) pace.done byte on.came i past;
+      coming =
+          let most = on.all.most in
+          let P : ℕ → Type 0 = λ n. runs_at system start (take pace.pressed keys) n ≡ true in
+          let runs_there : runs_at system start (take pace.pressed keys) key.count ≡ true = subst P (sym same) (sym (ap (λ (s : MachineState). is_running s.ended) on.state) ∙ runs) in
+          subst (λ ks. HaveComeAfter system start steps [] ks) (sym (key-more keys pace byte is))
+          (come-more system start steps [] (take pace.pressed keys) key (omega (arith, same, left, most)) runs_there on.coming);
       later = subst (λ n. IsInOrder n (drop (pace.pressed + 1) keys)) same order.1;
       within = omega arith;
       all = record { within = on.all.within; most = on.all.most; all = on.all.all };
@@ -108,6 +135,7 @@ on-turn system keys steps k m start pace console list now turn on =
     record {
       state = sym (after-behind system console list k now) ∙ ap (after system k) on.state ∙ sym (alone-add system presses pace.done k start on.came);
       came = AllCame-later presses pace.done k on.came;
+      coming = on.coming;
       later = order-later (slice_get keys pace.pressed) keys pace.done k (min (left_in pace) m) pace.pressed refl on.later turn;
       within = on.within;
       all = all-later steps k pace now (after system k now) fits (after-ended system k now) on.all;
@@ -123,6 +151,7 @@ on-behind : (system : Disk) (keys : List Key) (steps : ℕ) (start : MachineStat
 on-behind system keys steps start pace console list console' list' now next same on = record {
   state = same ∙ on.state;
   came = on.came;
+  coming = on.coming;
   later = on.later;
   within = on.within;
   all = record {
@@ -148,6 +177,7 @@ pub on-ended : (system : Disk) (keys : List Key) (steps : ℕ) (start : MachineS
 on-ended system keys steps start pace console list now ended on = record {
   state = on.state;
   came = on.came;
+  coming = on.coming;
   later = on.later;
   within = on.within;
   all = let within = on.all.within in let most = on.all.most in record { within = omega arith; most = omega arith; all = inr ended };
@@ -205,6 +235,75 @@ keys-all system keys steps start pace console list now on none = by_case on.all.
         ap (λ n. keyless (alone system (presses_of keys) n start)) same
         ∙ alone-ended system (presses_of keys) pace.done (steps - pace.done) start (keyless-ended (alone system (presses_of keys) pace.done start) (state_behind console list now) taken_so ended) ∙ taken_so
 
+-- those that were pressed are the keys that come
+coming-pressed : (system : Disk) (keys : List Key) (steps : ℕ) (start : MachineState) (pace : Pace) (console list : List ℕ) (now : MachineState) → IsOn system keys steps start pace console list now → left_in pace ≡ 0 →
+    coming_keys system start steps keys ≡ take pace.pressed keys
+coming-pressed system keys steps start pace console list now on none =
+    ap (coming_keys system start steps) (sym (take-append-drop pace.pressed keys))
+    ∙ coming-all system start steps [] (take pace.pressed keys) (drop pace.pressed keys) on.coming (rest (drop pace.pressed keys) on.later)
+  where
+    pressed : List Key
+    pressed = take pace.pressed keys
+
+    -- where it has ended, it has at each later count
+    ended-then : (n : ℕ) → pace.done ≤ n → is_running now.ended ≡ false → runs_at system start pressed n ≡ false
+    ended-then n low ended =
+        let at : pace.done + (n - pace.done) ≡ n = omega arith in
+        let P : ℕ → Type 0 = λ m. runs_at system start pressed m ≡ false in
+        let there : is_running (alone_by system pressed pace.done start).ended ≡ false = sym (ap (λ (s : MachineState). is_running s.ended) on.state) ∙ ended in
+        subst P at (ap (λ (s : MachineState). is_running s.ended) (alone-add system (presses_of pressed) pace.done (n - pace.done) start on.came)
+        ∙ after-ended system (n - pace.done) (alone_by system pressed pace.done start) there)
+
+    none-then : (a b : Bool) → (a ≡ false) ⊎ (b ≡ false) → (a && b) ≡ false
+    none-then false b why = refl
+    none-then true b (inl why) = absurd (let no : ⊥ = cc in no)
+    none-then true b (inr why) = why
+
+    rest : (ks : List Key) → IsInOrder pace.done ks → coming_after system start steps pressed ks ≡ []
+    rest [] order = refl
+    rest (k ∷ ks) order =
+        let low : pace.done ≤ k.count = order.0 in
+        let within = on.all.within in
+        let why : (nat_lt k.count steps ≡ false) ⊎ (runs_at system start pressed k.count ≡ false) =
+        ⊎_elim (λ whole. inl (let past : steps ≤ k.count = omega (arith, none, within, whole, low) in grind (arith, nat_tests))) (λ ended. inr (ended-then k.count low ended)) on.all.all in
+        rw (none-then (nat_lt k.count steps) (runs_at system start pressed k.count) why) refl
+
+-- what is left is the machine run alone by these for all steps, with its output taken
+on-left : (system : Disk) (keys : List Key) (steps : ℕ) (start : MachineState) (pace : Pace) (console list : List ℕ) (now : MachineState) → IsOn system keys steps start pace console list now → IsQuiet now → left_in pace ≡ 0 →
+    now ≡ state_left system (coming_keys system start steps keys) steps start
+on-left system keys steps start pace console list now on quiet none =
+    ap₂ (λ (xs ys : List ℕ). record now { session = record now.session { console = record now.session.console { screen = xs; printer = ys } } }) quiet.screen quiet.printer
+    ∙ ap (λ (s : MachineState). without_list (without_text s)) (on.state ∙ sym over)
+    ∙ ap (λ ks. state_left system ks steps start) (sym (coming-pressed system keys steps start pace console list now on none))
+  where
+    pressed : List Key
+    pressed = take pace.pressed keys
+
+    within : pace.done ≤ pace.until
+    within = on.all.within
+
+    most : pace.until ≤ steps
+    most = on.all.most
+
+    -- an ended one stays
+    stays : (n : ℕ) (s : MachineState) → is_running s.ended ≡ false → after system n s ≡ s
+    stays zero s ended = refl
+    stays (suc n) s ended = ap (step system) (stays n s ended) ∙ step-stays system s ended
+
+    by_case : (pace.until ≡ steps) ⊎ (is_running now.ended ≡ false) → after system (steps - pace.done) (alone_by system pressed pace.done start) ≡ alone_by system pressed pace.done start
+    by_case (inl whole) =
+        let in_all = within in
+        let zero_steps : steps - pace.done ≡ 0 = omega (arith, none, in_all, whole) in
+        ap (λ n. after system n (alone_by system pressed pace.done start)) zero_steps
+    by_case (inr ended) = stays (steps - pace.done) (alone_by system pressed pace.done start) (sym (ap (λ (s : MachineState). is_running s.ended) on.state) ∙ ended)
+
+    over : alone_by system pressed steps start ≡ alone_by system pressed pace.done start
+    over =
+        let in_all = within in
+        let at_most = most in
+        let all : pace.done + (steps - pace.done) ≡ steps = omega (arith, in_all, at_most) in
+        ap (λ n. alone_by system pressed n start) (sym all) ∙ alone-add system (presses_of pressed) pace.done (steps - pace.done) start on.came ∙ by_case on.all.all
+
 pub on-end : (system : Disk) (keys : List Key) (steps : ℕ) (start : MachineState) (pace : Pace) (console list : List ℕ) (now : MachineState) → IsOn system keys steps start pace console list now → IsQuiet now → left_in pace ≡ 0 →
     IsPlayed system keys steps start now console list
 on-end system keys steps start pace console list now on quiet none =
@@ -217,6 +316,7 @@ on-end system keys steps start pace console list now on quiet none =
       regs = ap (λ (s : MachineState). s.session.regs) (sym same);
       memory = ap (λ (s : MachineState). s.memory) (sym same);
       disks = ap (λ (s : MachineState). s.session.disks) (sym same);
+      state = on-left system keys steps start pace console list now on quiet none;
     }
 
 -- ---- a turn of one machine
@@ -242,9 +342,10 @@ advanced-is k old new is =
     ∙ ap (λ (n : ℕ). let p : Pace = record { pressed = old.pressed; done = n; until = new.until } in p) is.done
     ∙ ap (λ (n : ℕ). let p : Pace = record { pressed = old.pressed; done = old.done + k; until = n } in p) is.until
 
--- the steps of a turn of a session with no output to take, in which no key is due
+-- the steps of a turn of a session with no output to take, in which no key is due, or which has ended
 pub on-advance : (system : Disk) (keys : List Key) (steps k quantum : ℕ) (start : MachineState) (old new : Pace) (console list : List ℕ) (now : MachineState) →
-    IsQuiet now → due_at old.done (slice_get keys old.pressed) ≡ None → 1 ≤ quantum → k ≡ executed system (turn_of old keys quantum) now → k ≤ turn_of old keys quantum → IsAdvanced k old new →
+    IsQuiet now → (due_at old.done (slice_get keys old.pressed) ≡ None) ⊎ (is_running now.ended ≡ false) → 1 ≤ quantum →
+    k ≡ executed system (turn_of old keys quantum) now → k ≤ turn_of old keys quantum → IsAdvanced k old new →
     IsOn system keys steps start old console list now → IsOn system keys steps start new console list (after system k now)
 on-advance system keys steps k quantum start old new console list now quiet none some is turn moves on =
     let P : Pace → Type 0 = λ p. IsOn system keys steps start p console list (after system k now) in
@@ -255,7 +356,9 @@ on-advance system keys steps k quantum start old new console list now quiet none
 
     over : k ≡ 0 → 0 < left_in old → is_running now.ended ≡ false
     over zero_steps left =
-        stopped system (turn_of old keys quantum) now quiet (turn-some (slice_get keys old.pressed) keys old quantum refl none left some) (sym zero_steps ∙ is)
+        ⊎_elim
+        (λ free. stopped system (turn_of old keys quantum) now quiet (turn-some (slice_get keys old.pressed) keys old quantum refl free left some) (sym zero_steps ∙ is))
+        (λ ended. ended) none
 
     by_test : (b : Bool) → (k == 0) ≡ b → IsOn system keys steps start (record old { done = old.done + k; until = if b then old.done else old.until }) console list (after system k now)
     by_test false e = moved

@@ -1,4 +1,4 @@
--- Players before the first round, and after the last.
+-- Players after the last round.
 use Rattle.std.proofs.Common.{◌≡◌, ℕ, zero, suc, ◌<◌, nat_lt, ◌||◌, Bool, true, false, Option, Some, inl, ⊎_elim, List, [], ◌∷◌, take, refl, sym, ap, ◌∙◌, subst, arith, slice_get}
 use Rattle.std.specs.Prelude.{IfSome}
 use Rattle.std.proofs.lemmas.Bool.Decides.{nat_tests}
@@ -18,59 +18,6 @@ use Rattle.cpm_play.specs.ScriptedSlots.{IsPlaying, IsReady, IsResting, script_k
 use Rattle.cpm_play.specs.Players.{AllBefore, AllDiffer, AllPlayed, AllReady, HaveBecome, HasPlayed, HasRoomForForks, IsForkReady, IsPlayerReady, IsForkWaiting, StandsAs, forks_of, fork_pages, still_plays, is_fork, left_in_player, players_left, pages_of, player_steps}
 use Rattle.cpm_play.proofs.PaceLemmas.{on-start, on-end}
 use Rattle.cpm_play.proofs.PlaceLemmas.{same-at, sum-none}
-
--- ---- before the first round
-
-resting-ready : (h : Host) (p : ScriptedSlot) (ready : IsReady h.system h.slots p) → IsResting (steps_of p) ready.start p h
-resting-ready h p ready =
-    let unplayed = ready.unplayed in
-    let steps = steps_of p in
-    let all : steps ≡ p.pace.until = let done = unplayed.done in omega arith in
-    let pace : p.pace ≡ first_pace steps =
-    ap (λ (n : ℕ). let x : Pace = record { pressed = n; done = p.pace.done; until = p.pace.until } in x) unplayed.pressed
-    ∙ ap (λ (n : ℕ). let x : Pace = record { pressed = 0; done = n; until = p.pace.until } in x) unplayed.done
-    ∙ ap (λ (n : ℕ). let x : Pace = record { pressed = 0; done = 0; until = n } in x) (sym all) in
-    let on : IsOn h.system (script_keys p) steps ready.start (first_pace steps) [] [] ready.start = on-start h.system (script_keys p) steps ready.start ready.fresh ready.order in
-    let first = subst (λ (x : Pace). IsOn h.system (script_keys p) steps ready.start x [] [] ready.start) (sym pace) on in
-    let second = subst (λ (xs : List ℕ). IsOn h.system (script_keys p) steps ready.start p.pace xs [] ready.start) (sym unplayed.console) first in
-    let third : IsOn h.system (script_keys p) steps ready.start p.pace p.console.items p.list.items ready.start =
-    subst (λ (xs : List ℕ). IsOn h.system (script_keys p) steps ready.start p.pace p.console.items xs ready.start) (sym unplayed.list) second in
-    let playing : IsPlaying steps ready.start p h = record { now = ready.start; stands = ready.opened; room = ready.room; on = third } in
-    record { playing = playing; quiet = record { screen = ready.fresh.screen; printer = ready.fresh.printer } }
-
-module _ (h : Host) (players : List Player) (ready : AllReady h.system h.slots players) where
-  ready-at : (place : ℕ) (p : Player) → slice_get players place ≡ Some p → IsPlayerReady h.system h.slots players p
-  ready-at place p at = subst (λ (o : Option Player). IfSome o (IsPlayerReady h.system h.slots players)) at (ready place)
-
-  waiting-at : (fork : Fork) → IsForkReady h.system h.slots players fork → IsForkWaiting players fork
-  waiting-at fork k =
-      let parent : IsReady h.system h.slots k.parent = ready-at fork.parent (Playing k.parent) k.plays in
-      let done = parent.unplayed.done in
-      record {
-        parent = k.parent;
-        plays = k.plays;
-        done = omega (arith, done);
-        early = subst (λ n. AllBefore fork.at (take n (script_keys k.parent))) (sym parent.unplayed.pressed) tt;
-      }
-
-  stands-ready : (p : Player) → IsPlayerReady h.system h.slots players p → StandsAs h.slots players players h p p
-  stands-ready (Playing slot) k = record { start = k.start; started = k.opened; keys = refl; resting = resting-ready h slot k }
-  stands-ready (Waiting fork) k = (refl, waiting-at fork k)
-
-  pub come-start : AllDiffer players → IsHost h → HaveBecome h h players players
-  come-start differ host = record {
-    long = refl;
-    each = λ place p q at bt. subst (λ (x : Player). StandsAs h.slots players players h p x) (same-at (slice_get players place) p q at bt) (stands-ready p (ready-at place p at));
-    differ = differ;
-    rest = record { system = refl; frames = refl; others = λ id less none. refl };
-    orderly = host;
-    later = omega arith;
-    counted = inl refl;
-    came = λ id less none. none;
-    slots = refl;
-    numbers = refl;
-    pages = refl;
-  }
 
 -- ---- after the last
 

@@ -84,16 +84,17 @@ ids-kept (suc i) (Waiting f ∷ xs) a b at same = ids-kept i xs a b at same
 
 -- ---- a session that rests, in another host
 
+unfoldable pub playing-in : (steps : ℕ) (start : MachineState) (slot : ScriptedSlot) (old new : Host) → new.system ≡ old.system → slot_at slot.id.0 new.slots ≡ slot_at slot.id.0 old.slots → IsPlaying steps start slot old → IsPlaying steps start slot new
+playing-in steps start slot old new system same playing = record {
+  now = playing.now;
+  stands = same ∙ playing.stands;
+  room = subst (λ (d : Disk). HaveRoom d start (script_keys slot)) (sym system) playing.room;
+  on = subst (λ (d : Disk). IsOn d (script_keys slot) steps start slot.pace slot.console.items slot.list.items playing.now) (sym system) playing.on;
+}
+
 resting-in : (steps : ℕ) (start : MachineState) (slot : ScriptedSlot) (old new : Host) → new.system ≡ old.system → slot_at slot.id.0 new.slots ≡ slot_at slot.id.0 old.slots → IsResting steps start slot old → IsResting steps start slot new
-resting-in steps start slot old new system same resting =
-    let playing = resting.playing in
-    let there : IsPlaying steps start slot new = record {
-      now = playing.now;
-      stands = same ∙ playing.stands;
-      room = subst (λ (d : Disk). HaveRoom d start (script_keys slot)) (sym system) playing.room;
-      on = subst (λ (d : Disk). IsOn d (script_keys slot) steps start slot.pace slot.console.items slot.list.items playing.now) (sym system) playing.on;
-    } in
-    record { playing = there; quiet = resting.quiet }
+unfolding playing-in
+resting-in steps start slot old new system same resting = record { playing = playing-in steps start slot old new system same resting.playing; quiet = resting.quiet }
 
 -- one that is open has a number that was given
 pub id-below : (h : Host) (steps : ℕ) (start : MachineState) (slot : ScriptedSlot) → IsHost h → IsResting steps start slot h → slot.id.0 < h.openings

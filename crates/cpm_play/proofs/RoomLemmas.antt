@@ -18,7 +18,7 @@ use Rattle.cpm_machine.proofs.KeyLaws.{keys_leave-step}
 use Rattle.cpm_play.proofs.AloneLemmas.{after-pending}
 use Rattle.cpm_play.specs.Cued.{IsCuedFrom}
 use Rattle.cpm_play.specs.Laws.{FewKeysHaveRoom}
-use Rattle.cpm_play.specs.Playing.{HaveRoom, HaveRoomAfter, IsFresh, alone_by, presses_of}
+use Rattle.cpm_play.specs.Playing.{HaveRoom, HaveRoomAfter, alone_by, presses_of}
 
 -- ---- how many keys are pending
 
@@ -118,19 +118,18 @@ full-waits s full = go (is_running s.ended) (needs_key s.session.mode s.session 
 
 -- ---- few keys
 
-few-after : (system : Disk) (start : MachineState) (given keys : List Key) → IsFresh start → length given + length keys ≤ 4096 → HaveRoomAfter system start given keys
-few-after system start given [] fresh few = tt
-few-after system start given (k ∷ keys) fresh few =
-    let none : length start.session.console.keys ≡ 0 = ap length fresh.keys in
+few-after : (system : Disk) (start : MachineState) (given keys : List Key) → length start.session.console.keys + (length given + length keys) ≤ 4096 → HaveRoomAfter system start given keys
+few-after system start given [] few = tt
+few-after system start given (k ∷ keys) few =
     let pending = alone-pending system (presses_of given) k.count start in
     let came = came-within k.count (presses_of given) in
     let long = presses-long given in
     let room : length (alone_by system given k.count start).session.console.keys < 4096 = omega arith in
     let more : length (given ++ k ∷ []) ≡ length given + 1 = length_push given k in
-    (grind (arith, nat_tests), few-after system start (given ++ k ∷ []) keys fresh (omega arith))
+    (grind (arith, nat_tests), few-after system start (given ++ k ∷ []) keys (omega arith))
 
 pub few-room : FewKeysHaveRoom
-few-room system start keys fresh few = let within : length keys ≤ 4096 = few in few-after system start [] keys fresh (omega arith)
+few-room system start keys few = let within : length start.session.console.keys + length keys ≤ 4096 = few in few-after system start [] keys (omega arith)
 
 -- ---- the keys of a script that may wait
 

@@ -16,8 +16,7 @@ use Rattle.cpm_play.specs.Cued.{HasIdled, HasExecuted, HasStopped, IsBusyFor, Is
 use Rattle.cpm_play.specs.declared.live.LiveError.{LiveError}
 use Rattle.cpm_play.specs.declared.live.LiveError.TheVariants.{Unreadable, Unwritable, Unprinted, Unrecorded, OutOfMemory}
 use Rattle.cpm_play.specs.Output.{OutputState}
-use Rattle.cpm_play.specs.Pacing.{without_list, without_text}
-use Rattle.cpm_play.specs.Playing.{IsQuiet}
+use Rattle.cpm_play.specs.Playing.{IsQuiet, without_list, without_text}
 use Rattle.cpm_play.specs.Shown.{HasGrown}
 use Rattle.cpm_play.specs.declared.shown.Shown.{Shown}
 use Rattle.cpm_play.proofs.AloneLemmas.{after-ended}

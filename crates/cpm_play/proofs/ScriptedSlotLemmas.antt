@@ -1,8 +1,9 @@
 -- What the parts of a turn leave of a scripted slot and its slot.
-use Rattle.std.proofs.Common.{◌≡◌, ℕ, ◌+◌, ◌<◌, ◌≤◌, min, Bool, true, false, Option, Some, None, Ok, Err, List, [], ◌∷◌, ◌++◌, length, take, drop, refl, sym, ap, ◌∙◌, subst, arith, slice_get, length-drop}
+use Rattle.std.proofs.Common.{◌≡◌, ℕ, ◌+◌, ◌<◌, ◌≤◌, min, Bool, true, false, ◌⊎◌, inl, inr, ⊎_elim, Option, Some, None, Ok, Err, List, [], ◌∷◌, ◌++◌, length, take, drop, refl, sym, ap, ◌∙◌, subst, arith, slice_get, length-drop}
 use Rattle.std.specs.Prelude.{option_map}
 use Rattle.std.proofs.Math.Seq.{drop-nil, take-nil}
 use Rattle.std.proofs.lemmas.List.{length-take-le}
+use Rattle.std.proofs.lemmas.Option.{slice_get_within}
 use Rattle.cpm_console.specs.declared.device.Device.{Device}
 use Rattle.cpm_console.specs.declared.device.Device.TheVariants as device
 use Rattle.cpm_console.specs.Terminal.{waiting_on}
@@ -18,7 +19,7 @@ use Rattle.cpm_machine.specs.declared.reply.Granted.{Granted}
 use Rattle.cpm_machine.specs.Calls.{Call, Key as Pressed, Grant, ServedCall, serve, served_key}
 use Rattle.cpm_machine.specs.MachineState.{MachineState}
 use Rattle.cpm_machine.specs.Serve.{executed, keyed, takes_key}
-use Rattle.cpm_machine.specs.Step.{after, can_step}
+use Rattle.cpm_machine.specs.Step.{after, can_step, is_running}
 use Rattle.cpm_machine.proofs.GrantLaws.{longest-is}
 use Rattle.cpm_slots.proofs.ServeLaws.{serve-take, taken_from}
 use Rattle.cpm_slots.proofs.SlotLaws.{slot_at-same}
@@ -27,7 +28,7 @@ use Rattle.cpm_play.specs.declared.scripted_slot.ScriptedSlot.{ScriptedSlot}
 use Rattle.cpm_play.specs.Pacing.{due_at, turn_of, IsOn}
 use Rattle.cpm_play.specs.Players.{AllBefore}
 use Rattle.cpm_play.specs.Playing.{HaveRoom}
-use Rattle.cpm_play.specs.ScriptedSlots.{console_with, script_keys, list_with, waits_in, AreTaken, HasAdded, IsPlaying, IsResting, Moves}
+use Rattle.cpm_play.specs.ScriptedSlots.{console_with, script_keys, list_with, steps_of, waits_in, AreTaken, HasAdded, IsPlaying, IsResting, Moves}
 use Rattle.cpm_play.proofs.HostLemmas.{moves-ask, reply-served, slot-served}
 use Rattle.cpm_play.proofs.PaceLemmas.{due-key, key-more, on-advance, on-key, on-take, takes-due, IsAdvanced, IsDue}
 
@@ -46,10 +47,11 @@ playing-at steps start s next p q old new call is state at id keys room on = rec
 
 -- ---- keys
 
-pub resting-key : (steps byte : ℕ) (start : MachineState) (p q : ScriptedSlot) (old new : Host) → due_at p.pace.done (slice_get (script_keys p) p.pace.pressed) ≡ Some byte → new ≡ after_ask old p.id.0 (Calls (Pressed byte)) →
+pub resting-key : (steps byte : ℕ) (start : MachineState) (p q : ScriptedSlot) (old new : Host) → due_at p.pace.done (slice_get (script_keys p) p.pace.pressed) ≡ Some byte →
+    0 < steps_of p → ((s : MachineState) → slot_at p.id.0 old.slots ≡ Some s → is_running s.ended ≡ true) → new ≡ after_ask old p.id.0 (Calls (Pressed byte)) →
     q ≡ record p { pace = record p.pace { pressed = p.pace.pressed + 1 } } → IsResting steps start p old → IsResting steps start q new
 unfolding serve
-resting-key steps byte start p q old new due is moved resting =
+resting-key steps byte start p q old new due left runs is moved resting =
     let playing = resting.playing in
     let s = playing.now in
     let key : IsDue (script_keys p) p.pace byte = due-key (slice_get (script_keys p) p.pace.pressed) (script_keys p) p.pace byte refl due in
@@ -58,9 +60,13 @@ resting-key steps byte start p q old new due is moved resting =
     let r : ScriptedSlot = record p { pace = record p.pace { pressed = p.pace.pressed + 1 } } in
     subst (λ (x : ScriptedSlot). IsResting steps start x new) (sym moved) (record {
       playing = playing-at steps start s (keyed byte s) p r old new (Pressed byte) is state playing.stands refl refl playing.room
-          (on-key old.system (script_keys p) steps byte start p.pace p.console.items p.list.items s key playing.on);
+          (on-key old.system (script_keys p) steps byte start p.pace p.console.items p.list.items s key left (runs s playing.stands) playing.on);
       quiet = record { screen = resting.quiet.screen; printer = resting.quiet.printer };
     })
+
+-- there is a key that is due
+pub pressed-within : (keys : List Key) (pace : Pace) (byte : ℕ) → due_at pace.done (slice_get keys pace.pressed) ≡ Some byte → pace.pressed < length keys
+pressed-within keys pace byte due = let is : IsDue keys pace byte = due-key (slice_get keys pace.pressed) keys pace byte refl due in slice_get_within keys pace.pressed is.key is.at
 
 -- keys that come before a count, and one more that does
 before-more : (at : ℕ) (keys : List Key) (key : Key) → key.count < at → AllBefore at keys → AllBefore at (keys ++ key ∷ [])
@@ -103,7 +109,8 @@ pub granted-none : (h : Host) (id most : ℕ) (fault : Refusal) (s : MachineStat
 unfolding serve
 granted-none h id most fault s replied at = ap steps_in (replied ∙ reply-served h id (Grant most) s at)
 
-pub playing-turn : (steps k quantum : ℕ) (start : MachineState) (p q : ScriptedSlot) (old new : Host) → due_at p.pace.done (slice_get (script_keys p) p.pace.pressed) ≡ None → 1 ≤ quantum → k ≤ turn_of p.pace (script_keys p) quantum →
+pub playing-turn : (steps k quantum : ℕ) (start : MachineState) (p q : ScriptedSlot) (old new : Host) →
+    (due_at p.pace.done (slice_get (script_keys p) p.pace.pressed) ≡ None) ⊎ ((s : MachineState) → slot_at p.id.0 old.slots ≡ Some s → is_running s.ended ≡ false) → 1 ≤ quantum → k ≤ turn_of p.pace (script_keys p) quantum →
     ((s : MachineState) → slot_at p.id.0 old.slots ≡ Some s → k ≡ executed old.system (turn_of p.pace (script_keys p) quantum) s) →
     new ≡ after_ask old p.id.0 (Calls (Grant (turn_of p.pace (script_keys p) quantum))) → IsAdvanced k p.pace q.pace → q ≡ record p { pace = q.pace } →
     IsResting steps start p old → IsPlaying steps start q new
@@ -117,7 +124,8 @@ playing-turn steps k quantum start p q old new none some turn is asked moves sam
     let r : ScriptedSlot = record p { pace = q.pace } in
     subst (λ (x : ScriptedSlot). IsPlaying steps start x new) (sym same)
     (playing-at steps start s (after old.system k s) p r old new (Grant most) asked state playing.stands refl refl playing.room
-    (on-advance old.system (script_keys p) steps k quantum start p.pace q.pace p.console.items p.list.items s resting.quiet none some count turn moves playing.on))
+    (on-advance old.system (script_keys p) steps k quantum start p.pace q.pace p.console.items p.list.items s resting.quiet
+    (⊎_elim (λ free. inl free) (λ ended. inr (ended s playing.stands)) none) some count turn moves playing.on))
 
 -- ---- bytes
 

@@ -17,8 +17,7 @@ use Rattle.cpm_play.specs.Live.{HadList, HadText, HasCome, IsUnshown}
 use Rattle.cpm_play.specs.declared.live.LiveError.{LiveError}
 use Rattle.cpm_play.specs.declared.live.LiveError.TheVariants.{Unreadable, Unwritable, Unprinted, Unrecorded, OutOfMemory}
 use Rattle.cpm_play.specs.Output.{GetsOutput, OutputState}
-use Rattle.cpm_play.specs.Pacing.{without_list, without_text}
-use Rattle.cpm_play.specs.Playing.{alone_by}
+use Rattle.cpm_play.specs.Playing.{alone_by, without_list, without_text}
 pub use Rattle.cpm_play.specs.Playing.{last_count, runs_at, screen_at, waits_at}
 
 -- ---- the machine run alone

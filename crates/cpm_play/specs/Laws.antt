@@ -1,5 +1,5 @@
 -- Laws over key scripts. (own)
-use Rattle.std.specs.Prelude.{◌≡◌, ℕ, ◌<◌, ◌≤◌, List, length, map, true, false, IfOk}
+use Rattle.std.specs.Prelude.{◌≡◌, ℕ, ◌+◌, ◌<◌, ◌≤◌, List, length, map, true, false, IfOk}
 use Rattle.cpm_geom.specs.Disk.{Disk}
 use Rattle.cpm_script.specs.Cues.{Counted, cue_text}
 use Rattle.cpm_script.specs.Script.{script, most_keys}
@@ -9,11 +9,12 @@ use Rattle.cpm_script.specs.declared.script.Key.{Key}
 use Rattle.cpm_machine.specs.MachineState.{MachineState}
 use Rattle.cpm_play.specs.Cued.{HasEndedCued, IsCued, runs_at}
 use Rattle.cpm_play.specs.Live.{AreBy}
-use Rattle.cpm_play.specs.Playing.{EndsAs, HaveRoom, IsFresh, IsInOrder, alone_by}
+use Rattle.cpm_play.specs.Playing.{EndsAs, HaveRoom, IsInOrder, alone_by}
 
--- no more keys than may be pending find room where they come, if none is pending at the start: those that are pending then are at most those given
+-- no more keys than may be pending, with those that are at the start, find room where they come: those that are pending then are at most these
 abbrev pub FewKeysHaveRoom : Type 0
-FewKeysHaveRoom = (system : Disk) (start : MachineState) (keys : List Key) → IsFresh start → length keys ≤ most_keys → HaveRoom system start keys
+FewKeysHaveRoom = (system : Disk) (start : MachineState) (keys : List Key) → length start.session.console.keys + length keys ≤ most_keys →
+    HaveRoom system start keys
 
 -- the keys of a script are in order and not too many, so that they can be played
 abbrev pub ScriptsInOrder : Type 0

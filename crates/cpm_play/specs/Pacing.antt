@@ -1,5 +1,6 @@
 -- Where a session stands while it is played. All of it is own.
-use Rattle.std.specs.Prelude.{◌≡◌, ℕ, ◌-◌, ◌<◌, ◌≤◌, nat_le, min, List, [], length, take, drop, slice_get, Option, Some, None, ◌⊎◌, false, if◌then◌else◌}
+use Rattle.std.specs.Prelude.{⊤, ◌≡◌, ℕ, ◌-◌, ◌<◌, ◌≤◌, nat_le, min, List, [], ◌∷◌, ◌++◌, length, take, drop, slice_get, Option, Some, None, ◌⊎◌}
+use Rattle.std.specs.Prelude.{true, false, if◌then◌else◌}
 use Rattle.cpm_geom.specs.Disk.{Disk}
 use Rattle.cpm_script.specs.declared.script.Key.{Key}
 use Rattle.cpm_machine.specs.Alone.{due, alone}
@@ -7,7 +8,7 @@ use Rattle.cpm_machine.specs.Calls.{state_behind}
 use Rattle.cpm_machine.specs.MachineState.{MachineState}
 use Rattle.cpm_machine.specs.Step.{is_running}
 use Rattle.cpm_play.specs.declared.pace.Pace.{Pace}
-use Rattle.cpm_play.specs.Playing.{alone_by, presses_of, IsInOrder}
+use Rattle.cpm_play.specs.Playing.{presses_of, runs_at, IsInOrder}
 
 -- before the first turn
 abbrev pub first_pace : ℕ → Pace
@@ -41,22 +42,18 @@ pub record IsOfAll (steps : ℕ) (pace : Pace) (now : MachineState) : Type 0 whe
   pub most : pace.until ≤ steps
   pub all : (pace.until ≡ steps) ⊎ (is_running now.ended ≡ false)
 
+-- each of these keys comes, behind the given ones
+abbrev pub HaveComeAfter : Disk → MachineState → (steps : ℕ) → (given keys : List Key) → Type 0
+HaveComeAfter system start steps given [] = ⊤
+HaveComeAfter system start steps given (k ∷ keys) =
+    (k.count < steps) × (runs_at system start given k.count ≡ true) × HaveComeAfter system start steps (given ++ k ∷ []) keys
+
 -- The session went from a start so far: with the bytes that were taken put back in front,
 -- it is the machine run alone for the keys that were pressed and the steps that were executed. The other keys are still to come.
 pub record IsOn (system : Disk) (keys : List Key) (steps : ℕ) (start : MachineState) (pace : Pace) (console list : List ℕ) (now : MachineState) : Type 0 where
   pub state : state_behind console list now ≡ alone system (presses_of (take pace.pressed keys)) pace.done start
   pub came : (i : ℕ) → pace.done < i → due i (presses_of (take pace.pressed keys)) ≡ []
+  pub coming : HaveComeAfter system start steps [] (take pace.pressed keys)
   pub later : IsInOrder pace.done (drop pace.pressed keys)
   pub within : pace.pressed ≤ length keys
   pub all : IsOfAll steps pace now
-
--- the state with its console bytes taken, and with its list bytes taken
-abbrev pub without_text : MachineState → MachineState
-without_text s = record s { session = record s.session { console = record s.session.console { screen = [] } } }
-
-abbrev pub without_list : MachineState → MachineState
-without_list s = record s { session = record s.session { console = record s.session.console { printer = [] } } }
-
--- the machine run alone by these keys for so many steps, whose output was all taken
-abbrev pub state_left : Disk → List Key → ℕ → MachineState → MachineState
-state_left system keys steps start = without_list (without_text (alone_by system keys steps start))

@@ -1,5 +1,5 @@
 -- Sessions played by their keys: what each shows and leaves, whatever its turns are. All of it is own.
-use Rattle.std.specs.Prelude.{⊤, ◌≡◌, ◌≢◌, ℕ, ◌≤◌, Bool, true, List, [], ◌∷◌, ◌++◌, map}
+use Rattle.std.specs.Prelude.{⊤, ◌≡◌, ◌≢◌, ℕ, ◌<◌, ◌≤◌, nat_lt, Bool, true, ◌&&◌, if◌then◌else◌, List, [], ◌∷◌, ◌++◌, map}
 use Rattle.cpm_geom.specs.Disk.{Disk}
 use Rattle.cpm_script.specs.declared.script.Key.{Key}
 use Rattle.cpm_machine.specs.Alone.{Press, alone}
@@ -44,8 +44,29 @@ abbrev pub last_count : ℕ → List Key → ℕ
 last_count n [] = n
 last_count n (k ∷ ks) = last_count k.count ks
 
+-- the state with its console bytes taken, and with its list bytes taken
+abbrev pub without_text : MachineState → MachineState
+without_text s = record s { session = record s.session { console = record s.session.console { screen = [] } } }
+
+abbrev pub without_list : MachineState → MachineState
+without_list s = record s { session = record s.session { console = record s.session.console { printer = [] } } }
+
+-- the machine run alone by these keys for so many steps, whose output was all taken
+abbrev pub state_left : Disk → List Key → ℕ → MachineState → MachineState
+state_left system keys steps start = without_list (without_text (alone_by system keys steps start))
+
+-- of these keys those that come, behind the given ones: each before the steps are over, while the machine runs alone by those before it. The first that
+-- doesn't is the end of them
+abbrev pub coming_after : Disk → MachineState → (steps : ℕ) → (given keys : List Key) → List Key
+coming_after system start steps given [] = []
+coming_after system start steps given (k ∷ keys) =
+    if nat_lt k.count steps && runs_at system start given k.count then k ∷ coming_after system start steps (given ++ k ∷ []) keys else []
+
+abbrev pub coming_keys : Disk → MachineState → (steps : ℕ) → List Key → List Key
+coming_keys system start steps keys = coming_after system start steps [] keys
+
 -- A session was played: it has shown what the machine run alone for its keys and steps shows, and has come to its end, count, registers,
--- memory and drives, whatever the turns were.
+-- memory and drives, whatever the turns were. Its whole state is that which the keys leave that come, with all of its output taken.
 pub record IsPlayed (system : Disk) (keys : List Key) (steps : ℕ) (start now : MachineState) (console list : List ℕ) : Type 0 where
   pub screen : console ≡ (alone system (presses_of keys) steps start).session.console.screen
   pub printer : list ≡ (alone system (presses_of keys) steps start).session.console.printer
@@ -54,6 +75,7 @@ pub record IsPlayed (system : Disk) (keys : List Key) (steps : ℕ) (start now :
   pub regs : now.session.regs ≡ (alone system (presses_of keys) steps start).session.regs
   pub memory : now.memory ≡ (alone system (presses_of keys) steps start).memory
   pub disks : now.session.disks ≡ (alone system (presses_of keys) steps start).session.disks
+  pub state : now ≡ state_left system (coming_keys system start steps keys) steps start
 
 -- the end, count, registers, memory and drives of another state
 pub record EndsAs (other now : MachineState) : Type 0 where

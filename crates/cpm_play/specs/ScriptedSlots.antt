@@ -9,7 +9,7 @@ use Rattle.cpm_slots.specs.Host.{Host, SlotState, slot_at, quotas_of, IsHost}
 use Rattle.cpm_machine.specs.MachineState.{MachineState}
 use Rattle.cpm_play.specs.declared.scripted_slot.ScriptedSlot.{ScriptedSlot}
 use Rattle.cpm_play.specs.Pacing.{left_in, IsOn}
-use Rattle.cpm_play.specs.Playing.{HaveRoom, IsFresh, IsInOrder, IsQuiet}
+use Rattle.cpm_play.specs.Playing.{HaveRoom, IsInOrder, IsQuiet}
 
 -- the keys that a scripted slot was given
 abbrev pub script_keys : ScriptedSlot → List Key
@@ -26,13 +26,12 @@ pub record IsNew (p : ScriptedSlot) : Type 0 where
   pub pressed : p.pace.pressed ≡ 0
   pub done : p.pace.done ≡ 0
 
--- it has had no turn, its slot is open and fresh, and its keys are in order, and find room where they come
+-- it has had no turn, its slot is open, in whatever state, and its keys are in order, and find room where they come
 pub record IsReady (system : Disk) (slots : List SlotState) (p : ScriptedSlot) : Type 0 where
   pub unplayed : IsNew p
   pub order : IsInOrder 0 (script_keys p)
   pub start : MachineState
   pub opened : slot_at p.id.0 slots ≡ Some start
-  pub fresh : IsFresh start
   pub room : HaveRoom system start (script_keys p)
 
 -- the number is none of these

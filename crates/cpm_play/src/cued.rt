@@ -10,8 +10,7 @@ ghost use Rattle.cpm_play.specs.Cued.{IsCued, IsCutOff, IsIdleCut, IsPressCut, I
 ghost use Rattle.cpm_play.specs.Cued.{looks_back, waits_at};
 ghost use Rattle.cpm_play.specs.Live.{AreGiven, IsGoing};
 ghost use Rattle.cpm_play.specs.Output.{output_state};
-ghost use Rattle.cpm_play.specs.Pacing.{state_left};
-ghost use Rattle.cpm_play.specs.Playing.{EndsAs, HaveRoom, IsQuiet, alone_by};
+ghost use Rattle.cpm_play.specs.Playing.{EndsAs, HaveRoom, IsQuiet, alone_by, state_left};
 ghost use Rattle.cpm_play.specs.Shown.{HasGrown, IsKeptOrFound};
 ghost use Rattle.cpm_play.specs.Typist.{HasAttended, is_over};
 

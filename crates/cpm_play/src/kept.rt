@@ -4,8 +4,7 @@ ghost use Rattle.std.specs.Prelude.{◌≡◌, true, IfErr, IfOk, OnErr, OnOk};
 ghost use Rattle.std.specs.Io.KnownBytes.{Appends};
 ghost use Rattle.cpm_play.specs.Cued.{IsOutputTaken, IsUntaken};
 ghost use Rattle.cpm_play.specs.Output.{output_state};
-ghost use Rattle.cpm_play.specs.Pacing.{without_text};
-ghost use Rattle.cpm_play.specs.Playing.{HasText};
+ghost use Rattle.cpm_play.specs.Playing.{HasText, without_text};
 ghost use Rattle.cpm_play.specs.Shown.{HasGrown};
 
 use crate::live::{LiveError, show};

@@ -2,7 +2,7 @@
 
 ghost use Rattle.cpm_play.specs.Laws.{FewKeysHaveRoom, PlainCuesDoAsTheirKeys, PlainCuesGiveTheirKeys, ScriptsInOrder};
 
-/// Keys of which there are at most 4,096, as those of a script, find room where they come: no more than those given can be pending.
+/// Keys of which there are at most 4,096, with those that are pending at the start, find room where they come: no more than these can be pending.
 pub fn few_keys_have_room()
     ensures { FewKeysHaveRoom }
 {}

@@ -2,8 +2,7 @@
 
 ghost use Rattle.std.specs.Prelude.{◌≡◌, ◌<◌, OnOk, OnErr};
 ghost use Rattle.std.specs.Io.KnownBytes.{Appends};
-ghost use Rattle.cpm_play.specs.Pacing.{without_list, without_text};
-ghost use Rattle.cpm_play.specs.Playing.{HasList, HasText};
+ghost use Rattle.cpm_play.specs.Playing.{HasList, HasText, without_list, without_text};
 
 use cpm_machine::Machine;
 use std::io;

@@ -1,7 +1,7 @@
 //! Many players of a host, in turns.
 
 ghost use Rattle.std.specs.Prelude.{◌≡◌, ◌≤◌, ◌<◌, List, OnOk, IfErr, false};
-ghost use Rattle.cpm_slots.specs.Host.{Host as HostValue};
+ghost use Rattle.cpm_slots.specs.Host.{Host as HostValue, IsHost};
 ghost use Rattle.cpm_play.specs.declared.player.Player.{Player as PlayerValue};
 ghost use Rattle.cpm_play.specs.Players.{AllDiffer, AllPlayed, AllReady, HaveBecome, HasRoomForForks, IsPlayRefusal, LeavesRest};
 ghost use Rattle.cpm_play.specs.Players.{fork_pages, forks_of, still_plays, has_fork, ids_of, is_over, players_left};
@@ -10,10 +10,10 @@ use crate::error::PlayError;
 use crate::forks::{fork_if_due, has_fork};
 use crate::player::Player;
 use crate::progress::{Watcher, progress_of};
-use crate::turn::turn;
+use crate::turn::{take_output, turn};
 use cpm_machine::Look;
 use cpm_slots::Host;
-use std::alloc::Global;
+use std::alloc::{AllocError, Global};
 
 /// Whether one of the players has steps to execute, or is still to be forked.
 fn still_plays(players: &[Player]) -> bool
@@ -92,9 +92,24 @@ fn round(
     Ok(())
 }
 
+/// Takes what waits in the slots of the players, before their first turn.
+fn take_waiting(host: &mut Host, players: &mut [Player]) -> Result<(), AllocError>
+    requires ready { AllReady host.old.host.system host.old.host.slots players.old }
+    requires differ { AllDiffer players.old }
+    requires orderly { IsHost host.old.host }
+    ensures come { OnOk result (HaveBecome host.old.host host.new.host players.old players.new) }
+{
+    for place in 0..players.len() {
+        if let Player::Playing(slot) = &mut players[place] {
+            take_output(host, slot)?;
+        }
+    }
+    Ok(())
+}
+
 /// Plays sessions of a host, and forks those that are to be forked. The players have turns in their order, each of at most `quantum` steps (or where the
 /// session waits for a key of as many as it waits) and cut at the count of the next key and at that of the next fork,
-/// and all that a session shows is taken after its turn, until each has executed its steps or ended.
+/// and all that a session shows is taken after its turn, until each has executed its steps or ended. What waits in a slot before comes first.
 /// A session is forked once the one that it is forked from has executed as many steps, or executes no more, and before that one's keys of this count.
 ///
 /// The watcher is told after each round how far they have come.
@@ -116,6 +131,7 @@ pub fn play<T: Watcher>(
     ensures refused { IfErr result (IsPlayRefusal host.old.host players.old) }
 {
     host.slots_are_orderly();
+    take_waiting(host, players)?;
     let mut rounds = 0u64;
     let mut may_fork = has_fork(players);
     while still_plays(players) {

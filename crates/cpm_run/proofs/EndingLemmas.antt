@@ -2,12 +2,12 @@
 use Rattle.std.proofs.Common.{◌≡◌, ◌∙◌, ℕ, List, Some, Ok, Err, ap, refl, subst}
 use Rattle.std.specs.Prelude.{⊤}
 use Rattle.cpm_memory.specs.Contents.{byte_at, run_at}
-use Rattle.cpm_slots.specs.Host.{Host, look_reply, peek_reply, reply_at, slot_at}
+use Rattle.cpm_slots.specs.Host.{Host, peek_reply, reply_at, slot_at}
 use Rattle.cpm_slots.specs.Serving.{Calls}
 use Rattle.cpm_slots.specs.declared.event.Refusal.{Refusal}
 use Rattle.cpm_slots.specs.declared.event.Reply.{Reply}
 use Rattle.cpm_slots.specs.declared.event.Reply.TheVariants as reply
-use Rattle.cpm_machine.specs.Calls.{LookAt, Peek, serve}
+use Rattle.cpm_machine.specs.Calls.{Peek, serve}
 use Rattle.cpm_machine.specs.MachineState.{MachineState}
 use Rattle.cpm_machine.specs.Serve.{look_of}
 use Rattle.cpm_machine.specs.declared.reply.Look.{Look}
@@ -21,10 +21,6 @@ ending_same s t same = rw (same.ended, same.count, same.regs, same.memory) refl
 
 -- ---- what a slot that is open replies
 
-abbrev look_in : Look → Reply → Look
-look_in other (reply.Looked look) = look
-look_in other _ = other
-
 abbrev byte_in : Reply → ℕ
 byte_in (reply.Peeked byte) = byte
 byte_in _ = 0
@@ -33,19 +29,11 @@ abbrev IsRefused : Reply → Type 0
 IsRefused (reply.Refused fault) = ⊤
 IsRefused _ = ⊥
 
-pub looked : (h : Host) (id : ℕ) (look : Look) (s : MachineState) → look_reply (Ok look) ≡ reply_at h id (Calls LookAt) → slot_at id h.slots ≡ Some s → look ≡ look_of s
-unfolding serve
-looked h id look s replied at = ap (look_in look) (replied ∙ reply-served h id LookAt s at)
-
 -- the ending of a state that is looked at, with the bytes at its program counter
 pub ending_seen : (s : MachineState) (look : Look) (bytes : List ℕ) → look ≡ look_of s → bytes ≡ run_at s.memory look.regs.pc 4
     → record { ended = look.ended; count = look.count; pc = look.regs.pc; at_pc = bytes } ≡ ending_of s
 unfolding look_of
 ending_seen s look bytes is read = rw (read, is) refl
-
-pub looks : (h : Host) (id : ℕ) (fault : Refusal) (s : MachineState) → look_reply (Err fault) ≡ reply_at h id (Calls LookAt) → slot_at id h.slots ≡ Some s → ⊥
-unfolding serve
-looks h id fault s replied at = subst IsRefused (replied ∙ reply-served h id LookAt s at) tt
 
 pub peeked_byte : (h : Host) (id address byte : ℕ) (s : MachineState) → peek_reply (Ok byte) ≡ reply_at h id (Calls (Peek address)) → slot_at id h.slots ≡ Some s → byte ≡ byte_at s.memory address
 unfolding serve

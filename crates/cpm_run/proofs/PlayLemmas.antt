@@ -3,7 +3,7 @@ use Rattle.std.proofs.Common.{◌≡◌, ◌≢◌, ◌∙◌, ◌≤◌, ℕ, z
 use Rattle.std.specs.Prelude.{option_map}
 use Rattle.std.proofs.lemmas.Option.{slice_get-map}
 use Rattle.std.proofs.lemmas.List.Sums.{sum_by-cons}
-use Rattle.cpm_batch.specs.Inputs.{Forks, IsOpened, Opens, StartInput}
+use Rattle.cpm_batch.specs.Inputs.{Forks, IsOpened, Opens, Restores, StartInput}
 use Rattle.cpm_flags.specs.declared.regs.Cpu.{Cpu}
 use Rattle.cpm_geom.specs.Disk.{Disk}
 use Rattle.cpm_script.specs.Fork.{keys_before}
@@ -19,15 +19,15 @@ use Rattle.cpm_play.specs.declared.player.Fork.{Fork}
 use Rattle.cpm_play.specs.declared.player.Player.{Player}
 use Rattle.cpm_play.specs.declared.player.Player.TheVariants.{Playing, Waiting}
 use Rattle.cpm_play.specs.declared.scripted_slot.ScriptedSlot.{ScriptedSlot}
-use Rattle.cpm_config.specs.declared.config.Config.{Config}
 use Rattle.cpm_config.specs.declared.config.SessionConfig.{SessionConfig}
 use Rattle.cpm_play.specs.declared.error.PlayError.TheVariants.{ForkRefused}
 use Rattle.cpm_slots.specs.declared.event.ForkError.{ForkError}
 use Rattle.cpm_slots.specs.declared.event.ForkError.TheVariants as fork
-use Rattle.cpm_run.specs.Playing.{AllEnded, ArePressable, HasEnded, HasPlayer, HasPlayerBy, HasSlot, HavePlayers, IsForkFor, IsForkPressable, IsForkRefused, IsForksRefusal, IsSessionsRefusal, IsPressableBy, IsRefusedAmong, IsRefusedByName}
+use Rattle.cpm_run.specs.Playing.{AllEnded, ArePressable, HasEnded, HasPlayer, HasPlayerBy, HasSlot, HavePlayers, IsForkFor, IsForkPressable, IsForkRefused, IsForksRefusal, IsPressableBy, IsRefusedAmong, IsRefusedByName, IsSlotRefusal}
 use Rattle.cpm_run.specs.Run.{HasForkRoom, IsForkAt, IsShortFor, IsShownAs, fork_of, fork_pages_in, forks_in, name_at, pages_by}
 use Rattle.cpm_run.specs.declared.error.RunError.{RunError}
 use Rattle.cpm_run.specs.declared.error.RunError.TheVariants as refusal
+use Rattle.cpm_run.specs.declared.error.StartFault.TheVariants.{Unopened}
 use Rattle.cpm_run.specs.Settled.{SettledSession, opening_at, opening_of, start_by, starts_of}
 
 -- ---- the session of a player, and the slot of a session
@@ -60,6 +60,9 @@ slot_by slots ps place (Opens cpu quota drives) i (Playing slot) begins opened h
     record { slot = slot; plays = there; keys = h.keys; stands = h.slot ∙ ap (λ (b : StartInput). Some (opening_of b)) begins }
 slot_by slots ps place (Opens cpu quota drives) i (Waiting fork) begins opened h there = absurd h
 slot_by slots ps place (Forks parent at) i p begins opened h there = absurd opened
+slot_by slots ps place (Restores x) i (Playing slot) begins opened h there =
+    record { slot = slot; plays = there; keys = h.keys; stands = h.slot ∙ ap (λ (b : StartInput). Some (opening_of b)) begins }
+slot_by slots ps place (Restores x) i (Waiting fork) begins opened h there = absurd h
 
 slot_there : (slots : List SlotState) (is : List SettledSession) (ps : List Player) (place : ℕ) (i : SettledSession) → HavePlayers slots is ps → slice_get is place ≡ Some i → IsOpened i.start
     → HasSlotAt slots ps place i
@@ -74,15 +77,14 @@ slot_there slots (j ∷ is) (p ∷ ps) (suc place) i all there opened =
 
 -- ---- players can be played
 
-slot_ready : (system : Disk) (slots : List SlotState) (cpu : Cpu) (quota : ℕ) (drives : List Disk) (i : SettledSession) (p : ScriptedSlot) → HasSlot slots (opened_machine cpu quota drives) i p
-    → IsInOrder 0 i.keys → HaveRoom system (opened_machine cpu quota drives) i.keys → IsReady system slots p
-slot_ready system slots cpu quota drives i p h order room = record {
+slot_ready : (system : Disk) (slots : List SlotState) (start : MachineState) (i : SettledSession) (p : ScriptedSlot) → HasSlot slots start i p
+    → IsInOrder 0 i.keys → HaveRoom system start i.keys → IsReady system slots p
+slot_ready system slots start i p h order room = record {
   unplayed = h.unplayed;
   order = subst (λ (ks : List Key). IsInOrder 0 ks) (sym h.keys) order;
-  room = subst (λ (ks : List Key). HaveRoom system (opened_machine cpu quota drives) ks) (sym h.keys) room;
-  start = opened_machine cpu quota drives;
+  room = subst (λ (ks : List Key). HaveRoom system start ks) (sym h.keys) room;
+  start = start;
   opened = h.slot;
-  fresh = record { keys = refl; screen = refl; printer = refl };
 }
 
 fork_ready : (system : Disk) (slots : List SlotState) (is : List SettledSession) (ps : List Player) (i : SettledSession) (parent at : ℕ) (fork : Fork) → HavePlayers slots is ps → IsForkFor i parent at fork
@@ -103,10 +105,12 @@ fork_ready system slots is ps i parent at fork all h can =
 
 ready_by : (system : Disk) (slots : List SlotState) (is : List SettledSession) (ps : List Player) (b : StartInput) (i : SettledSession) (p : Player) → HavePlayers slots is ps → HasPlayerBy slots b i p
     → IsPressableBy system is b i → IsPlayerReady system slots ps p
-ready_by system slots is ps (Opens cpu quota drives) i (Playing slot) all h can = slot_ready system slots cpu quota drives i slot h can.0 can.1
+ready_by system slots is ps (Opens cpu quota drives) i (Playing slot) all h can = slot_ready system slots (opened_machine cpu quota drives) i slot h can.0 can.1
 ready_by system slots is ps (Opens cpu quota drives) i (Waiting fork) all h can = absurd h
 ready_by system slots is ps (Forks parent at) i (Playing slot) all h can = absurd h
 ready_by system slots is ps (Forks parent at) i (Waiting fork) all h can = fork_ready system slots is ps i parent at fork all h can
+ready_by system slots is ps (Restores x) i (Playing slot) all h can = slot_ready system slots x.state i slot h can.0 can.1
+ready_by system slots is ps (Restores x) i (Waiting fork) all h can = absurd h
 
 pub all_ready : (system : Disk) (slots : List SlotState) (is : List SettledSession) (ps : List Player) → HavePlayers slots is ps → ArePressable system is → AllReady system slots ps
 all_ready system slots is ps all can = λ place. by_player place (slice_get ps place) refl
@@ -125,6 +129,8 @@ fork_by slots (Opens cpu quota drives) i (Playing slot) h = refl
 fork_by slots (Opens cpu quota drives) i (Waiting fork) h = absurd h
 fork_by slots (Forks parent at) i (Playing slot) h = absurd h
 fork_by slots (Forks parent at) i (Waiting fork) h = refl
+fork_by slots (Restores x) i (Playing slot) h = refl
+fork_by slots (Restores x) i (Waiting fork) h = absurd h
 
 pub forks_are : (slots : List SlotState) (is : List SettledSession) (ps : List Player) → HavePlayers slots is ps → forks_of ps ≡ forks_in (starts_of is)
 forks_are slots [] [] all = refl
@@ -143,6 +149,8 @@ quota_by slots (Opens cpu quota drives) i (Playing slot) h = ap quota_of h.slot
 quota_by slots (Opens cpu quota drives) i (Waiting fork) h = absurd h
 quota_by slots (Forks parent at) i (Playing slot) h = absurd h
 quota_by slots (Forks parent at) i (Waiting fork) h = refl
+quota_by slots (Restores x) i (Playing slot) h = ap quota_of h.slot
+quota_by slots (Restores x) i (Waiting fork) h = absurd h
 
 quota_there : (slots : List SlotState) (is : List SettledSession) (ps : List Player) (place : ℕ) → HavePlayers slots is ps
     → quota_of (player_slot slots (slice_get ps place)) ≡ (opening_at (slice_get (starts_of is) place)).quota
@@ -158,6 +166,8 @@ module _ (slots : List SlotState) (is : List SettledSession) (ps : List Player) 
   page_by (Opens cpu quota drives) i (Waiting fork) h = absurd h
   page_by (Forks parent at) i (Playing slot) h = absurd h
   page_by (Forks parent at) i (Waiting fork) h = ap (λ (n : ℕ). quota_of (player_slot slots (slice_get ps n))) h.parent ∙ quota_there slots is ps parent all
+  page_by (Restores x) i (Playing slot) h = refl
+  page_by (Restores x) i (Waiting fork) h = absurd h
 
   pages_from : (js : List SettledSession) (qs : List Player) → HavePlayers slots js qs → sum_by (pages_of slots ps) qs ≡ sum_by (pages_by (starts_of is)) (starts_of js)
   pages_from [] [] some = refl
@@ -185,6 +195,8 @@ started_by slots (Opens cpu quota drives) i (Playing slot) start h is = let at =
 started_by slots (Opens cpu quota drives) i (Waiting fork) start h is = absurd h
 started_by slots (Forks parent at) i (Playing slot) start h is = absurd h
 started_by slots (Forks parent at) i (Waiting fork) start h is = absurd (cc)
+started_by slots (Restores x) i (Playing slot) start h is = let at = h.slot in cc
+started_by slots (Restores x) i (Waiting fork) start h is = absurd h
 
 started_there : (slots : List SlotState) (is : List SettledSession) (ps : List Player) (place : ℕ) (start : MachineState) → HavePlayers slots is ps → player_slot slots (slice_get ps place) ≡ Some start
     → start ≡ opening_at (slice_get (starts_of is) place)
@@ -200,18 +212,24 @@ module _ (system : Disk) (before now : List SlotState) (is : List SettledSession
   start_is (Opens cpu quota drives) i (Waiting fork) start h at = absurd h
   start_is (Forks parent count) i (Playing slot) start h at = absurd h
   start_is (Forks parent count) i (Waiting fork) start h at = started_there before is ps parent start all (ap (λ (n : ℕ). player_slot before (slice_get ps n)) (sym h.parent) ∙ at)
+  start_is (Restores x) i (Playing slot) start h at = let there = h.slot in cc
+  start_is (Restores x) i (Waiting fork) start h at = absurd h
 
   keys_are : (b : StartInput) (i : SettledSession) (p : Player) → HasPlayerBy before b i p → player_keys p ≡ i.keys
   keys_are (Opens cpu quota drives) i (Playing slot) h = h.keys
   keys_are (Opens cpu quota drives) i (Waiting fork) h = absurd h
   keys_are (Forks parent at) i (Playing slot) h = absurd h
   keys_are (Forks parent at) i (Waiting fork) h = h.keys
+  keys_are (Restores x) i (Playing slot) h = h.keys
+  keys_are (Restores x) i (Waiting fork) h = absurd h
 
   steps_are : (b : StartInput) (i : SettledSession) (p : Player) → HasPlayerBy before b i p → player_steps p ≡ i.steps
   steps_are (Opens cpu quota drives) i (Playing slot) h = h.steps
   steps_are (Opens cpu quota drives) i (Waiting fork) h = absurd h
   steps_are (Forks parent at) i (Playing slot) h = absurd h
   steps_are (Forks parent at) i (Waiting fork) h = h.steps
+  steps_are (Restores x) i (Playing slot) h = h.steps
+  steps_are (Restores x) i (Waiting fork) h = absurd h
 
   ended : (i : SettledSession) (p q : Player) → HasPlayer before i p → HasPlayed system before now ps p q → HasEnded system is now i q
   ended i p q has h =
@@ -257,14 +275,15 @@ fork_at : (slots : List SlotState) (starts : List StartInput) (place : ℕ) (b :
     → IsForkAt starts place
 fork_at slots starts place (Opens cpu quota drives) i fork there h = absurd h
 fork_at slots starts place (Forks parent at) i fork there h = record { parent = parent; at = at; there = there }
+fork_at slots starts place (Restores x) i fork there h = absurd h
 
 -- where forks are refused, once all that are opened are open
-pub fork_refused : (config : Config) (start now : Host) (is : List SettledSession) (ps : List Player) (e : RunError) → HavePlayers now.slots is ps
-    → ((whole : List StartInput) (fault : OpenError) (place : ℕ) → IsForkAt whole place → IsShortFor now (forks_in whole) (fork_pages_in whole) fault → IsRefusedAmong whole start 0 (starts_of is) fault place)
-    → IsForksRefusal config now ps e → IsSessionsRefusal config start (starts_of is) e
-fork_refused config start now is ps e all short r = by_error e r
+pub fork_refused : (sessions : List SessionConfig) (start now : Host) (is : List SettledSession) (ps : List Player) (e : RunError) → HavePlayers now.slots is ps
+    → ((whole : List StartInput) (fault : OpenError) (place : ℕ) → IsForkAt whole place → IsShortFor now (forks_in whole) (fork_pages_in whole) fault → IsRefusedAmong whole start 0 (starts_of is) (Unopened fault) place)
+    → IsForksRefusal sessions now ps e → IsSlotRefusal sessions start (starts_of is) e
+fork_refused sessions start now is ps e all short r = by_error e r
   where
-    named : (fault : OpenError) (shown : List ℕ) → IsForkRefused config.sessions.items now ps fault shown → IsRefusedByName config.sessions.items start (starts_of is) fault shown
+    named : (fault : OpenError) (shown : List ℕ) → IsForkRefused sessions now ps fault shown → IsRefusedByName sessions start (starts_of is) (Unopened fault) shown
     named fault shown r =
         let s = session_at now.slots is ps r.place (Waiting r.fork) all r.there in
         let room = subst (λ (n : ℕ). IsShortFor now (forks_in (starts_of is)) n fault) (pages_are now.slots is ps all)
@@ -275,8 +294,7 @@ fork_refused config start now is ps e all short r = by_error e r
           told = r.told;
         }
 
-    by_error : (e : RunError) → IsForksRefusal config now ps e → IsSessionsRefusal config start (starts_of is) e
-    by_error (refusal.SessionRefused name fault) r = (r.0, named fault name.bytes r.1)
-    by_error (refusal.FramesExceeded name quotas frames) r = (r.0, r.1, named fault.NoFrames name.bytes r.2)
+    by_error : (e : RunError) → IsForksRefusal sessions now ps e → IsSlotRefusal sessions start (starts_of is) e
+    by_error (refusal.SessionRefused name fault) r = named fault name.bytes r
     by_error refusal.OutOfMemory r = tt
     by_error _ r = absurd r

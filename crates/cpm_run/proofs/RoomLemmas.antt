@@ -3,11 +3,10 @@ use Rattle.std.proofs.Common.{◌≡◌, ◌∙◌, ◌≤◌, ◌+◌, ◌⊎�
 use Rattle.std.specs.Prelude.{max}
 use Rattle.std.proofs.Math.Nat.{le-max_left, le-max_right, max-le}
 use Rattle.std.proofs.lemmas.List.{drop_at, length-append}
-use Rattle.cpm_batch.specs.Inputs.{Forks, Opens, StartInput}
 use Rattle.cpm_geom.specs.Disk.{Disk}
 use Rattle.cpm_machine.specs.MachineState.{MachineState}
 use Rattle.cpm_play.specs.Cued.{IsCuedFrom, screen_at}
-use Rattle.cpm_play.specs.Playing.{HaveRoom, HaveRoomAfter, IsFresh, IsInOrder}
+use Rattle.cpm_play.specs.Playing.{HaveRoom, HaveRoomAfter, IsInOrder}
 use Rattle.cpm_play.proofs.RoomLemmas.{few-room}
 use Rattle.cpm_script.specs.Cues.{cue_text}
 use Rattle.cpm_script.specs.Fork.{keys_before}
@@ -17,7 +16,6 @@ use Rattle.cpm_script.specs.declared.cue.Cue.{Cue}
 use Rattle.cpm_script.specs.declared.cue.Cue.TheVariants.{Key as Timed}
 use Rattle.cpm_script.specs.declared.script.Key.{Key}
 use Rattle.cpm_script.proofs.ForkLemmas.{keys_before-cut}
-use Rattle.cpm_run.specs.Settled.{opening_of}
 use Rattle.cpm_run.proofs.OrderLemmas.{own_from}
 
 -- ---- the first of some keys
@@ -45,15 +43,11 @@ before_room system start at keys order room =
 
 -- ---- few keys
 
-pub opening_fresh : (b : StartInput) → IsFresh (opening_of b)
-opening_fresh (Opens cpu quota drives) = record { keys = refl; screen = refl; printer = refl }
-opening_fresh (Forks parent at) = record { keys = refl; screen = refl; printer = refl }
-
-pub few_joined : (system : Disk) (start : MachineState) (before own keys : List Key) → IsFresh start → keys ≡ before ++ own → length before + length own ≤ most_keys → HaveRoom system start keys
-few_joined system start before own keys fresh joined few =
+pub few_joined : (system : Disk) (start : MachineState) (before own keys : List Key) → keys ≡ before ++ own → length start.session.console.keys + length before + length own ≤ most_keys → HaveRoom system start keys
+few_joined system start before own keys joined few =
     let long = length-append before own in
     let all = ap (λ (ks : List Key). length ks) joined in
-    few-room system start keys fresh (omega (arith, few, long, all))
+    few-room system start keys (omega (arith, few, long, all))
 
 -- ---- keys that came after those from before
 

@@ -1,9 +1,9 @@
 -- How a run is refused.
 use Rattle.std.proofs.Common.{◌≡◌, ◌∙◌, ◌≤◌, ◌<◌, ◌+◌, ⊎_elim, inl, inr, ap, refl, subst, sym, arith, None, Some, Option, ℕ, zero, suc, List, [], ◌∷◌, ◌++◌, length, map, get_or, slice_get, Bool, true, false}
-use Rattle.std.specs.Prelude.{IfSome, if◌then◌else◌, nat_lt, ◌||◌, chars, option_map}
+use Rattle.std.specs.Prelude.{IfSome, if◌then◌else◌, nat_lt, not, ◌||◌, chars, option_map}
 use Rattle.std.proofs.lemmas.Bool.Decides.{nat_tests}
 use Rattle.std.proofs.lemmas.Option.{slice_get-get_or, slice_get-map}
-use Rattle.cpm_batch.specs.Inputs.{Forks, IsReadRefusal, Opens, SessionInput, StartInput}
+use Rattle.cpm_batch.specs.Inputs.{Forks, IsReadRefusal, Opens, Restores, SessionInput, StartInput}
 use Rattle.cpm_batch.specs.Reads.{StopsReading}
 use Rattle.cpm_batch.specs.declared.error.ReadError.{ReadError}
 use Rattle.cpm_batch.specs.declared.error.ReadError.TheVariants as reading
@@ -17,19 +17,23 @@ use Rattle.cpm_machine.specs.Opening.{drives_fault, fault_else, opening_fault}
 use Rattle.cpm_machine.specs.declared.opening.OpenError.{OpenError}
 use Rattle.cpm_machine.specs.declared.opening.OpenError.TheVariants as opening
 use Rattle.cpm_machine.specs.declared.opening.Opening.{Opening}
-use Rattle.cpm_slots.specs.Host.{Host, lacks_slot, new_host, quotas_of, refusal_of, room_fault, with_added, with_opened}
+use Rattle.cpm_machine.specs.Saving.{Saving}
+use Rattle.cpm_machine.specs.SystemDigest.{system_digest}
+use Rattle.cpm_slots.specs.Host.{Host, are_same, lacks_slot, new_host, quotas_of, refusal_of, room_fault, with_added, with_opened}
 use Rattle.cpm_store.specs.Files.{WhereTold}
 use Rattle.cpm_store.specs.Log.{AreNoWrites, LogLeadsBy, StopsAfter}
 use Rattle.cpm_store.specs.Writes.{NamedBytes, StopsAt, named_output}
 use Rattle.cpm_store.specs.declared.writes.Output.{Output}
-use Rattle.cpm_run.specs.Playing.{ArePressable, IsPressableBy, IsRefusedAmong, IsRefusedByName, IsSessionsRefusal}
+use Rattle.cpm_run.specs.Playing.{ArePressable, AreUnforked, IsPressableBy, IsRefusedAmong, IsRefusedByName, IsSlotRefusal}
 use Rattle.cpm_run.specs.Refusals.{run_error_of_reading}
 use Rattle.cpm_run.specs.Refusing.{FailsAtInput, IsOutputAt, IsPlaceRefusal, IsRunRefusal, IsRunnable, IsSettleRefusal, IsWriteRefusal, StopsAfterReading, StopsWriting}
-use Rattle.cpm_run.specs.Run.{AllAccepted, AreParts, GivesItsKeysAgain, HasReadInputs, HasWrittenOutputs, IsOpening, RunParts, StoreActs, config_fault, outputs_by, starts_read}
+use Rattle.cpm_run.specs.Run.{AllAccepted, AreParts, GivesItsKeysAgain, HasForkRoom, HasReadInputs, HasWrittenOutputs, IsOpening, RunParts, StoreActs, config_fault, outputs_by, restoring_fault, starts_read}
 use Rattle.cpm_run.specs.Settled.{AreSettled, AreUntouched, SettledSession, Streams, TypedSession, starts_of}
 use Rattle.cpm_run.specs.Settling.{AreBelow80h, AreSettledBy, AreSound}
 use Rattle.cpm_run.specs.declared.error.RunError.{RunError}
 use Rattle.cpm_run.specs.declared.error.RunError.TheVariants as refusal
+use Rattle.cpm_run.specs.declared.error.StartFault.{StartFault}
+use Rattle.cpm_run.specs.declared.error.StartFault.TheVariants.{Elsewhere, Unopened}
 use Rattle.cpm_run.specs.declared.options.RunOptions.{RunOptions}
 
 -- ---- what was settled is what was read
@@ -82,28 +86,46 @@ has_number h quota none = by_test (lacks_slot h) refl none
     by_test false e n = refl
     by_test true e n = absurd (cc)
 
-numbered : (h : Host) (o : Opening) → refusal_of h o ≡ None → h.openings ≤ 18446744073709551615 → h.openings + 1 ≤ 18446744073709551615
-numbered h o none low =
-    by_test (18446744073709551615) (has_number h o.quota (second_none (opening_fault o) (room_fault h o.quota) none))
+numbered : (h : Host) (quota : ℕ) → room_fault h quota ≡ None → h.openings ≤ 18446744073709551615 → h.openings + 1 ≤ 18446744073709551615
+numbered h quota none low = by_test (18446744073709551615) (has_number h quota none)
   where
     by_test : (n : ℕ) → lacks_slot h ≡ false → h.openings + 1 ≤ 18446744073709551615
     by_test n has = grind (arith, nat_tests)
 
-never_both : (all starts : List StartInput) (h : Host) (from : ℕ) (fault : OpenError) (place : ℕ) → h.openings ≤ 18446744073709551615 → AllAccepted all h starts → IsRefusedAmong all h from starts fault place → ⊥
-never_both all [] h from opening.NoSlot place low room short =
+numbered_opened : (h : Host) (o : Opening) → refusal_of h o ≡ None → h.openings ≤ 18446744073709551615 → h.openings + 1 ≤ 18446744073709551615
+numbered_opened h o none low = numbered h o.quota (second_none (opening_fault o) (room_fault h o.quota) none) low
+
+-- a saving that is not refused has a place
+restored_room : (h : Host) (x : Saving) → restoring_fault h x ≡ None → room_fault h x.state.quota ≡ None
+restored_room h x none = by_test (are_same x.system_digest (system_digest h.system)) (room_fault h x.state.quota) none
+  where
+    by_test : (same : Bool) (room : Option OpenError) → (if not same then Some Elsewhere else option_map Unopened room) ≡ None → room ≡ None
+    by_test true None n = refl
+    by_test true (Some e) n = absurd (cc)
+    by_test false room n = absurd (cc)
+
+never_short : (all : List StartInput) (h : Host) (fault : StartFault) (place : ℕ) → h.openings ≤ 18446744073709551615 → HasForkRoom all h → AreUnforked all h fault place → ⊥
+never_short all h (Unopened opening.NoSlot) place low room short =
     ⊎_elim (λ slots. let s = room.slots in omega (arith, s, slots)) (λ numbers. by_forks _ room.numbers numbers) short.1
   where
     by_forks : (n : ℕ) → (0 < n → h.openings + n ≤ 18446744073709551615) → 18446744073709551615 < h.openings + n → ⊥
     by_forks zero has over = omega (arith, low, over)
     by_forks (suc n) has over = let r = has (omega arith) in omega (arith, r, over)
-never_both all [] h from opening.NoFrames place low room short = let f = room.frames in let s = short.1 in omega (arith, f, s)
-never_both all [] h from _ place low room short = absurd short.1
+never_short all h (Unopened opening.NoFrames) place low room short = let f = room.frames in let s = short.1 in omega (arith, f, s)
+never_short all h (Unopened _) place low room short = absurd short.1
+never_short all h Elsewhere place low room short = short
+
+never_both : (all starts : List StartInput) (h : Host) (from : ℕ) (fault : StartFault) (place : ℕ) → h.openings ≤ 18446744073709551615 → AllAccepted all h starts → IsRefusedAmong all h from starts fault place → ⊥
+never_both all [] h from fault place low room short = never_short all h fault place low room short
 never_both all (Opens cpu quota drives ∷ starts) h from fault place low was isn =
     let same : refusal_of h was.0 ≡ refusal_of h isn.0 = refusal_is h cpu quota drives was.0 was.1 ∙ sym (refusal_is h cpu quota drives isn.0 isn.1) in
     let next : with_opened h isn.0 ≡ with_opened h was.0 = host_is h cpu quota drives isn.0 isn.1 ∙ sym (host_is h cpu quota drives was.0 was.1) in
-    ⊎_elim (λ refused. let bad : None ≡ Some fault = sym was.2 ∙ (same ∙ refused.0) in cc)
-    (λ later. never_both all starts (with_opened h was.0) (from + 1) fault place (numbered h was.0 was.2 low) was.3 (subst (λ (x : Host). IsRefusedAmong all x (from + 1) starts fault place) next later.1)) isn.2
+    ⊎_elim (λ refused. let bad : None ≡ Some fault = ap (option_map Unopened) (sym was.2 ∙ same) ∙ refused.0 in cc)
+    (λ later. never_both all starts (with_opened h was.0) (from + 1) fault place (numbered_opened h was.0 was.2 low) was.3 (subst (λ (x : Host). IsRefusedAmong all x (from + 1) starts fault place) next later.1)) isn.2
 never_both all (Forks parent at ∷ starts) h from fault place low was isn = never_both all starts h (from + 1) fault place low was isn
+never_both all (Restores x ∷ starts) h from fault place low was isn =
+    ⊎_elim (λ refused. let bad : None ≡ Some fault = sym was.0 ∙ refused.0 in cc)
+    (λ later. never_both all starts (with_added h x.state) (from + 1) fault place (numbered h x.state.quota (restored_room h x was.0) low) was.1 later.1) isn
 
 -- ---- refusals
 
@@ -131,6 +153,9 @@ module _ {S : Type 0} (acts : StoreActs S) (config : Config) (options : RunOptio
   reading_refused (reading.File name) runnable held same calls unwritten untouched = (runnable, fails (reading.File name) (λ m. cc) held same calls untouched)
   reading_refused (reading.Image name count) runnable held same calls unwritten untouched = (runnable, fails (reading.Image name count) (λ m. cc) held same calls untouched)
   reading_refused (reading.Script name line fault) runnable held same calls unwritten untouched = (runnable, fails (reading.Script name line fault) (λ m. cc) held same calls untouched)
+  reading_refused (reading.Saving refused) runnable held same calls unwritten untouched = (runnable, fails (reading.Saving refused) (λ m. cc) held same calls untouched)
+  reading_refused (reading.SavedDrives session drives names) runnable held same calls unwritten untouched = (runnable, fails (reading.SavedDrives session drives names) (λ m. cc) held same calls untouched)
+  reading_refused (reading.ForkedEarly session at count) runnable held same calls unwritten untouched = (runnable, fails (reading.ForkedEarly session at count) (λ m. cc) held same calls untouched)
   reading_refused reading.OutOfMemory runnable held same calls unwritten untouched = (runnable, inl (record { same = same; calls = unwritten; untouched = untouched }))
 
 -- settling is refused
@@ -144,6 +169,7 @@ settle_refused {S} acts config options io system inputs old new e runnable read 
     by_error : (e : RunError) → IsSettleRefusal config options io system inputs e → IsRunRefusal acts config options io old new e
     by_error (refusal.SessionRefused name fault) r = (runnable, after (refusal.SessionRefused name fault) r)
     by_error (refusal.FramesExceeded name quotas frames) r = (runnable, after (refusal.FramesExceeded name quotas frames) r)
+    by_error (refusal.SavedElsewhere name) r = (runnable, after (refusal.SavedElsewhere name) r)
     by_error (refusal.InputUnreadable reason) r = (runnable, after (refusal.InputUnreadable reason) r)
     by_error (refusal.OutputUnwritable reason) r = (runnable, after (refusal.OutputUnwritable reason) r)
     by_error (refusal.ListUnwritable reason) r = (runnable, after (refusal.ListUnwritable reason) r)
@@ -154,17 +180,17 @@ settle_refused {S} acts config options io system inputs old new e runnable read 
 
 -- playing is refused: only for memory, since all were accepted
 pub play_settled : (config : Config) (options : RunOptions) (io : Streams) (system : Disk) (inputs : List SessionInput) (settled : List SettledSession) (e : RunError)
-    → AreSettledBy config options io system inputs settled → IsSessionsRefusal config (new_host system config.frames) (starts_of settled) e → IsSettleRefusal config options io system inputs e
+    → AreSettledBy config options io system inputs settled → IsSlotRefusal config.sessions.items (new_host system config.frames) (starts_of settled) e → IsSettleRefusal config options io system inputs e
 play_settled config options io system inputs settled e h r =
-    by_error e (subst (λ (bs : List StartInput). IsSessionsRefusal config (new_host system config.frames) bs e)
+    by_error e (subst (λ (bs : List StartInput). IsSlotRefusal config.sessions.items (new_host system config.frames) bs e)
     (settled_starts system options.stops_idle h.typed config.sessions.items [] inputs settled h.keys) r)
   where
-    never : (fault : OpenError) (shown : List ℕ) → IsRefusedByName config.sessions.items (new_host system config.frames) (starts_read inputs) fault shown → ⊥
+    never : (fault : StartFault) (shown : List ℕ) → IsRefusedByName config.sessions.items (new_host system config.frames) (starts_read inputs) fault shown → ⊥
     never fault shown isn = never_both (starts_read inputs) (starts_read inputs) (new_host system config.frames) 0 fault isn.place (omega arith) h.accepted isn.first
 
-    by_error : (e : RunError) → IsSessionsRefusal config (new_host system config.frames) (starts_read inputs) e → IsSettleRefusal config options io system inputs e
-    by_error (refusal.SessionRefused name fault) r = absurd (never fault name.bytes r.1)
-    by_error (refusal.FramesExceeded name quotas frames) r = absurd (never opening.NoFrames name.bytes r.2)
+    by_error : (e : RunError) → IsSlotRefusal config.sessions.items (new_host system config.frames) (starts_read inputs) e → IsSettleRefusal config options io system inputs e
+    by_error (refusal.SessionRefused name fault) r = absurd (never (Unopened fault) name.bytes r)
+    by_error (refusal.SavedElsewhere name) r = absurd (never Elsewhere name.bytes r)
     by_error refusal.OutOfMemory r = inr (inr (record { accepted = h.accepted; typed = h.typed; heard = h.heard }))
     by_error _ r = absurd r
 

@@ -1,5 +1,5 @@
 -- What the scripts of sessions say can be pressed.
-use Rattle.std.proofs.Common.{◌≡◌, ◌∙◌, ◌≤◌, ◌+◌, ℕ, zero, suc, Bool, true, false, List, [], ◌∷◌, ◌++◌, Option, Some, None, map, ap, refl, subst, sym, arith, slice_get, if◌then◌else◌}
+use Rattle.std.proofs.Common.{◌≡◌, ◌∙◌, ◌≤◌, ◌+◌, ◌-◌, ℕ, zero, suc, Bool, true, false, List, [], ◌∷◌, ◌++◌, Option, Some, None, map, ap, refl, subst, sym, arith, slice_get, if◌then◌else◌}
 use Rattle.std.specs.List.{All}
 use Rattle.std.specs.Prelude.{String, Result, IfOk, option_map, pos, int_le, string_bytes}
 use Rattle.std.specs.declared.alloc.Global.{Global}
@@ -8,7 +8,7 @@ use Rattle.std.proofs.lemmas.Bool.Decides.{nat_tests}
 use Rattle.std.proofs.lemmas.List.{map-append}
 use Rattle.std.proofs.lemmas.List.Elements.{All-cons, All-nil}
 use Rattle.std.proofs.lemmas.Option.{slice_get-map}
-use Rattle.cpm_batch.specs.Inputs.{AllInputs, HasForkedSaid, HasInputOf, HasSaid, IsForkedInput, IsOpened, IsOpenedInput, SessionInput, StartInput, known_of}
+use Rattle.cpm_batch.specs.Inputs.{AllInputs, HasForkedSaid, HasInputOf, HasSaid, IsForkedInput, IsOpened, IsOpenedInput, IsRestoredInput, SessionInput, StartInput, known_of, saved_count}
 use Rattle.cpm_batch.specs.Sources.{IsRecordingOf, NoSource, RecordingFile, ScriptFile, SourceOfKeys, key_source}
 use Rattle.cpm_batch.specs.declared.source.Replay.{Replay}
 use Rattle.cpm_batch.proofs.KnownLemmas.{few_of}
@@ -108,21 +108,34 @@ opened_fit files replays starts cpu quota names i h =
       ascii = order.ascii;
       presses = order.presses;
       from_fork = subst (λ (b : StartInput). CountsRise (forked_at b) i.said) (sym h.start) order.counts;
-      within = subst (λ (b : StartInput). forked_at b ≤ i.session.steps) (sym h.start) (omega arith);
+      within = subst (λ (b : StartInput). forked_at b ≤ i.steps) (sym h.start) (omega arith);
+      parent = subst (HasParent starts) (sym h.start) tt;
+    }
+
+restored_fit : (files : Option StoreFiles) (replays : List Replay) (starts : List StartInput) (name : StoreName) (i : SessionInput) → IsRestoredInput files replays name i → IsFitInput None starts i
+restored_fit files replays starts name i h =
+    let order = opened_order files (key_source replays i.session) i.said h.said in
+    record {
+      ascii = order.ascii;
+      presses = order.presses;
+      from_fork = subst (λ (b : StartInput). CountsRise (forked_at b) i.said) (sym h.start) order.counts;
+      within = subst (λ (b : StartInput). forked_at b ≤ i.steps) (sym h.start) (omega arith);
       parent = subst (HasParent starts) (sym h.start) tt;
     }
 
 fork_fit : (files : Option StoreFiles) (replays : List Replay) (before : List SessionInput) (name : StoreName) (at : ℕ) (i : SessionInput) → AreKnown replays before → IsForkedInput files replays before name at i
     → at ≤ i.session.steps → IsFitInput None (starts_read before) i
 fork_fit files replays before name at i known h within =
-    let few = known h.place h.parent h.found.there at in
-    let said = forked_order files (key_source replays i.session) at (known_of replays at h.parent) i.said few h.said in
+    let own = at - saved_count h.parent.start in
+    let few = known h.place h.parent h.found.there own in
+    let said = forked_order files (key_source replays i.session) own (known_of replays own h.parent) i.said few h.said in
+    let steps = h.steps in
     let there : slice_get (starts_read before) h.place ≡ Some h.parent.start = slice_get-map (λ (x : SessionInput). x.start) before h.place ∙ ap (option_map (λ (x : SessionInput). x.start)) h.found.there in
     record {
       ascii = said.ascii;
       presses = said.presses;
       from_fork = subst (λ (b : StartInput). CountsRise (forked_at b) i.said) (sym h.start) said.counts;
-      within = subst (λ (b : StartInput). forked_at b ≤ i.session.steps) (sym h.start) within;
+      within = subst (λ (b : StartInput). forked_at b ≤ i.steps) (sym h.start) (omega (arith, steps, within));
       parent = subst (HasParent (starts_read before)) (sym h.start) (h.parent.start, there, h.found.opened);
     }
 
@@ -131,6 +144,7 @@ input_fit : (files : Option StoreFiles) (replays : List Replay) (before : List S
 input_fit files replays before (origin.Opened cpu quota drives) i known h none = opened_fit files replays (starts_read before) cpu quota drives.items i h
 input_fit files replays before (origin.Forked parent at) i known h none =
     fork_fit files replays before (string_bytes parent) at i known h (at_within (parent_in (map (λ x. session_view x.session) before) (string_bytes parent)) i.session.steps at none)
+input_fit files replays before (origin.Restored saving) i known h none = restored_fit files replays (starts_read before) (string_bytes saving) i h
 
 seen_sessions : (is : List SessionInput) → map (λ x. session_view x.session) is ≡ map session_view (map (λ i. i.session) is)
 seen_sessions [] = refl
@@ -158,6 +172,7 @@ inputs_fit replays files sessions is same h none =
 begins : (files : Option StoreFiles) (replays : List Replay) (before : List SessionInput) (o : Origin) (i : SessionInput) → HasInputOf files replays before o i → is_opened (origin_view o) ≡ true → IsOpened i.start
 begins files replays before (origin.Opened cpu quota drives) i h opened = subst IsOpened (sym h.start) tt
 begins files replays before (origin.Forked parent at) i h opened = absurd (cc)
+begins files replays before (origin.Restored saving) i h opened = subst IsOpened (sym h.start) tt
 
 begin_from : (files : Option StoreFiles) (replays : List Replay) (before is : List SessionInput) → AllInputs files replays before is → All BeginsAsConfigured is
 begin_from files replays before [] h = All-nil BeginsAsConfigured

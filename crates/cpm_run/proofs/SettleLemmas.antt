@@ -8,7 +8,7 @@ use Rattle.std.proofs.Math.Nat.{le-max_left, le-max_right}
 use Rattle.std.proofs.lemmas.List.{length-append, length-map, map-append, map_push}
 use Rattle.std.proofs.lemmas.List.Elements.{All-append, All-cons, All-drop, All-filter, All-nil}
 use Rattle.std.proofs.lemmas.Option.{get_or_from_slice_get, slice_get-map, slice_get_within}
-use Rattle.cpm_batch.specs.Inputs.{Forks, IsOpened, Opens, SessionInput, StartInput, given, timed_keys}
+use Rattle.cpm_batch.specs.Inputs.{Forks, IsOpened, Opens, Restores, SessionInput, StartInput, given, timed_keys}
 use Rattle.cpm_batch.specs.declared.input.Input.{Input}
 use Rattle.cpm_config.specs.declared.config.SessionConfig.{SessionConfig}
 use Rattle.cpm_geom.specs.Disk.{Disk}
@@ -17,7 +17,7 @@ use Rattle.cpm_machine.specs.Serve.{look_of}
 use Rattle.cpm_machine.specs.Step.{is_running}
 use Rattle.cpm_play.specs.Cued.{HasEndedCued, IsCued, IsCuedFrom, key_count, waits_at}
 use Rattle.cpm_play.specs.Live.{AreGiven}
-use Rattle.cpm_play.specs.Playing.{EndsAs, HaveRoom, IsFresh, IsInOrder, alone_by}
+use Rattle.cpm_play.specs.Playing.{EndsAs, HaveRoom, IsInOrder, alone_by}
 use Rattle.cpm_script.specs.Cues.{Awaited, Counted, CueText, Pressed, cue_text, cued_key_count}
 use Rattle.cpm_script.specs.Fork.{keys_before}
 use Rattle.cpm_script.specs.Laws.{CountsRise, KeysAreAscii, PressesFollow}
@@ -154,9 +154,9 @@ counted_order : (n : ℕ) (keys : List Key) → CountsRise n (map Counted keys) 
 counted_order n [] rise = tt
 counted_order n (k ∷ ks) rise = (rise.0, counted_order k.count ks rise.1)
 
-pub written_sound : (system : Disk) (p : SessionPart) (own keys : List Key) → IsFresh p.opening → IsFitPart system p → timed_keys p.said ≡ Some own → keys ≡ p.before ++ own
-    → length p.before + length own ≤ most_keys → AreCounts own → AreSoundKeys system p keys p.limit
-written_sound system p own keys fresh fit timed joined few counts =
+pub written_sound : (system : Disk) (p : SessionPart) (own keys : List Key) → IsFitPart system p → timed_keys p.said ≡ Some own → keys ≡ p.before ++ own
+    → length p.opening.session.console.keys + length p.before + length own ≤ most_keys → AreCounts own → AreSoundKeys system p keys p.limit
+written_sound system p own keys fit timed joined few counts =
     let said = timed_said p.said own timed in
     record {
       own = own;
@@ -164,19 +164,19 @@ written_sound system p own keys fresh fit timed joined few counts =
       order = counted_order p.at own (subst (λ (cs : List CueText). CountsRise p.at cs) said fit.counts);
       ascii = below_counted own (subst KeysAreAscii said fit.ascii);
       counts = counts;
-      room = few_joined system p.opening p.before own keys fresh joined few;
+      room = few_joined system p.opening p.before own keys joined few;
       within = fit.within;
     }
 
-pub written_part : (system : Disk) (p : SessionPart) (cues now : List Cue) (read : Option (Vec Key Global)) (own : Vec Key Global) (first last keys : List Key) → IsFresh p.opening → IsFitPart system p → now ≡ cues
+pub written_part : (system : Disk) (p : SessionPart) (cues now : List Cue) (read : Option (Vec Key Global)) (own : Vec Key Global) (first last keys : List Key) → IsFitPart system p → now ≡ cues
     → option_map (λ (v : Vec Key Global). v.items) read ≡ timed_keys (map cue_text now) → read ≡ Some own → first ≡ p.before → last ≡ own.items → keys ≡ first ++ last → p.said ≡ map cue_text cues
-    → length first + length last ≤ most_keys → IfSome read (λ (v : Vec Key Global). AreCounts v.items) → AreSoundKeys system p keys p.limit
-written_part system p cues now read own first last keys fresh fit same timed some before are joined said few counts =
+    → length p.opening.session.console.keys + length first + length last ≤ most_keys → IfSome read (λ (v : Vec Key Global). AreCounts v.items) → AreSoundKeys system p keys p.limit
+written_part system p cues now read own first last keys fit same timed some before are joined said few counts =
     let a = ap (λ (ks : List Key). length ks) before in
     let b = ap (λ (ks : List Key). length ks) are in
     let is : timed_keys p.said ≡ Some own.items =
     ap timed_keys said ∙ ap (λ (cs : List Cue). timed_keys (map cue_text cs)) (sym same) ∙ sym timed ∙ ap (λ (o : Option (Vec Key Global)). option_map (λ (v : Vec Key Global). v.items) o) some in
-    written_sound system p own.items keys fresh fit is (joined ∙ ap (λ (ks : List Key). ks ++ last) before ∙ ap (λ (ks : List Key). p.before ++ ks) are) (omega (arith, few, a, b))
+    written_sound system p own.items keys fit is (joined ∙ ap (λ (ks : List Key). ks ++ last) before ∙ ap (λ (ks : List Key). p.before ++ ks) are) (omega (arith, few, a, b))
     (subst (λ (o : Option (Vec Key Global)). IfSome o (λ (v : Vec Key Global). AreCounts v.items)) some counts)
 
 -- ---- a session after those before it
@@ -188,6 +188,7 @@ IsSoundIn system ss s = IsPressableBy system ss s.start s × AreBelow80h s.keys 
 opened_keys : (system : Disk) (ss : List SettledSession) (b : StartInput) (s : SettledSession) → IsOpened b → IsPressableBy system ss b s → IsInOrder 0 s.keys × HaveRoom system (opening_of b) s.keys
 opened_keys system ss (Opens cpu quota drives) s opened h = h
 opened_keys system ss (Forks parent at) s opened h = absurd opened
+opened_keys system ss (Restores x) s opened h = h
 
 -- keys from before a session that begins after an opening
 record AreFitBefore (system : Disk) (opening : MachineState) (keys : List Key) : Type 0 where
@@ -216,6 +217,7 @@ fit_before system ss (Forks place at) sound parent =
     let seen = slice_get-map (λ (x : SettledSession). x.start) ss place in
     subst (λ (o : Option StartInput). AreFitBefore system (opening_at o) (keys_before at (keys_if_settled (slice_get ss place)))) (sym seen)
     (fit_if system ss at parent.0 (slice_get ss place) (sym seen ∙ parent.1) parent.2 (sound place))
+fit_before system ss (Restores x) sound parent = none_before system x.state
 
 pub part_fit : (system : Disk) (typed : Option TypedSession) (sessions : List SessionConfig) (ss : List SettledSession) (i : SessionInput) (p : SessionPart) → p ≡ part_of typed sessions ss i
     → AreSound system ss → IsFitInput typed (starts_of ss) i → IsFitPart system p
@@ -226,7 +228,7 @@ part_fit system typed sessions ss i p is sound fit =
     let long : length (starts_of ss) ≡ length ss = length-map ss (λ (s : SettledSession). s.start) in
     let said : said_at typed (length (starts_of ss)) i.said ≡ p.said = ap (λ (n : ℕ). said_at typed n i.said) long ∙ sym (ap (λ (q : SessionPart). q.said) is) in
     let at : forked_at i.start ≡ p.at = sym (ap (λ (q : SessionPart). q.at) is) in
-    let limit : steps_at typed (length (starts_of ss)) i.session.steps ≡ p.limit = ap (λ (n : ℕ). steps_at typed n i.session.steps) long ∙ sym (ap (λ (q : SessionPart). q.limit) is) in
+    let limit : steps_at typed (length (starts_of ss)) i.steps ≡ p.limit = ap (λ (n : ℕ). steps_at typed n i.steps) long ∙ sym (ap (λ (q : SessionPart). q.limit) is) in
     let within = fit.within in
     record {
       before = subst AreBelow80h keys before.below;
@@ -252,6 +254,7 @@ pressable system ss (Opens cpu quota drives) s own parent joined order room with
 pressable system ss (Forks parent at) s own h joined order room within =
     let seen = slice_get-map (λ (x : SettledSession). x.start) ss parent in
     fork_sound system ss parent at h.0 own s (slice_get ss parent) refl (sym seen ∙ h.1) h.2 joined order (subst (λ (o : Option StartInput). HaveRoom system (opening_at o) s.keys) seen room) within
+pressable system ss (Restores x) s own parent joined order room within = (subst (λ (ks : List Key). IsInOrder 0 ks) (sym joined) order, room)
 
 pub session_sound : (system : Disk) (typed : Option TypedSession) (sessions : List SessionConfig) (ss : List SettledSession) (i : SessionInput) (p : SessionPart) (s : SettledSession)
     → p ≡ part_of typed sessions ss i → AreSound system ss → HasParent (starts_of ss) i.start → s.start ≡ i.start → s.before ≡ length p.before → AreSoundKeys system p s.keys s.steps → IsSoundAfter system ss s
@@ -312,6 +315,7 @@ still_pressable system ss s (Forks parent at) x h = record {
   room = h.room;
   within = h.within;
 }
+still_pressable system ss s (Restores y) x h = h
 
 still_sound : (system : Disk) (ss : List SettledSession) (s : SettledSession) (o : Option SettledSession) → IfSome o (IsSoundIn system ss) → IfSome o (IsSoundIn system (ss ++ s ∷ []))
 still_sound system ss s None h = tt
@@ -401,6 +405,7 @@ openable_there starts (Forks parent at) all own h =
     let good : IsOpened h.0 → IsOpenable h.0 =
     subst (λ (b : StartInput). IsOpened b → IsOpenable b) at_place (all parent h.0 (slice_get_within starts parent h.0 h.1)) in
     subst (λ (o : Option StartInput). IfSome o IsOpenable) (sym h.1) (good h.2)
+openable_there starts (Restores x) all own h = own tt
 
 pub next_openable : (system : Disk) (stops_idle : Bool) (typed : Option TypedSession) (sessions : List SessionConfig) (all rest : List SessionInput) (i : SessionInput) (settled : List SettledSession)
     → IsSettledTo system stops_idle typed sessions all (i ∷ rest) settled → AreOpenable (starts_read all) → IfSome (opened_by (starts_of settled) i.start) IsOpenable

@@ -5,7 +5,7 @@ use Rattle.std.specs.List.{All}
 use Rattle.std.proofs.lemmas.Bool.Decides.{nat_tests}
 use Rattle.std.proofs.lemmas.List.{at_drop_all, drop_more, length-append, map_more}
 use Rattle.std.proofs.lemmas.List.Elements.{All-cons, All-nil, All-push, All-same}
-use Rattle.cpm_batch.specs.Inputs.{Forks, IsOpened, Opens, SessionInput, StartInput, given, timed_keys}
+use Rattle.cpm_batch.specs.Inputs.{Forks, IsOpened, Opens, Restores, SessionInput, StartInput, given, timed_keys}
 use Rattle.cpm_batch.specs.declared.input.Input.{Input}
 use Rattle.cpm_config.specs.declared.config.Config.{Config}
 use Rattle.cpm_config.specs.declared.config.SessionConfig.{SessionConfig}
@@ -21,7 +21,7 @@ use Rattle.cpm_script.specs.Recording.{AreTyped}
 use Rattle.cpm_script.specs.declared.cue.Cue.{Cue}
 use Rattle.cpm_script.specs.declared.cue.Cue.TheVariants as cue
 use Rattle.cpm_script.specs.declared.script.Key.{Key}
-use Rattle.cpm_slots.specs.Host.{Host, new_host, room_fault, with_opened}
+use Rattle.cpm_slots.specs.Host.{Host, new_host, room_fault, with_added, with_opened}
 use Rattle.cpm_play.specs.Typist.{TypingState}
 use Rattle.cpm_play.specs.declared.live.TypedPlay.{TypedPlay}
 use Rattle.cpm_run.specs.Openings.{IsJudgedSo}
@@ -59,6 +59,7 @@ accepted_openable all h [] r = All-nil OpensIf
 accepted_openable all h (Opens cpu quota drives ∷ bs) r =
     All-cons OpensIf (Opens cpu quota drives) bs (one_openable cpu quota drives r.0 r.1 (none_of (opening_fault r.0) (room_fault h r.0.quota) r.2)) (accepted_openable all (with_opened h r.0) bs r.3)
 accepted_openable all h (Forks parent at ∷ bs) r = All-cons OpensIf (Forks parent at) bs (λ opened. absurd opened) (accepted_openable all h bs r)
+accepted_openable all h (Restores x ∷ bs) r = All-cons OpensIf (Restores x) bs (λ opened o of. absurd of) (accepted_openable all (with_added h x.state) bs r.1)
 
 -- ---- sessions that are fit
 
@@ -83,6 +84,7 @@ typed_presses (k ∷ ks) = typed_presses ks
 at_zero : (b : StartInput) → IsOpened b → forked_at b ≡ 0
 at_zero (Opens cpu quota drives) opened = refl
 at_zero (Forks parent at) opened = absurd opened
+at_zero (Restores x) opened = refl
 
 fit_one : (t : TypedSession) (starts : List StartInput) (i : SessionInput) → AreTyped 0 t.keys → (length starts ≡ t.place → IsOpened i.start) → IsFitInput None starts i
     → IsFitInput (Some t) starts i
@@ -97,14 +99,14 @@ fit_one t starts i keys opened fit = by_test (length starts == t.place) refl
           presses = subst (λ (b : Bool). PressesFollow false (if b then map Counted t.keys else i.said)) (sym e) (typed_presses t.keys);
           from_fork = subst (λ (b : Bool). CountsRise (forked_at i.start) (if b then map Counted t.keys else i.said)) (sym e)
               (subst (λ (n : ℕ). CountsRise n (map Counted t.keys)) (sym zero) (typed_counts 0 t.keys keys));
-          within = subst (λ (b : Bool). forked_at i.start ≤ (if b then t.steps else i.session.steps)) (sym e) (omega (arith, zero));
+          within = subst (λ (b : Bool). forked_at i.start ≤ (if b then t.steps else i.steps)) (sym e) (omega (arith, zero));
           parent = fit.parent;
         }
     by_test false e = record {
       ascii = subst (λ (b : Bool). KeysAreAscii (if b then map Counted t.keys else i.said)) (sym e) fit.ascii;
       presses = subst (λ (b : Bool). PressesFollow false (if b then map Counted t.keys else i.said)) (sym e) fit.presses;
       from_fork = subst (λ (b : Bool). CountsRise (forked_at i.start) (if b then map Counted t.keys else i.said)) (sym e) fit.from_fork;
-      within = subst (λ (b : Bool). forked_at i.start ≤ (if b then t.steps else i.session.steps)) (sym e) fit.within;
+      within = subst (λ (b : Bool). forked_at i.start ≤ (if b then t.steps else i.steps)) (sym e) fit.within;
       parent = fit.parent;
     }
 
@@ -139,6 +141,7 @@ pub sessions_refused : (config : Config) (options : RunOptions) (io : Streams) (
     → IsJudgedSo config (new_host system config.frames) (starts_read inputs) e → IsSettleRefusal config options io system inputs e
 sessions_refused config options io system inputs (refusal.SessionRefused name fault) untouched r = (r.0, r.1, untouched)
 sessions_refused config options io system inputs (refusal.FramesExceeded name quotas frames) untouched r = (r.0, r.1, r.2, untouched)
+sessions_refused config options io system inputs (refusal.SavedElsewhere name) untouched r = (r, untouched)
 sessions_refused config options io system inputs _ untouched r = absurd r
 
 pub settle_refused : (config : Config) (options : RunOptions) (io : Streams) (system : Disk) (inputs : List SessionInput) (typed : Option TypedSession) (e : RunError)

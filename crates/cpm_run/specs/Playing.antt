@@ -1,6 +1,8 @@
 -- Sessions of a configuration in the slots of a host. All of it is own.
-use Rattle.std.specs.Prelude.{⊤, ◌≡◌, ◌≢◌, ◌+◌, ℕ, List, [], ◌∷◌, ◌++◌, ◌≤◌, length, map, slice_get, Option, Some, None, IfSome, string_bytes}
-use Rattle.cpm_batch.specs.Inputs.{Forks, IsOpened, Opens, StartInput}
+use Rattle.std.specs.Prelude.{⊤, ◌≡◌, ◌≢◌, ◌+◌, ℕ, Bool, List, [], ◌∷◌, ◌++◌, ◌≤◌, length, map, slice_get, Option, Some, None, IfSome, Vec}
+use Rattle.std.specs.Prelude.{if◌then◌else◌, option_map, string_bytes}
+use Rattle.std.specs.declared.alloc.Global.{Global}
+use Rattle.cpm_batch.specs.Inputs.{Forks, IsOpened, Opens, Restores, StartInput}
 use Rattle.cpm_batch.specs.Outputs.{SessionOutput, left_by}
 use Rattle.cpm_batch.specs.declared.output.SessionFiles.{SessionFiles}
 use Rattle.cpm_config.specs.declared.config.Config.{Config}
@@ -9,11 +11,11 @@ use Rattle.cpm_drives.specs.Disks.{images_of}
 use Rattle.cpm_geom.specs.Disk.{Disk}
 use Rattle.cpm_script.specs.Fork.{keys_before}
 use Rattle.cpm_script.specs.declared.script.Key.{Key}
-use Rattle.cpm_slots.specs.Host.{Host, SlotState, refusal_of, slot_at, with_opened}
+use Rattle.cpm_slots.specs.Host.{Host, SlotState, refusal_of, slot_at, with_added, with_opened}
 use Rattle.cpm_machine.specs.MachineState.{MachineState, opened_machine}
+use Rattle.cpm_machine.specs.Saving.{Saving}
 use Rattle.cpm_machine.specs.declared.opening.Opening.{Opening}
 use Rattle.cpm_machine.specs.declared.opening.OpenError.{OpenError}
-use Rattle.cpm_machine.specs.declared.opening.OpenError.TheVariants.{NoFrames}
 use Rattle.cpm_play.specs.Players.{fork_pages, forks_of}
 use Rattle.cpm_play.specs.Playing.{HaveRoom, IsInOrder, IsPlayed}
 use Rattle.cpm_play.specs.ScriptedSlots.{IsNew, script_keys, steps_of}
@@ -22,25 +24,37 @@ use Rattle.cpm_play.specs.declared.player.Player.{Player}
 use Rattle.cpm_play.specs.declared.player.Player.TheVariants.{Playing, Waiting}
 use Rattle.cpm_play.specs.declared.scripted_slot.ScriptedSlot.{ScriptedSlot}
 use Rattle.cpm_run.specs.Run.{IsForkAt, IsOpening, IsRefusedOr, IsShortFor, IsShownAs, ReportEntry, files_left, fork_pages_in, forks_in, name_at}
-use Rattle.cpm_run.specs.Run.{pages_of_config, report_view, reports_of, start_of}
+use Rattle.cpm_run.specs.Run.{report_view, reports_of, restoring_fault, saving_over, start_of}
 use Rattle.cpm_store.specs.Files.{StoreName}
 use Rattle.cpm_run.specs.Ending.{ending_of}
-use Rattle.cpm_run.specs.declared.ending.Ending.{Ending}
+use Rattle.cpm_run.specs.declared.finish.EndedSlot.{EndedSlot}
 use Rattle.cpm_run.specs.declared.report.SessionReport.{SessionReport}
 use Rattle.cpm_run.specs.declared.error.RunError.{RunError}
 use Rattle.cpm_run.specs.declared.error.RunError.TheVariants as refusal
+use Rattle.cpm_run.specs.declared.error.StartFault.{StartFault}
+use Rattle.cpm_run.specs.declared.error.StartFault.TheVariants.{Elsewhere, Unopened}
 use Rattle.cpm_run.specs.Settled.{SettledSession, opening_of}
 
 -- ---- before they are played
 
--- a slot was opened so, and the scripted slot is to play it by these keys for so many steps
-pub record OpensSlot (opening : Opening) (all : List Key) (count : ℕ) (old new : Host) (p : ScriptedSlot) : Type 0 where
-  pub accepted : refusal_of old opening ≡ None
-  pub host : new ≡ with_opened old opening
+-- the scripted slot is to play the slot that comes next by these keys for so many steps
+pub record PlaysNext (all : List Key) (count : ℕ) (old : Host) (p : ScriptedSlot) : Type 0 where
   pub id : p.id.0 ≡ old.openings
   pub keys : script_keys p ≡ all
   pub steps : steps_of p ≡ count
   pub unplayed : IsNew p
+
+-- a slot was opened so, and the scripted slot is to play it
+pub record OpensSlot (opening : Opening) (all : List Key) (count : ℕ) (old new : Host) (p : ScriptedSlot) : Type 0 where
+  pub accepted : refusal_of old opening ≡ None
+  pub host : new ≡ with_opened old opening
+  pub next : PlaysNext all count old p
+
+-- a slot goes on from a saving, and the scripted slot is to play it
+pub record RestoresSlot (x : Saving) (all : List Key) (count : ℕ) (old new : Host) (p : ScriptedSlot) : Type 0 where
+  pub accepted : restoring_fault old x ≡ None
+  pub host : new ≡ with_added old x.state
+  pub next : PlaysNext all count old p
 
 -- what is to be forked for a session
 pub record IsForkFor (i : SettledSession) (place count : ℕ) (fork : Fork) : Type 0 where
@@ -53,12 +67,13 @@ pub record IsForkFor (i : SettledSession) (place count : ℕ) (fork : Fork) : Ty
 abbrev pub IsPreparedBy : StartInput → SettledSession → Host → Host → Player → Type 0
 IsPreparedBy (Opens cpu quota drives) i old new (Playing slot) = (o : Opening) × IsOpening cpu quota drives o × OpensSlot o i.keys i.steps old new slot
 IsPreparedBy (Forks parent at) i old new (Waiting fork) = IsForkFor i parent at fork × (new ≡ old)
+IsPreparedBy (Restores x) i old new (Playing slot) = RestoresSlot x i.keys i.steps old new slot
 IsPreparedBy _ i old new _ = ⊥
 
 abbrev pub IsPrepared : SettledSession → Host → Host → Player → Type 0
 IsPrepared i old new p = IsPreparedBy i.start i old new p
 
--- the scripted slot is to play a session, whose slot is at its opening
+-- the scripted slot is to play a session, whose slot is in the state with which it begins
 pub record HasSlot (slots : List SlotState) (start : MachineState) (i : SettledSession) (p : ScriptedSlot) : Type 0 where
   pub slot : slot_at p.id.0 slots ≡ Some start
   pub keys : script_keys p ≡ i.keys
@@ -69,6 +84,7 @@ pub record HasSlot (slots : List SlotState) (start : MachineState) (i : SettledS
 abbrev pub HasPlayerBy : List SlotState → StartInput → SettledSession → Player → Type 0
 HasPlayerBy slots (Opens cpu quota drives) i (Playing slot) = HasSlot slots (opened_machine cpu quota drives) i slot
 HasPlayerBy slots (Forks parent at) i (Waiting fork) = IsForkFor i parent at fork
+HasPlayerBy slots (Restores x) i (Playing slot) = HasSlot slots x.state i slot
 HasPlayerBy slots _ i _ = ⊥
 
 abbrev pub HasPlayer : List SlotState → SettledSession → Player → Type 0
@@ -81,7 +97,7 @@ HavePlayers slots (i ∷ is) (p ∷ ps) = HasPlayer slots i p × HavePlayers slo
 HavePlayers slots [] (p ∷ ps) = ⊥
 HavePlayers slots (i ∷ is) [] = ⊥
 
--- the keys of a forked session can be pressed: they are those of an opened session before the fork and then others in order,
+-- the keys of a forked session can be pressed: they are those of a session that isn't before the fork and then others in order,
 -- the machine takes each where it comes, and it has the steps up to the fork
 pub record IsForkPressable (system : Disk) (inputs : List SettledSession) (i : SettledSession) (parent at : ℕ) : Type 0 where
   pub other : SettledSession
@@ -93,10 +109,11 @@ pub record IsForkPressable (system : Disk) (inputs : List SettledSession) (i : S
   pub room : HaveRoom system (opening_of other.start) i.keys
   pub within : at ≤ i.steps
 
--- those of an opened one: their counts don't fall, and the machine takes each where it comes
+-- those of one that isn't: their counts don't fall, and the machine takes each where it comes
 abbrev pub IsPressableBy : Disk → List SettledSession → StartInput → SettledSession → Type 0
 IsPressableBy system inputs (Opens cpu quota drives) i = IsInOrder 0 i.keys × HaveRoom system (opened_machine cpu quota drives) i.keys
 IsPressableBy system inputs (Forks parent at) i = IsForkPressable system inputs i parent at
+IsPressableBy system inputs (Restores x) i = IsInOrder 0 i.keys × HaveRoom system x.state i.keys
 
 -- those of each session
 abbrev pub ArePressable : Disk → List SettledSession → Type 0
@@ -104,14 +121,19 @@ ArePressable system inputs = (place : ℕ) → IfSome (slice_get inputs place) (
 
 -- ---- refusals
 
--- Of those that are opened one after another, the first of which stands at `from`, the first whose opening is refused is refused for this reason, and it
--- stands at the place. Or all are accepted, the forks lack it, and one of those that are forked stands there: which, depends on turns.
-abbrev pub IsRefusedAmong : (all : List StartInput) → Host → (from : ℕ) → List StartInput → OpenError → (place : ℕ) → Type 0
-IsRefusedAmong all h from [] fault place = IsForkAt all place × IsShortFor h (forks_in all) (fork_pages_in all) fault
+-- the forks lack this, and one of those that are forked stands there
+abbrev pub AreUnforked : List StartInput → Host → StartFault → (place : ℕ) → Type 0
+AreUnforked all h (Unopened fault) place = IsForkAt all place × IsShortFor h (forks_in all) (fork_pages_in all) fault
+AreUnforked all h Elsewhere place = ⊥
+
+-- Of those that aren't forked one after another, the first of which stands at `from`, the first that is refused is refused for this reason, and it stands at
+-- the place. Or all are accepted, the forks lack it, and one of those that are forked stands there: which, depends on turns.
+abbrev pub IsRefusedAmong : (all : List StartInput) → Host → (from : ℕ) → List StartInput → StartFault → (place : ℕ) → Type 0
+IsRefusedAmong all h from [] fault place = AreUnforked all h fault place
 IsRefusedAmong all h from (b ∷ bs) fault place = IsRefusedOr h b fault (place ≡ from) (λ next. IsRefusedAmong all next (from + 1) bs fault place)
 
 -- so it is with one of the sessions that begin so, and that one's name is shown
-pub record IsRefusedByName (sessions : List SessionConfig) (h : Host) (starts : List StartInput) (fault : OpenError) (shown : List ℕ) : Type 0 where
+pub record IsRefusedByName (sessions : List SessionConfig) (h : Host) (starts : List StartInput) (fault : StartFault) (shown : List ℕ) : Type 0 where
   pub place : ℕ
   pub first : IsRefusedAmong starts h 0 starts fault place
   pub told : IsShownAs (name_at sessions place) shown
@@ -122,14 +144,23 @@ IsOpeningRefusal h o name (refusal.SessionRefused shown fault) = (refusal_of h o
 IsOpeningRefusal h o name refusal.OutOfMemory = ⊤
 IsOpeningRefusal h o name _ = ⊥
 
+-- how a saving is refused that the session of this name goes on from
+abbrev pub IsRestoringRefusal : Host → Saving → StoreName → RunError → Type 0
+IsRestoringRefusal h x name (refusal.SessionRefused shown fault) = (restoring_fault h x ≡ Some (Unopened fault)) × IsShownAs name shown.bytes
+IsRestoringRefusal h x name (refusal.SavedElsewhere shown) = (restoring_fault h x ≡ Some Elsewhere) × IsShownAs name shown.bytes
+IsRestoringRefusal h x name refusal.OutOfMemory = ⊤
+IsRestoringRefusal h x name _ = ⊥
+
 -- how a session of this name that begins so is refused
 abbrev pub IsStartRefusal : Host → StartInput → StoreName → RunError → Type 0
 IsStartRefusal h (Opens cpu quota drives) name e = (o : Opening) × IsOpening cpu quota drives o × IsOpeningRefusal h o name e
 IsStartRefusal h (Forks parent at) name e = ⊥
+IsStartRefusal h (Restores x) name e = IsRestoringRefusal h x name e
 
 -- how opening sessions one after another is refused
 abbrev pub IsSlotRefusal : List SessionConfig → Host → List StartInput → RunError → Type 0
-IsSlotRefusal sessions h starts (refusal.SessionRefused name fault) = IsRefusedByName sessions h starts fault name.bytes
+IsSlotRefusal sessions h starts (refusal.SessionRefused name fault) = IsRefusedByName sessions h starts (Unopened fault) name.bytes
+IsSlotRefusal sessions h starts (refusal.SavedElsewhere name) = IsRefusedByName sessions h starts Elsewhere name.bytes
 IsSlotRefusal sessions h starts refusal.OutOfMemory = ⊤
 IsSlotRefusal sessions h starts _ = ⊥
 
@@ -142,22 +173,10 @@ pub record IsForkRefused (sessions : List SessionConfig) (h : Host) (players : L
   pub told : IsShownAs (name_at sessions place) shown
 
 -- how forks are refused in a host
-abbrev pub IsForksRefusal : Config → Host → List Player → RunError → Type 0
-IsForksRefusal config h players (refusal.SessionRefused name fault) =
-    (fault ≢ NoFrames) × IsForkRefused config.sessions.items h players fault name.bytes
-IsForksRefusal config h players (refusal.FramesExceeded name quotas frames) =
-    (quotas ≡ pages_of_config config) × (frames ≡ config.frames) × IsForkRefused config.sessions.items h players NoFrames name.bytes
-IsForksRefusal config h players refusal.OutOfMemory = ⊤
-IsForksRefusal config h players _ = ⊥
-
--- how playing all sessions of a configuration is refused
-abbrev pub IsSessionsRefusal : Config → Host → List StartInput → RunError → Type 0
-IsSessionsRefusal config h starts (refusal.SessionRefused name fault) =
-    (fault ≢ NoFrames) × IsRefusedByName config.sessions.items h starts fault name.bytes
-IsSessionsRefusal config h starts (refusal.FramesExceeded name quotas frames) =
-    (quotas ≡ pages_of_config config) × (frames ≡ config.frames) × IsRefusedByName config.sessions.items h starts NoFrames name.bytes
-IsSessionsRefusal config h starts refusal.OutOfMemory = ⊤
-IsSessionsRefusal config h starts _ = ⊥
+abbrev pub IsForksRefusal : List SessionConfig → Host → List Player → RunError → Type 0
+IsForksRefusal sessions h players (refusal.SessionRefused name fault) = IsForkRefused sessions h players fault name.bytes
+IsForksRefusal sessions h players refusal.OutOfMemory = ⊤
+IsForksRefusal sessions h players _ = ⊥
 
 -- ---- once they were played
 
@@ -176,22 +195,41 @@ AllEnded system inputs slots (i ∷ is) (p ∷ ps) = HasEnded system inputs slot
 AllEnded system inputs slots [] (p ∷ ps) = ⊥
 AllEnded system inputs slots (i ∷ is) [] = ⊥
 
--- the first of the scripted slots, with how its slot ended, which was closed, and the drives that it left
-pub record IsClosed (p : ScriptedSlot) (ps : List Player) (s : MachineState) (old new : Host)
-    (r : Option (ScriptedSlot × Ending × List (Option Disk))) (rest : List Player) : Type 0 where
-  pub result : r ≡ Some (p, ending_of s, images_of s.session.disks)
-  pub left : rest ≡ ps
+-- the bytes of the saving of a state with this system drive, if it is saved
+abbrev pub saving_if : (is_saved : Bool) → Disk → MachineState → Option (List ℕ)
+saving_if is_saved system s = if is_saved then Some (saving_over system s) else None
+
+-- the bytes of a saving, where there is one
+abbrev pub saved_bytes : Option (Vec ℕ Global) → Option (List ℕ)
+saved_bytes saved = option_map (λ v. v.items) saved
+
+-- what is left of the first of the scripted slots, whose slot was closed: how that ended, its drives, and its saving, if it is saved
+pub record IsClosed (p : ScriptedSlot) (ps : List Player) (s : MachineState) (is_saved : Bool) (old new : Host) (r : Option EndedSlot) (rest : List Player)
+    : Type 0 where
+  pub left : EndedSlot
+  pub result : r ≡ Some left
+  pub slot : left.slot ≡ p
+  pub ending : left.ending ≡ ending_of s
+  pub drives : left.drives ≡ images_of s.session.disks
+  pub saved : saved_bytes left.saved ≡ saving_if is_saved old.system s
+  pub others_play : rest ≡ ps
   pub others : (id : ℕ) → id ≢ p.id.0 → slot_at id new.slots ≡ slot_at id old.slots
 
 -- what is reported of a session, by what is left of it
-abbrev pub report_by : SessionConfig → ScriptedSlot → Ending → ReportEntry
-report_by session p ending = record { name = string_bytes session.name; ending = ending; bytes = length p.console.items }
+abbrev pub report_by : SessionConfig → EndedSlot → ReportEntry
+report_by session left = record { name = string_bytes session.name; ending = left.ending; bytes = length left.slot.console.items }
 
-abbrev pub files_by : SessionConfig → ScriptedSlot → List (Option Disk) → SessionOutput
-files_by session p drives = record { session = session; console = p.console.items; list = p.list.items; drives = drives }
+abbrev pub files_by : SessionConfig → EndedSlot → SessionOutput
+files_by session left = record {
+  session = session;
+  console = left.slot.console.items;
+  list = left.slot.list.items;
+  drives = left.drives;
+  saved = saved_bytes left.saved;
+}
 
--- each session that ended so is reported, and leaves its files
-abbrev pub AreFinished : List SessionConfig → List SlotState → List Player → List SessionReport → List SessionFiles → Type 0
-AreFinished sessions slots players reports files = (system : Disk) (is : List SettledSession)
-    → map (λ i. i.session) is ≡ sessions → AllEnded system is slots is players
-    → (map report_view reports ≡ reports_of system is) × (map left_by files ≡ files_left system is)
+-- each session that ended so in this host is reported, and leaves its files
+abbrev pub AreFinished : List SessionConfig → Host → List Player → List SessionReport → List SessionFiles → Type 0
+AreFinished sessions h players reports files = (is : List SettledSession)
+    → map (λ i. i.session) is ≡ sessions → AllEnded h.system is h.slots is players
+    → (map report_view reports ≡ reports_of h.system is) × (map left_by files ≡ files_left h.system is)

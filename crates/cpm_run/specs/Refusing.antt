@@ -25,10 +25,11 @@ use Rattle.cpm_store.specs.Files.{StoreName, WhereTold}
 use Rattle.cpm_store.specs.Log.{AreNoWrites, LogLeadsBy, StopsAfter}
 use Rattle.cpm_store.specs.Writes.{NamedBytes, StopsAt}
 use Rattle.cpm_run.specs.Run.{AllAccepted, AreParts, HasReadInputs, IsNamedRefusal, IsShownAs, RunParts, StoreActs, config_fault, outputs_by}
-use Rattle.cpm_run.specs.Run.{pages_of_config, starts_read}
+use Rattle.cpm_run.specs.Run.{pages_of_starts, starts_read}
 use Rattle.cpm_run.specs.Settled.{AreSettled, AreUntouched, IsTypedIfAny, SessionPart, SettledSession, Streams, TypedSession, most_steps, opening_of, part_of}
 use Rattle.cpm_run.specs.declared.error.RunError.{RunError}
 use Rattle.cpm_run.specs.declared.error.RunError.TheVariants as refusal
+use Rattle.cpm_run.specs.declared.error.StartFault.TheVariants.{Elsewhere, Unopened}
 use Rattle.cpm_run.specs.declared.options.RunOptions.{RunOptions}
 
 -- ---- before sessions are played
@@ -43,6 +44,7 @@ pub record IsNoSession (config : Config) (options : RunOptions) (shown : List �
 abbrev pub IsForkOrigin : Origin → Type 0
 IsForkOrigin (origin.Opened cpu quota drives) = ⊥
 IsForkOrigin (origin.Forked parent at) = ⊤
+IsForkOrigin (origin.Restored saving) = ⊥
 
 -- the one of this name is forked
 pub record IsForkedSession (config : Config) (options : RunOptions) (shown : List ℕ) : Type 0 where
@@ -61,7 +63,7 @@ IsPlaceRefusal config options (refusal.NoSession shown) = IsNoSession config opt
 IsPlaceRefusal config options (refusal.NotOpened shown) = IsForkedSession config options shown.bytes
 IsPlaceRefusal config options _ = ⊥
 
--- the place of the session that is to be typed at, where one is, which is opened
+-- the place of the session that is to be typed at, where one is, which isn't forked
 pub record IsTypedIn (config : Config) (name : List ℕ) (place : ℕ) : Type 0 where
   pub first : place_of name (map session_view config.sessions.items) ≡ Some place
   pub session : SessionConfig
@@ -146,14 +148,17 @@ pub record HasBeenTyped (config : Config) (options : RunOptions) (io : Streams) 
   pub typed : Option TypedSession
   pub heard : IsTypedIfAny system config.sessions.items (option_map (λ n. n.now) options.typed) inputs io typed
 
--- How a run is refused once all was read: for the first session whose opening is refused, or because there is no room for the forks, before a key is read; or
+-- How a run is refused once all was read: for the first session that is refused, or because there is no room for the forks, before a key is read; or
 -- then while one types, or for a session with too many keys; or if out of memory, before a key is read, while one types, or after it.
 abbrev pub IsSettleRefusal : Config → RunOptions → Streams → Disk → List SessionInput → RunError → Type 0
 IsSettleRefusal config options io system inputs (refusal.SessionRefused name fault) =
-    (fault ≢ NoFrames) × IsNamedRefusal config.sessions.items (new_host system config.frames) (starts_read inputs) fault name.bytes × AreUntouched io
+    (fault ≢ NoFrames) × IsNamedRefusal config.sessions.items (new_host system config.frames) (starts_read inputs) (Unopened fault) name.bytes
+    × AreUntouched io
+IsSettleRefusal config options io system inputs (refusal.SavedElsewhere name) =
+    IsNamedRefusal config.sessions.items (new_host system config.frames) (starts_read inputs) Elsewhere name.bytes × AreUntouched io
 IsSettleRefusal config options io system inputs (refusal.FramesExceeded name quotas frames) =
-    (quotas ≡ pages_of_config config) × (frames ≡ config.frames)
-    × IsNamedRefusal config.sessions.items (new_host system config.frames) (starts_read inputs) NoFrames name.bytes × AreUntouched io
+    (quotas ≡ pages_of_starts (starts_read inputs)) × (frames ≡ config.frames)
+    × IsNamedRefusal config.sessions.items (new_host system config.frames) (starts_read inputs) (Unopened NoFrames) name.bytes × AreUntouched io
 IsSettleRefusal config options io system inputs (refusal.InputUnreadable reason) =
     IsTypingCut config options io system inputs (refusal.InputUnreadable reason)
 IsSettleRefusal config options io system inputs (refusal.OutputUnwritable reason) =

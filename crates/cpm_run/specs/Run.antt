@@ -1,15 +1,13 @@
 -- What running the sessions of a configuration writes and reports, and when it is refused. All of it is own.
 use Rattle.std.specs.Prelude.{◌≡◌, ◌≤◌, ◌⊎◌, ◌+◌, ℕ, sum_by, ◌==◌, ◌&&◌, not, nat_le, List, [], ◌∷◌, ◌++◌, length, drop, take}
-use Rattle.std.specs.Prelude.{map, slice_get, Option, Some, None, option_and_then, option_map, string_bytes, chars, Ok, if◌then◌else◌}
+use Rattle.std.specs.Prelude.{map, slice_get, Option, Some, None, option_map, string_bytes, chars, Ok, if◌then◌else◌}
 use Rattle.std.specs.List.{All}
-use Rattle.cpm_batch.specs.Inputs.{AreInputs, Forks, Opens, SessionInput, StartInput}
+use Rattle.cpm_batch.specs.Inputs.{AreInputs, Forks, Opens, Restores, SessionInput, StartInput}
 use Rattle.cpm_batch.specs.Outputs.{SessionOutput, files_of_all}
 use Rattle.cpm_batch.specs.Reads.{AreRead}
 use Rattle.cpm_command_line.specs.Shown.{shown_of}
-use Rattle.cpm_config.specs.Rules.{config_view, fault_or, forks_fault, place_of, session_view}
+use Rattle.cpm_config.specs.Rules.{config_view, fault_or, forks_fault}
 use Rattle.cpm_config.specs.declared.config.Config.{Config}
-use Rattle.cpm_config.specs.declared.config.Origin.{Origin}
-use Rattle.cpm_config.specs.declared.config.Origin.TheVariants as origin
 use Rattle.cpm_config.specs.declared.config.SessionConfig.{SessionConfig}
 use Rattle.cpm_config.specs.declared.field.Field.{Field}
 use Rattle.cpm_config.specs.declared.field.Field.TheVariants.{Frames, Quantum}
@@ -17,11 +15,13 @@ use Rattle.cpm_config.specs.declared.field.ConfigKey.{ConfigKey}
 use Rattle.cpm_drives.specs.Disks.{images_of}
 use Rattle.cpm_flags.specs.declared.regs.Cpu.{Cpu}
 use Rattle.cpm_geom.specs.Disk.{Disk}
-use Rattle.cpm_slots.specs.Host.{Host, new_host, refusal_of, with_opened}
+use Rattle.cpm_slots.specs.Host.{Host, are_same, new_host, refusal_of, room_fault, with_added, with_opened}
 use Rattle.cpm_slots.specs.declared.event.ForkError.TheVariants as fork
 use Rattle.cpm_slots.specs.declared.host.TheConstants.{LEAST_FRAMES}
 use Rattle.cpm_memory.specs.declared.store.TheConstants.{MOST_FRAMES}
 use Rattle.cpm_machine.specs.MachineState.{MachineState}
+use Rattle.cpm_machine.specs.Saving.{Saving, bytes_of_saving, saving_with}
+use Rattle.cpm_machine.specs.SystemDigest.{system_digest}
 use Rattle.cpm_machine.specs.declared.opening.Opening.{Opening}
 use Rattle.cpm_machine.specs.declared.opening.OpenError.{OpenError}
 use Rattle.cpm_machine.specs.declared.opening.OpenError.TheVariants.{NoFrames, NoSlot}
@@ -29,9 +29,11 @@ use Rattle.cpm_store.specs.Files.{StoreFiles, StoreName, WhereTold}
 use Rattle.cpm_store.specs.Log.{StoreAccess, AreWrites, LogLeadsBy}
 use Rattle.cpm_store.specs.Writes.{NamedBytes, WritesAll}
 use Rattle.cpm_play.specs.Players.{HasRoomForForks, IsLackFor}
-use Rattle.cpm_play.specs.Playing.{alone_by}
+use Rattle.cpm_play.specs.Playing.{alone_by, coming_keys, state_left}
 use Rattle.cpm_run.specs.Ending.{ending_of}
 use Rattle.cpm_run.specs.declared.ending.Ending.{Ending}
+use Rattle.cpm_run.specs.declared.error.StartFault.{StartFault}
+use Rattle.cpm_run.specs.declared.error.StartFault.TheVariants.{Elsewhere, Unopened}
 use Rattle.cpm_run.specs.declared.options.RecordFile.{RecordFile}
 use Rattle.cpm_run.specs.declared.options.RunOptions.{RunOptions}
 use Rattle.cpm_run.specs.declared.report.Report.{Report}
@@ -53,13 +55,22 @@ start_of inputs i = start_by (starts_of inputs) i.start
 unfoldable pub run_of : Disk → List SettledSession → SettledSession → MachineState
 run_of system inputs i = alone_by system i.keys i.steps (start_of inputs i)
 
--- what is left of it for its files: all bytes of its console and of its list device, and its drives
-abbrev pub session_output : SessionConfig → MachineState → SessionOutput
-session_output session s = record {
+-- its whole state then, with all of its output taken. The keys are those that come before its end; a later one is not pending
+unfoldable pub left_of : Disk → List SettledSession → SettledSession → MachineState
+left_of system inputs i = state_left system (coming_keys system (start_of inputs i) i.steps i.keys) i.steps (start_of inputs i)
+
+-- the bytes of the saving of a state with this system drive
+abbrev pub saving_over : Disk → MachineState → List ℕ
+saving_over system s = bytes_of_saving (saving_with (system_digest system) s)
+
+-- what is left of it for its files: all bytes of its console and of its list device, and its drives; and the saving of its state, where it is saved
+abbrev pub session_output : Disk → SessionConfig → (s left : MachineState) → SessionOutput
+session_output system session s left = record {
   session = session;
   console = s.session.console.screen;
   list = s.session.console.printer;
   drives = images_of s.session.disks;
+  saved = option_map (λ name. saving_over system left) session.save;
 }
 
 -- what is reported of it: its name, how and where it ended, and the number of its console bytes
@@ -80,7 +91,7 @@ abbrev pub reports_of : Disk → List SettledSession → List ReportEntry
 reports_of system inputs = map (λ i. reported_of i.session (run_of system inputs i)) inputs
 
 abbrev pub files_left : Disk → List SettledSession → List SessionOutput
-files_left system inputs = map (λ i. session_output i.session (run_of system inputs i)) inputs
+files_left system inputs = map (λ i. session_output system i.session (run_of system inputs i) (left_of system inputs i)) inputs
 
 -- a session's own keys: those that come after the keys that the session that it is forked from had before
 abbrev pub own_keys : SettledSession → List Key
@@ -127,6 +138,7 @@ pub record IsOpening (which : Cpu) (pages : ℕ) (images : List Disk) (o : Openi
 abbrev pub fork_of : StartInput → ℕ
 fork_of (Opens cpu quota drives) = 0
 fork_of (Forks parent at) = 1
+fork_of (Restores x) = 0
 
 abbrev pub forks_in : List StartInput → ℕ
 forks_in starts = sum_by fork_of starts
@@ -134,20 +146,27 @@ forks_in starts = sum_by fork_of starts
 abbrev pub pages_by : List StartInput → StartInput → ℕ
 pages_by starts (Opens cpu quota drives) = 0
 pages_by starts (Forks parent at) = (opening_at (slice_get starts parent)).quota
+pages_by starts (Restores x) = 0
 
 abbrev pub fork_pages_in : List StartInput → ℕ
 fork_pages_in starts = sum_by (pages_by starts) starts
 
--- once those that are opened are open, the host has room for all that are forked
+-- once those that aren't forked are open, the host has room for all that are forked
 abbrev pub HasForkRoom : List StartInput → Host → Type 0
 HasForkRoom starts h = HasRoomForForks h (forks_in starts) (fork_pages_in starts)
+
+-- why no slot goes on from a saving: it was saved over another system drive; or no slot is free, or there are too few frames
+abbrev pub restoring_fault : Host → Saving → Option StartFault
+restoring_fault h x =
+    if not (are_same x.system_digest (system_digest h.system)) then Some Elsewhere else option_map Unopened (room_fault h x.state.quota)
 
 -- a session that begins so is accepted, and what follows holds of the host with it
 abbrev pub IsAccepted : Host → StartInput → (Host → Type 0) → Type 0
 IsAccepted h (Opens cpu quota drives) next = (o : Opening) × IsOpening cpu quota drives o × (refusal_of h o ≡ None) × next (with_opened h o)
 IsAccepted h (Forks parent at) next = next h
+IsAccepted h (Restores x) next = (restoring_fault h x ≡ None) × next (with_added h x.state)
 
--- those of the sessions that are opened are all accepted, one after another, and then there is room for the forks
+-- those of the sessions that aren't forked are all accepted, one after another, and then there is room for the forks
 abbrev pub AllAccepted : (all : List StartInput) → Host → List StartInput → Type 0
 AllAccepted all h [] = HasForkRoom all h
 AllAccepted all h (b ∷ bs) = IsAccepted h b (λ next. AllAccepted all next bs)
@@ -224,10 +243,13 @@ IsShortFor h forks pages NoFrames = IsLackFor h forks pages fork.NoFrames
 IsShortFor h forks pages _ = ⊥
 
 -- a session that begins so is refused for this reason, and `here` holds; or it is not, and what follows holds of the host with it
-abbrev pub IsRefusedOr : Host → StartInput → OpenError → (here : Type 0) → (Host → Type 0) → Type 0
+abbrev pub IsRefusedOr : Host → StartInput → StartFault → (here : Type 0) → (Host → Type 0) → Type 0
 IsRefusedOr h (Opens cpu quota drives) fault here next =
-    (o : Opening) × IsOpening cpu quota drives o × (((refusal_of h o ≡ Some fault) × here) ⊎ ((refusal_of h o ≡ None) × next (with_opened h o)))
+    (o : Opening) × IsOpening cpu quota drives o
+    × (((option_map Unopened (refusal_of h o) ≡ Some fault) × here) ⊎ ((refusal_of h o ≡ None) × next (with_opened h o)))
 IsRefusedOr h (Forks parent at) fault here next = next h
+IsRefusedOr h (Restores x) fault here next =
+    ((restoring_fault h x ≡ Some fault) × here) ⊎ ((restoring_fault h x ≡ None) × next (with_added h x.state))
 
 -- the one at this place is forked
 pub record IsForkAt (starts : List StartInput) (place : ℕ) : Type 0 where
@@ -250,10 +272,14 @@ pub record IsFirstShort (all : List StartInput) (h : Host) (fault : OpenError) (
   pub short : IsShortFor h (forks_before all (place + 1)) (pages_before all (place + 1)) fault
   pub order : fault ≡ NoFrames → length h.slots + forks_before all (place + 1) ≤ 64
 
--- Of those that are opened one after another, the first of which stands at `from`, the first whose opening is refused is refused for this reason, and it
--- stands at the place. Or all are accepted, and the first fork that lacks room stands there.
-abbrev pub IsFirstRefused : (all : List StartInput) → Host → (from : ℕ) → List StartInput → OpenError → (place : ℕ) → Type 0
-IsFirstRefused all h from [] fault place = IsFirstShort all h fault place
+abbrev pub IsFirstUnforked : List StartInput → Host → StartFault → (place : ℕ) → Type 0
+IsFirstUnforked all h (Unopened fault) place = IsFirstShort all h fault place
+IsFirstUnforked all h Elsewhere place = ⊥
+
+-- Of those that aren't forked one after another, the first of which stands at `from`, the first that is refused is refused for this reason, and it stands at
+-- the place. Or all are accepted, and the first fork that lacks room stands there.
+abbrev pub IsFirstRefused : (all : List StartInput) → Host → (from : ℕ) → List StartInput → StartFault → (place : ℕ) → Type 0
+IsFirstRefused all h from [] fault place = IsFirstUnforked all h fault place
 IsFirstRefused all h from (b ∷ bs) fault place = IsRefusedOr h b fault (place ≡ from) (λ next. IsFirstRefused all next (from + 1) bs fault place)
 
 -- a name stands so in a refusal
@@ -269,29 +295,11 @@ abbrev pub name_at : List SessionConfig → ℕ → StoreName
 name_at sessions place = name_if_any (slice_get sessions place)
 
 -- a host refuses one of the sessions that begin so for this reason, and that one's name is shown
-pub record IsNamedRefusal (sessions : List SessionConfig) (h : Host) (starts : List StartInput) (fault : OpenError) (shown : List ℕ) : Type 0 where
+pub record IsNamedRefusal (sessions : List SessionConfig) (h : Host) (starts : List StartInput) (fault : StartFault) (shown : List ℕ) : Type 0 where
   pub place : ℕ
   pub first : IsFirstRefused starts h 0 starts fault place
   pub told : IsShownAs (name_at sessions place) shown
 
--- the pages that an opened session may write
-abbrev pub own_quota : Origin → ℕ
-own_quota (origin.Opened cpu quota drives) = quota
-own_quota (origin.Forked parent at) = 0
-
-abbrev pub quota_if_any : Option SessionConfig → ℕ
-quota_if_any None = 0
-quota_if_any (Some s) = own_quota s.origin
-
--- those that the session at a place may write
-abbrev pub quota_at : List SessionConfig → Option ℕ → ℕ
-quota_at sessions place = quota_if_any (option_and_then (slice_get sessions) place)
-
--- those that a session of these may write: as many as the one that it is forked from, where it is
-abbrev pub quota_in : List SessionConfig → Origin → ℕ
-quota_in sessions (origin.Opened cpu quota drives) = quota
-quota_in sessions (origin.Forked parent at) = quota_at sessions (place_of (string_bytes parent) (map session_view sessions))
-
--- the pages that all sessions may write
-abbrev pub pages_of_config : Config → ℕ
-pages_of_config config = sum_by (λ (s : SessionConfig). quota_in config.sessions.items s.origin) config.sessions.items
+-- the pages that all sessions may write: one that is forked as many as the one that it is forked from
+abbrev pub pages_of_starts : List StartInput → ℕ
+pages_of_starts starts = sum_by (λ b. (start_by starts b).quota) starts

@@ -4,7 +4,7 @@ use Rattle.std.specs.Prelude.{⊤, ◌≡◌, ◌≤◌, ◌^◌, ◌+◌, ◌-�
 use Rattle.std.specs.Prelude.{Option, Some, None, slice_get, string_bytes}
 use Rattle.std.specs.Io.KnownBytes.{Appends}
 use Rattle.std.specs.Str.{bytes_eq}
-use Rattle.cpm_batch.specs.Inputs.{Forks, IsOpened, Opens, SessionInput, StartInput, start_view, timed_keys}
+use Rattle.cpm_batch.specs.Inputs.{Forks, IsOpened, Opens, Restores, SessionInput, StartInput, saved_count, start_view, timed_keys}
 use Rattle.cpm_config.specs.Rules.{place_of, session_view}
 use Rattle.cpm_config.specs.declared.config.Origin.{Origin}
 use Rattle.cpm_config.specs.declared.config.Origin.TheVariants as origin
@@ -54,20 +54,22 @@ settled_view i = record {
   typing = i.typing;
 }
 
--- the machine at the opening of a session that is opened. One that is forked has none of its own
+-- the machine with which a session begins that isn't forked: at its opening, or the one that was saved. One that is forked has none of its own
 abbrev pub opening_of : StartInput → MachineState
 opening_of (Opens cpu quota drives) = opened_machine cpu quota drives
 opening_of (Forks parent at) = opened_machine I8080 0 []
+opening_of (Restores x) = x.state
 
 abbrev pub opening_at : Option StartInput → MachineState
 opening_at None = opened_machine I8080 0 []
 opening_at (Some b) = opening_of b
 
 -- the machine with which a session begins that has this one among the starts of all: at its opening, which has its processor, its quota and its drives,
--- or where it is forked at that of the session that it is forked from
+-- or where it is forked that with which the session begins that it is forked from, or the one that was saved
 abbrev pub start_by : List StartInput → StartInput → MachineState
 start_by starts (Opens cpu quota drives) = opened_machine cpu quota drives
 start_by starts (Forks parent at) = opening_at (slice_get starts parent)
+start_by starts (Restores x) = x.state
 
 abbrev pub starts_of : List SettledSession → List StartInput
 starts_of sessions = map (λ s. s.start) sessions
@@ -100,10 +102,11 @@ abbrev pub typing_at : Option TypedSession → ℕ → Option PlayEnd
 typing_at None place = None
 typing_at (Some t) place = if place == t.place then Some t.end else None
 
--- the count at which a session is forked from the one of this name
+-- the whole count at which a session is forked from the one of this name
 abbrev pub fork_count : List ℕ → Origin → ℕ
 fork_count name (origin.Opened cpu quota drives) = 0
 fork_count name (origin.Forked parent at) = if bytes_eq (string_bytes parent) name then at else 0
+fork_count name (origin.Restored saving) = 0
 
 -- the greatest of all
 abbrev pub last_fork : List ℕ → List SessionConfig → ℕ
@@ -112,8 +115,8 @@ last_fork name (s ∷ ss) = max (fork_count name s.origin) (last_fork name ss)
 
 -- ---- how a session is settled
 
--- What there is to play a session by: its opening, or that of the session that it is forked from, with the keys that that one had before the
--- fork; at which count it is forked, or 0; what it says; its steps; and the greatest count at which one is forked from it.
+-- What there is to play a session by: the machine with which it begins, or the session that it is forked from, with the keys that that one had before the
+-- fork; at which count it is forked, or 0; what it says; its steps; and the greatest count at which one is forked from it. The counts begin where it does.
 pub record SessionPart : Type 0 where
   pub opening : MachineState
   pub before : List Key
@@ -129,15 +132,18 @@ keys_if_settled (Some s) = s.keys
 abbrev pub before_in : List SettledSession → StartInput → List Key
 before_in settled (Opens cpu quota drives) = []
 before_in settled (Forks parent at) = keys_before at (keys_if_settled (slice_get settled parent))
+before_in settled (Restores x) = []
 
--- how the session is opened that begins so, or the one of these that it is forked from
+-- how the session begins that isn't forked, or the one of these that it is forked from
 abbrev pub opened_by : List StartInput → StartInput → Option StartInput
 opened_by starts (Opens cpu quota drives) = Some (Opens cpu quota drives)
 opened_by starts (Forks parent at) = slice_get starts parent
+opened_by starts (Restores x) = Some (Restores x)
 
 abbrev pub forked_at : StartInput → ℕ
 forked_at (Opens cpu quota drives) = 0
 forked_at (Forks parent at) = at
+forked_at (Restores x) = 0
 
 -- that of a session, after those before it were settled
 abbrev pub part_of : Option TypedSession → List SessionConfig → List SettledSession → SessionInput → SessionPart
@@ -146,8 +152,8 @@ part_of typed sessions settled i = record {
   before = before_in settled i.start;
   at = forked_at i.start;
   said = said_at typed (length settled) i.said;
-  limit = steps_at typed (length settled) i.session.steps;
-  last = last_fork (string_bytes i.session.name) sessions;
+  limit = steps_at typed (length settled) i.steps;
+  last = last_fork (string_bytes i.session.name) sessions - saved_count i.start;
 }
 
 -- It was played by itself, by the keys that it has from before and by what it says. These keys came, and it ended after so many steps.
@@ -172,8 +178,8 @@ pub record HasPlayedKeys (system : Disk) (p : SessionPart) (stops_idle : Bool) (
   pub long : steps ≡ settled_steps stops_idle p done
   pub idle : is_idle ≡ stops_idle && waits_at system p.opening came done
 
--- A session has these keys and steps: all keys as they are written where each has a count, a script can have so many, and no session stops idle; and else those
--- that come.
+-- A session has these keys and steps: all keys as they are written where each has a count, a script can have so many, with those that are pending where the
+-- session begins, and no session stops idle; and else those that come.
 abbrev pub HasSettledTimed : (is_few : Bool) → Disk → SessionPart → (own keys : List Key) → (steps : ℕ) → (is_idle : Bool) → Type 0
 HasSettledTimed true system p own keys steps is_idle = (keys ≡ p.before ++ own) × (steps ≡ p.limit) × (is_idle ≡ false)
 HasSettledTimed false system p own keys steps is_idle = HasPlayedKeys system p false keys steps is_idle
@@ -182,7 +188,7 @@ abbrev pub HasSettledBy : Disk → SessionPart → (stops_idle : Bool) → Optio
 HasSettledBy system p true timed keys steps is_idle = HasPlayedKeys system p true keys steps is_idle
 HasSettledBy system p false None keys steps is_idle = HasPlayedKeys system p false keys steps is_idle
 HasSettledBy system p false (Some own) keys steps is_idle =
-    HasSettledTimed (nat_le (length p.before + length own) most_keys) system p own keys steps is_idle
+    HasSettledTimed (nat_le (length p.opening.session.console.keys + length p.before + length own) most_keys) system p own keys steps is_idle
 
 pub record IsSettled (system : Disk) (stops_idle : Bool) (end : Option PlayEnd) (p : SessionPart) (i : SessionInput) (s : SettledSession) : Type 0 where
   pub session : s.session ≡ i.session
@@ -249,9 +255,9 @@ pub record IsTypedBy (system : Disk) (sessions : List SessionConfig) (name : Lis
   pub played : IsTypedPlay (sitting io.unread.is_patient system (opening_of start) most_steps cues) io.unread io.left keys done end
   pub text : Appends io.before.console io.written.console (alone_by system keys done (opening_of start)).session.console.screen
   pub lines : Appends io.unrecorded io.record_now (recorded keys)
-  pub long : steps ≡ max done (last_fork name sessions)
+  pub long : steps ≡ max done (last_fork name sessions - saved_count start)
 
--- so it was with the session of this name, which is opened
+-- so it was with the session of this name, which isn't forked
 pub record IsTypedAt (system : Disk) (sessions : List SessionConfig) (name : List ℕ) (inputs : List SessionInput) (io : Streams)
     (t : TypedSession) : Type 0 where
   pub input : SessionInput

@@ -2,7 +2,7 @@
 use Rattle.std.specs.Prelude.{⊤, ◌≡◌, ◌≤◌, ◌<◌, ◌⊎◌, ◌^◌, ◌+◌, ◌++◌, ◌∷◌, ℕ, Bool, true, false, List, [], length, map, slice_get}
 use Rattle.std.specs.Prelude.{Option, Some, None, option_map, IfSome, IsSome}
 use Rattle.std.specs.List.{All}
-use Rattle.cpm_batch.specs.Inputs.{Forks, IsOpened, Opens, SessionInput, StartInput, start_view, timed_keys}
+use Rattle.cpm_batch.specs.Inputs.{Forks, IsOpened, Opens, Restores, SessionInput, StartInput, start_view, timed_keys}
 use Rattle.cpm_config.specs.Rules.{is_opened, origin_view}
 use Rattle.cpm_config.specs.declared.config.Config.{Config}
 use Rattle.cpm_config.specs.declared.config.SessionConfig.{SessionConfig}
@@ -31,6 +31,7 @@ use Rattle.cpm_run.specs.declared.part.Part.{Part}
 abbrev pub IsOpeningOf : StartInput → Opening → Type 0
 IsOpeningOf (Opens cpu quota drives) o = IsOpening cpu quota drives o
 IsOpeningOf (Forks parent at) o = ⊥
+IsOpeningOf (Restores x) o = ⊥
 
 -- such an opening has no fault
 abbrev pub IsOpenable : StartInput → Type 0
@@ -90,17 +91,18 @@ pub record IsSoundAfter (system : Disk) (ss : List SettledSession) (s : SettledS
   pub ascii : AreBelow80h s.keys
   pub replays : GivesItsKeysAgain s
 
--- the one that a session is forked from stands among those that begin so, and is opened
+-- the one that a session is forked from stands among those that begin so, and isn't forked
 abbrev pub HasParent : List StartInput → StartInput → Type 0
 HasParent starts (Opens cpu quota drives) = ⊤
 HasParent starts (Forks parent at) = (b : StartInput) × (slice_get starts parent ≡ Some b) × IsOpened b
+HasParent starts (Restores x) = ⊤
 
 -- a session can be settled after those that begin so
 pub record IsFitInput (typed : Option TypedSession) (starts : List StartInput) (i : SessionInput) : Type 0 where
   pub ascii : KeysAreAscii (said_at typed (length starts) i.said)
   pub presses : PressesFollow false (said_at typed (length starts) i.said)
   pub from_fork : CountsRise (forked_at i.start) (said_at typed (length starts) i.said)
-  pub within : forked_at i.start ≤ steps_at typed (length starts) i.session.steps
+  pub within : forked_at i.start ≤ steps_at typed (length starts) i.steps
   pub parent : HasParent starts i.start
 
 abbrev pub AreFitInputs : Option TypedSession → List StartInput → List SessionInput → Type 0
@@ -111,7 +113,7 @@ AreFitInputs typed starts (i ∷ is) = IsFitInput typed starts i × AreFitInputs
 abbrev pub AreOpenable : List StartInput → Type 0
 AreOpenable = All (λ b. IsOpened b → IsOpenable b)
 
--- a session is opened in the run where it is in the configuration
+-- a session that isn't forked in the configuration isn't in the run
 abbrev pub BeginsAsConfigured : SessionInput → Type 0
 BeginsAsConfigured i = is_opened (origin_view i.session.origin) ≡ true → IsOpened i.start
 

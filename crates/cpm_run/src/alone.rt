@@ -1,10 +1,11 @@
 //! A session that is played by itself, before the run.
-ghost use Rattle.std.specs.Prelude.{◌≡◌, ◌++◌, IfErr, IfOk, map};
+ghost use Rattle.std.specs.Prelude.{◌≡◌, ◌++◌, IfErr, IfOk, None, map};
 ghost use Rattle.cpm_batch.specs.Inputs.{IsOpened, start_view};
-ghost use Rattle.cpm_play.specs.Playing.{IsFresh};
+ghost use Rattle.cpm_machine.specs.MachineState.{opened_machine};
+ghost use Rattle.cpm_machine.specs.Opening.{opening_fault};
 ghost use Rattle.cpm_script.specs.declared.cue.Cue.TheVariants.{Key as Timed};
 ghost use Rattle.cpm_run.specs.Settled.{opening_of};
-ghost use Rattle.cpm_run.specs.Settling.{IsOpeningOf, IsOpenable};
+ghost use Rattle.cpm_run.specs.Settling.{IsOpenable};
 
 use crate::error::RunError;
 use cpm_batch::Start;
@@ -24,34 +25,37 @@ fn copies_of(alloc: Global, images: &[Image]) -> Result<Vec<Image>, AllocError>
     Ok(copies)
 }
 
-/// What a session is opened with that isn't forked.
-fn opening_of(alloc: Global, start: &Start) -> Result<Opening, AllocError>
-    requires { IsOpened (start_view start.now) }
-    ensures { IfOk result (IsOpeningOf (start_view start.now)) }
-{
-    let Start::Opened { cpu, quota, drives } = start else {
-        unreachable!()
-    };
-    Ok(Opening {
-        cpu: *cpu,
-        quota: *quota,
-        drives: copies_of(alloc, drives)?,
-    })
-}
-
-/// The machine of a session at its opening.
-pub(crate) fn machine_of(alloc: Global, start: &Start) -> Result<Machine, RunError>
-    requires opened { IsOpened (start_view start.now) }
-    requires openable { IsOpenable (start_view start.now) }
-    ensures machine { IfOk result (λ m. m ≡ opening_of (start_view start.now)) }
-    ensures fresh { IfOk result IsFresh }
+/// A machine at an opening that has no fault.
+fn opened(alloc: Global, opening: Opening) -> Result<Machine, RunError>
+    requires { opening_fault opening ≡ None }
+    ensures machine { IfOk result (λ m. m ≡ opened_machine opening.cpu opening.quota opening.drives.items) }
     ensures refusal { IfErr result (λ e. e ≡ RunError.OutOfMemory) }
 {
-    let opening = opening_of(alloc, start)?;
     match Machine::new(alloc, opening) {
         Ok(machine) => Ok(machine),
         Err((_, OpenError::OutOfMemory)) => Err(RunError::OutOfMemory),
         Err(_) => unreachable!(),
+    }
+}
+
+/// The machine with which a session begins that isn't forked.
+pub(crate) fn machine_of(alloc: Global, start: &Start) -> Result<Machine, RunError>
+    requires opened { IsOpened (start_view start.now) }
+    requires openable { IsOpenable (start_view start.now) }
+    ensures machine { IfOk result (λ m. m ≡ opening_of (start_view start.now)) }
+    ensures refusal { IfErr result (λ e. e ≡ RunError.OutOfMemory) }
+{
+    match start {
+        Start::Opened { cpu, quota, drives } => {
+            let opening = Opening {
+                cpu: *cpu,
+                quota: *quota,
+                drives: copies_of(alloc, drives)?,
+            };
+            opened(alloc, opening)
+        }
+        Start::Restored(saved) => Ok(saved.machine(alloc)?),
+        Start::Forked { .. } => unreachable!(),
     }
 }
 

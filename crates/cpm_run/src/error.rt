@@ -55,6 +55,9 @@ pub enum RunError {
         name: ShownWord,
         fault: OpenError,
     },
+    /// The session of this name goes on from a saving that was made over another system drive.
+    #[error("session '{0}' goes on from a machine that was saved over another system drive")]
+    SavedElsewhere(ShownWord),
     /// The session of this name can't be opened: the quotas of all sessions are more pages than there are frames.
     #[error("session '{name}': quotas of {quotas} pages in all, and frames = {frames}")]
     FramesExceeded {
@@ -62,6 +65,15 @@ pub enum RunError {
         quotas: u128,
         frames: u16,
     },
+}
+
+/// Why a host has no slot for a session.
+#[derive(Clone, Copy, Drop)]
+pub(crate) enum StartFault {
+    /// It can't be opened, or forked, for this reason.
+    Unopened(OpenError),
+    /// It goes on from a saving that was made over another system drive.
+    Elsewhere,
 }
 
 impl fmt::Debug for RunError {
@@ -87,8 +99,9 @@ impl RunError {
             | RunError::RecordUnwritable(_)
             | RunError::WriteFault(_) => RefusalCode::Unwritable,
             RunError::OutOfMemory => RefusalCode::OutOfMemory,
-            RunError::SessionRefused { .. } | RunError::FramesExceeded { .. } =>
-                RefusalCode::Machine,
+            RunError::SessionRefused { .. }
+            | RunError::SavedElsewhere(_)
+            | RunError::FramesExceeded { .. } => RefusalCode::Machine,
         }
     }
 }

@@ -6,6 +6,7 @@ mod alone;
 mod digits;
 mod ending;
 mod error;
+mod finish;
 mod openings;
 mod options;
 mod part;

@@ -1,9 +1,9 @@
 //! What there is to play a session of a run by, before it is settled.
-ghost use Rattle.std.specs.Prelude.{◌≡◌, Some, IfOk, IfSome, map, option_map};
+ghost use Rattle.std.specs.Prelude.{◌≡◌, Some, IfOk, IfSome, length, map, option_map};
 ghost use Rattle.cpm_batch.specs.Inputs.{IsOpened, start_view, timed_keys};
 ghost use Rattle.cpm_play.specs.Cued.{key_count};
 ghost use Rattle.cpm_script.specs.Cues.{all_said, cue_text};
-ghost use Rattle.cpm_run.specs.Settled.{before_in, fork_count, forked_at, last_fork, opened_by, part_of, said_at};
+ghost use Rattle.cpm_run.specs.Settled.{before_in, fork_count, forked_at, last_fork, opened_by, opening_of, part_of, said_at};
 ghost use Rattle.cpm_run.specs.Settled.{settled_view, starts_of, steps_at, typed_view, typing_at};
 ghost use Rattle.cpm_run.specs.Settling.{AreCounts, HasParent, part_view};
 
@@ -18,11 +18,11 @@ use std::alloc::{AllocError, Global};
 /// What there is to play a session by.
 #[derive(Drop)]
 pub(crate) struct Part<'a> {
-    /// How it is opened, or the session that it is forked from.
+    /// How it begins, or the session that it is forked from.
     pub(crate) opened: &'a Start,
     /// The keys that that session had before the fork.
     pub(crate) before: Vec<Key>,
-    /// At which count it is forked; 0 where it is opened.
+    /// At which count it is forked, which begins where it does; 0 where it isn't.
     pub(crate) at: u64,
     /// What it says itself.
     pub(crate) cues: Vec<Cue>,
@@ -64,7 +64,7 @@ pub(crate) fn timed_keys(alloc: Global, cues: &[Cue]) -> Result<Option<Vec<Key>>
     Ok(Some(keys))
 }
 
-/// The count at which a session is forked from the one of this name; 0 where it isn't.
+/// The whole count at which a session is forked from the one of this name; 0 where it isn't.
 fn fork_count(session: &SessionConfig, name: &str) -> u64
     ensures { result ≡ fork_count name.now session.now.origin }
 {
@@ -74,7 +74,7 @@ fn fork_count(session: &SessionConfig, name: &str) -> u64
     }
 }
 
-/// The greatest count at which a session is forked from the one of this name.
+/// The greatest whole count at which a session is forked from the one of this name.
 pub(crate) fn last_fork(config: &Config, name: &str) -> u64
     ensures { result ≡ last_fork name.now config.now.sessions.items }
 {
@@ -85,24 +85,24 @@ pub(crate) fn last_fork(config: &Config, name: &str) -> u64
     last
 }
 
-/// At which count a session is forked; 0 where it is opened.
+/// At which count a session is forked; 0 where it isn't.
 fn forked_at(start: &Start) -> u64
     ensures { result ≡ forked_at (start_view start.now) }
 {
     match start {
-        Start::Opened { .. } => 0,
+        Start::Opened { .. } | Start::Restored(_) => 0,
         Start::Forked { at, .. } => *at,
     }
 }
 
-/// How a session is opened, or the one of these that it is forked from.
+/// How a session begins that isn't forked, or the one of these that it is forked from.
 fn opened_by<'a>(settled: &'a [SettledInput<'_>], start: &'a Start) -> &'a Start
     requires { HasParent (starts_of (map settled_view settled.now)) (start_view start.now) }
     ensures start { opened_by (starts_of (map settled_view settled.now)) (start_view start.now) ≡ Some (start_view result.now) }
     ensures opened { IsOpened (start_view result.now) }
 {
     match start {
-        Start::Opened { .. } => start,
+        Start::Opened { .. } | Start::Restored(_) => start,
         Start::Forked { parent, .. } => &settled[*parent].start,
     }
 }
@@ -117,7 +117,7 @@ fn before_in(
     ensures { IfOk result (λ v. v.items ≡ before_in (map settled_view settled.now) (start_view start.now)) }
 {
     match start {
-        Start::Opened { .. } => Ok(Vec::new(alloc)),
+        Start::Opened { .. } | Start::Restored(_) => Ok(Vec::new(alloc)),
         Start::Forked { parent, at } => keys_before(alloc, settled[*parent].keys.as_slice(), *at),
     }
 }
@@ -149,6 +149,17 @@ fn steps_at(typed: &Option<(usize, TypedPlay)>, place: usize, steps: u64) -> u64
     }
 }
 
+/// How many keys are pending where a session begins that isn't forked.
+#[tactic(auto, unfolding(cpm_machine::specs::Serve::look_of))]
+pub(crate) fn pending_keys(start: &Start) -> usize
+    ensures { result ≡ length (opening_of (start_view start.now)).session.console.keys }
+{
+    match start {
+        Start::Restored(saved) => saved.machine.look().keys,
+        Start::Opened { .. } | Start::Forked { .. } => 0,
+    }
+}
+
 /// Why no more was typed at the session at a place, where one typed at it.
 pub(crate) fn typing_at(typed: &Option<(usize, TypedPlay)>, place: usize) -> Option<PlayEnd>
     ensures { result ≡ typing_at (typed_view typed.now) place }
@@ -167,11 +178,12 @@ pub(crate) fn part_of<'a>(
     settled: &'a [SettledInput<'_>],
     session: &SessionConfig,
     start: &'a Start,
+    steps: u64,
     cues: Vec<Cue>,
 ) -> Result<Part<'a>, AllocError>
     requires { HasParent (starts_of (map settled_view settled.now)) (start_view start.now) }
     ensures part { IfOk result (λ p. part_view p ≡ part_of (typed_view typed.now) config.now.sessions.items (map settled_view settled.entry.now)
-        (record { session = session.now; start = start_view start.entry.now; said = all_said cues })) }
+        (record { session = session.now; start = start_view start.entry.now; steps = steps; said = all_said cues })) }
     ensures opened { IfOk result (λ p. opened_by (starts_of (map settled_view settled.entry.now)) (start_view start.entry.now)
         ≡ Some (start_view p.opened.now)) }
     ensures open { IfOk result (λ p. IsOpened (start_view p.opened.now)) }
@@ -182,7 +194,7 @@ pub(crate) fn part_of<'a>(
         before: before_in(alloc, settled, start)?,
         at: forked_at(start),
         cues: said_at(alloc, typed, place, cues)?,
-        steps: steps_at(typed, place, session.steps),
-        last: last_fork(config, session.name.as_str()),
+        steps: steps_at(typed, place, steps),
+        last: last_fork(config, session.name.as_str()).saturating_sub(start.saved_count()),
     })
 }

@@ -1,47 +1,50 @@
 //! The pages that sessions may write.
-ghost use Rattle.std.specs.Prelude.{◌≡◌};
-ghost use Rattle.cpm_run.specs.Run.{own_quota, quota_at, quota_in, pages_of_config};
+ghost use Rattle.std.specs.Prelude.{◌≡◌, map, slice_get};
+ghost use Rattle.cpm_batch.specs.Inputs.{given, start_view};
+ghost use Rattle.cpm_run.specs.Openings.{quota_read};
+ghost use Rattle.cpm_run.specs.Run.{pages_of_starts, starts_read};
+ghost use Rattle.cpm_run.specs.Settled.{opening_of, start_by};
 
-use cpm_config::{Config, Origin, SessionConfig, place_of};
+use cpm_batch::{Input, Start};
 
-/// The pages that an opened session may write.
-fn own_quota(session: &SessionConfig) -> u16
-    ensures { result ≡ own_quota session.now.origin }
+/// The pages that a session may write that isn't forked.
+fn own_quota(start: &Start) -> u16
+    ensures { result ≡ (opening_of (start_view start.now)).quota }
 {
-    match &session.origin {
-        Origin::Opened { quota, .. } => *quota,
-        Origin::Forked { .. } => 0,
+    match start {
+        Start::Opened { quota, .. } => *quota,
+        Start::Restored(saved) => saved.machine.quota(),
+        Start::Forked { .. } => 0,
     }
 }
 
-/// Those that the session at a place may write.
-fn quota_at(sessions: &[SessionConfig], place: Option<usize>) -> u16
-    ensures { result ≡ quota_at sessions.now place }
+/// Those that the session at a place may write, if it isn't forked.
+pub(crate) fn quota_at(inputs: &[Input<'_>], place: usize) -> u16
+    ensures { result ≡ quota_read (slice_get (starts_read (map given inputs.now)) place) }
 {
-    match place.and_then(|place| sessions.get(place)) {
-        Some(session) => own_quota(session),
+    match inputs.get(place) {
+        Some(input) => own_quota(&input.start),
         None => 0,
     }
 }
 
 /// Those that a session of these may write: as many as the one that it is forked from, where it is.
-fn quota_in(sessions: &[SessionConfig], session: &SessionConfig) -> u16
-    ensures { result ≡ quota_in sessions.now session.now.origin }
+fn quota_in(inputs: &[Input<'_>], start: &Start) -> u16
+    ensures { result ≡ (start_by (starts_read (map given inputs.now)) (start_view start.now)).quota }
 {
-    match &session.origin {
-        Origin::Opened { quota, .. } => *quota,
-        Origin::Forked { parent, .. } => { quota_at(sessions, place_of(sessions, parent.as_str())) }
+    match start {
+        Start::Opened { .. } | Start::Restored(_) => own_quota(start),
+        Start::Forked { parent, .. } => quota_at(inputs, *parent),
     }
 }
 
 /// The pages that all sessions may write.
-pub(crate) fn pages_of_config(config: &Config) -> u128
-    ensures { result ≡ pages_of_config config.now }
+pub(crate) fn pages_of_starts(inputs: &[Input<'_>]) -> u128
+    ensures { result ≡ pages_of_starts (starts_read (map given inputs.now)) }
 {
-    let sessions = config.sessions.as_slice();
     let mut quotas: u128 = 0;
-    for session in sessions {
-        quotas += u128::from(quota_in(sessions, session));
+    for input in inputs {
+        quotas += u128::from(quota_in(inputs, &input.start));
     }
     quotas
 }

@@ -15,7 +15,7 @@ ghost use Rattle.cpm_script.specs.Script.{most_keys};
 use crate::alone::{after_keys, machine_of};
 use crate::error::RunError;
 use crate::options::{RunOptions, has_replays};
-use crate::part::{Part, key_count, part_of, timed_keys, typing_at};
+use crate::part::{Part, key_count, part_of, pending_keys, timed_keys, typing_at};
 use crate::settled::SettledInput;
 use crate::watcher::{RunStage, RunWatcher};
 use cpm_batch::Input;
@@ -110,11 +110,18 @@ fn play_part<T: RunWatcher>(
     Ok((LivePlay { keys, steps }, is_idle))
 }
 
-/// Whether a script can have so many keys, those from before and own ones. A machine then takes all of them, wherever they come.
+/// Whether a script can have so many keys, those from before and own ones.
 fn is_few(before: usize, own: usize) -> bool
     ensures { result ≡ nat_le (before + own) most_keys }
 {
     before <= MOST_KEYS && own <= MOST_KEYS - before
+}
+
+/// Whether a machine takes so many keys wherever they come, those from before and own ones, where so many are pending at first.
+fn has_room(pending: usize, before: usize, own: usize) -> bool
+    ensures { result ≡ nat_le (pending + before + own) most_keys }
+{
+    is_few(before, own) && is_few(pending, before + own)
 }
 
 /// Whether the keys of a session are limited to so many as a script can have: nobody types, and no session is played by a recording.
@@ -142,8 +149,9 @@ fn settle_part<T: RunWatcher>(
     ensures sound { IfOk result (λ p. AreSoundKeys system.now (part_view part.entry) p.0.keys.items p.0.steps) }
     ensures refusal { IfErr result (λ e. e ≡ RunError.OutOfMemory) }
 {
+    let pending = pending_keys(part.opened);
     match timed_keys(alloc, part.cues.as_slice())? {
-        Some(own) if !stops_idle && is_few(part.before.len(), own.len()) => {
+        Some(own) if !stops_idle && has_room(pending, part.before.len(), own.len()) => {
             let live = LivePlay {
                 keys: joined(alloc, part.before.as_slice(), own.as_slice())?,
                 steps: part.steps,
@@ -181,9 +189,10 @@ fn settle_session<'a, T: RunWatcher>(
     let Input {
         session,
         start,
+        steps,
         cues,
     } = input;
-    let part = part_of(alloc, config, typed, settled, session, &start, cues)?;
+    let part = part_of(alloc, config, typed, settled, session, &start, steps, cues)?;
     let place = settled.len();
     let before = part.before.len();
     if is_limited(options, typed) && !is_few(before, key_count(part.cues.as_slice())) {

@@ -85,7 +85,7 @@ pub(crate) fn settle_inputs<'a, P: Typist, W: Write, R: Write, T: RunWatcher>(
         system.now (map given inputs.entry.items)) }
 {
     let sessions = inputs.as_slice();
-    judge_openings(config, sessions)?;
+    judge_openings(config, system, sessions)?;
     let heard = type_if_any(
         alloc, config, options, typed, system, sessions, typist, out, record, watcher,
     )?;

@@ -37,7 +37,7 @@ pub(crate) fn typed_place(
         return Err(RunError::NoSession(shown(name)));
     };
     match &sessions[place].origin {
-        Origin::Opened { .. } => Ok(Some(place)),
+        Origin::Opened { .. } | Origin::Restored { .. } => Ok(Some(place)),
         Origin::Forked { .. } => Err(RunError::NotOpened(shown(name))),
     }
 }
@@ -77,10 +77,11 @@ pub(crate) fn type_at<P: Typist, W: Write, R: Write>(
         &mut io::sink(),
         record,
     )?;
+    let last = last_fork(config, name).saturating_sub(session.start.saved_count());
     let LivePlay { keys, steps } = play.live;
     let live = LivePlay {
         keys,
-        steps: last_fork(config, name).max(steps),
+        steps: last.max(steps),
     };
     Ok(TypedPlay {
         live,

@@ -155,7 +155,7 @@ fn hold(
     }
 }
 
-/// Holds the images that a plan reads and writes.
+/// Holds the images and the saved machines that a plan reads and writes.
 pub fn hold_images(
     rt: &impl LockableFiles,
     plan: &FilePlan<'_>,
@@ -165,11 +165,11 @@ pub fn hold_images(
     hold(rt, &reads, &outs)
 }
 
-/// The names of those of the files that are images.
+/// The names of those of the files that are images or saved machines.
 fn images_of<'a>(alloc: Global, files: &[PlannedFile<'a>]) -> Result<Vec<&'a str>, AllocError> {
     let mut names = Vec::new(alloc);
     for file in files {
-        if file.role == FileRole::Image {
+        if matches!(file.role, FileRole::Image | FileRole::Saving) {
             names.push(file.name)?;
         }
     }

@@ -95,6 +95,11 @@ struct FoundFile<'a> {
     place: FileIdentity,
 }
 
+/// Whether a file may be written where this one was read: an image over an image, and a saved machine over a saved machine.
+fn may_replace(output: PlannedFile<'_>, input: PlannedFile<'_>) -> bool {
+    matches!(output.role, FileRole::Image | FileRole::Saving) && output.role == input.role
+}
+
 /// The files of a plan that were looked at so far.
 #[derive(Drop)]
 struct FoundFiles<'a> {
@@ -114,7 +119,7 @@ impl<'a> FoundFiles<'a> {
         Ok(())
     }
 
-    /// Refuses an output that is an output before it, or an input; but an image may take the place of one that was read.
+    /// Refuses an output that is an output before it, or an input; but an image may take the place of one that was read, and so may a saved machine.
     fn add_output(
         &mut self,
         rt: &(impl Files + AllocGlobal),
@@ -129,15 +134,14 @@ impl<'a> FoundFiles<'a> {
         Ok(())
     }
 
-    /// Refuses an output at a place that is an output before it, or an input; but an image may take the place of one that was read.
+    /// Refuses an output at a place that is an output before it, or an input which it may not replace.
     fn check_new(&self, place: &FileIdentity, file: PlannedFile<'a>) -> Result<(), CommandRefusal> {
-        let is_image = file.role == FileRole::Image;
         if let Some(other) = self.outputs.iter().find(|other| other.place == *place) {
             let name = other.file.name;
             return Err(twin(name, RefusalDetail::Output(shown(file.name))));
         }
         for input in &self.inputs {
-            if input.place == *place && !(is_image && input.file.role == FileRole::Image) {
+            if input.place == *place && !may_replace(file, input.file) {
                 let name = input.file.name;
                 return Err(twin(file.name, RefusalDetail::Input(shown(name))));
             }

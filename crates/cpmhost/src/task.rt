@@ -187,12 +187,15 @@ fn takes_raw(task: &Task<'_>) -> bool {
     matches!(task, Task::Com(_) | Task::Boot(_) | Task::Run(_))
 }
 
-/// Whether one types at disks that are written nowhere. (The blank one of a program that has no other is hardly missed.)
+/// Whether one types at disks that are written nowhere, nor saved. (The blank one of a program that has no other is hardly missed.)
 fn drops_disks(task: &Task<'_>) -> bool {
     match task {
         Task::Com(task) | Task::Boot(task) => {
             let has_disks = task.file.is_none() || !task.drives.is_empty();
-            task.is_live && has_disks && task.outs.is_empty() && task.out_folders.is_empty()
+            let is_kept = !task.outs.is_empty()
+                || !task.out_folders.is_empty()
+                || task.save.is_some();
+            task.is_live && has_disks && !is_kept
         }
         _ => false,
     }

@@ -57,6 +57,8 @@ pub fn start(
         tail: Tail::new(b" A.TXT"),
         drives,
         system,
+        saved: None,
+        is_saved: false,
     })
 }
 

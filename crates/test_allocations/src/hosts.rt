@@ -4,7 +4,7 @@ use crate::CallOutcome;
 use crate::machines::{is_handed_back, is_marked, marked, opening};
 use cpm_flags::Cpu;
 use cpm_machine::{Look, OpenError};
-use cpm_slots::{ForkError, Host, SlotId};
+use cpm_slots::{ForkError, Host, HostRestoreError, SaveError, SlotId};
 use std::alloc::{AllocError, Global};
 
 pub fn new(alloc: Global) -> Result<CallOutcome, AllocError> {
@@ -166,4 +166,64 @@ pub fn fork(alloc: Global) -> Result<CallOutcome, AllocError> {
 pub fn open(alloc: Global) -> Result<CallOutcome, AllocError> {
     let mut two = host_of_two(alloc)?;
     open_beside(alloc, &mut two.host, &two.before)
+}
+
+/// Saves the first slot, once more where memory was refused.
+fn save_first(alloc: Global, host: &mut Host) -> Result<CallOutcome, AllocError> {
+    Ok(match host.save(alloc, SlotId(0)) {
+        Ok(_) => CallOutcome::Made,
+        Err(SaveError::OutOfMemory) => CallOutcome::refused_if(host.save(alloc, SlotId(0)).is_ok()),
+        Err(SaveError::NoSuchSlot) => CallOutcome::Wrong,
+    })
+}
+
+/// Saves a slot of a new host that has two, whose looks and memories are compared before and after.
+pub fn save(alloc: Global) -> Result<CallOutcome, AllocError> {
+    let mut two = host_of_two(alloc)?;
+    let outcome = save_first(alloc, &mut two.host)?;
+    if are_as_before(alloc, &mut two.host, &two.before)? {
+        Ok(outcome)
+    } else {
+        Ok(CallOutcome::Wrong)
+    }
+}
+
+/// Opens a third slot of a saving.
+fn restore_third(alloc: Global, host: &mut Host, saved: &[u8]) -> CallOutcome {
+    match host.restore(alloc, saved) {
+        Ok(id) if id == SlotId(2) => CallOutcome::Made,
+        Err(HostRestoreError::OutOfMemory) => CallOutcome::Refused,
+        _ => CallOutcome::Wrong,
+    }
+}
+
+/// Opens a slot of a saving of the first one in a host that has two, whose looks and memories are compared before and after. After a refusal it opens with the
+/// number that it would have had.
+fn restore_beside(
+    alloc: Global,
+    host: &mut Host,
+    before: &[WholeSlot; 2],
+) -> Result<CallOutcome, AllocError> {
+    let Ok(saved) = host.save(alloc, SlotId(0)) else {
+        return Err(AllocError);
+    };
+    let outcome = restore_third(alloc, host, saved.as_slice());
+    if outcome == CallOutcome::Refused
+        && restore_third(alloc, host, saved.as_slice()) != CallOutcome::Made
+    {
+        return Ok(CallOutcome::Wrong);
+    }
+    let is_right = are_as_before(alloc, host, before)?
+        && is_as_before(alloc, host, SlotId(2), &before[0])?;
+    Ok(if is_right {
+        outcome
+    } else {
+        CallOutcome::Wrong
+    })
+}
+
+/// The same in a new host.
+pub fn restore(alloc: Global) -> Result<CallOutcome, AllocError> {
+    let mut two = host_of_two(alloc)?;
+    restore_beside(alloc, &mut two.host, &two.before)
 }

@@ -7,6 +7,8 @@ mod copies;
 mod disks;
 mod hosts;
 mod machines;
+mod savings;
+mod screens;
 mod stages;
 mod stores;
 mod texts;
@@ -68,7 +70,7 @@ impl CallOutcome {
 }
 
 /// The calls, as they are named on the command line.
-const NAMES: [&str; 45] = [
+const NAMES: [&str; 55] = [
     "command",
     "FlatMemory::new",
     "FrameStore::new",
@@ -79,9 +81,13 @@ const NAMES: [&str; 45] = [
     "Machine::new",
     "Machine::with_program",
     "Machine::with_command",
+    "Machine::save",
+    "Machine::restored",
     "Host::new",
     "Host::open",
     "Host::fork",
+    "Host::save",
+    "Host::restore",
     "assemble",
     "Config::read",
     "read_keys",
@@ -104,9 +110,12 @@ const NAMES: [&str; 45] = [
     "rename_file",
     "matching_files",
     "write_list",
+    "TextScreen::new",
+    "TextScreen::copy",
     "tail_of",
     "run_asm",
     "run_debug",
+    "debug_start",
     "run_list",
     "cues_of",
     "run_program by a script",
@@ -114,6 +123,9 @@ const NAMES: [&str; 45] = [
     "run_program by a script and typed keys",
     "run_program at the prompt",
     "run_asm_listed",
+    "run_program that is saved",
+    "saved_machine_of",
+    "run_saved",
 ];
 
 /// Makes the call of this name, if there is one.
@@ -129,9 +141,13 @@ fn make(alloc: Global, name: &str) -> Result<CallOutcome, AllocError> {
         "Machine::new" => machines::machine(alloc),
         "Machine::with_program" => machines::machine_with_program(alloc),
         "Machine::with_command" => machines::machine_with_command(alloc),
+        "Machine::save" => machines::save(alloc),
+        "Machine::restored" => machines::restored(alloc),
         "Host::new" => hosts::new(alloc),
         "Host::open" => hosts::open(alloc),
         "Host::fork" => hosts::fork(alloc),
+        "Host::save" => hosts::save(alloc),
+        "Host::restore" => hosts::restore(alloc),
         "assemble" => Ok(texts::source(alloc)),
         "Config::read" => Ok(texts::configuration(alloc)),
         "read_keys" => Ok(texts::key_script(alloc)),
@@ -157,9 +173,12 @@ fn make_command(alloc: Global, name: &str) -> Result<CallOutcome, AllocError> {
         | "rename_file"
         | "matching_files"
         | "write_list" => disks::of_disk_commands(alloc, name),
+        "TextScreen::new" => Ok(screens::new(alloc)),
+        "TextScreen::copy" => screens::copy(alloc),
         "tail_of" => Ok(commands::tail(alloc)),
         "run_asm" => Ok(commands::asm(alloc)),
         "run_debug" => commands::debug(alloc),
+        "debug_start" => savings::debugged(alloc),
         "run_list" => Ok(commands::list()),
         "cues_of" => Ok(waiting::cues(alloc)),
         "run_program by a script" => waiting::program(alloc),
@@ -167,6 +186,9 @@ fn make_command(alloc: Global, name: &str) -> Result<CallOutcome, AllocError> {
         "run_program by a script and typed keys" => waiting::program_typed_at(alloc),
         "run_program at the prompt" => waiting::prompt(alloc),
         "run_asm_listed" => Ok(waiting::listed_source(alloc)),
+        "run_program that is saved" => savings::played(alloc),
+        "saved_machine_of" => savings::read(alloc),
+        "run_saved" => savings::told(alloc),
         _ => Ok(CallOutcome::Wrong),
     }
 }

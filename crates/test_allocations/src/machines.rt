@@ -3,7 +3,7 @@
 use crate::CallOutcome;
 use cpm_flags::Cpu;
 use cpm_geom::{Format, Image};
-use cpm_machine::{Machine, OpenError, Opening, Tail};
+use cpm_machine::{Machine, OpenError, Opening, RestoreError, Tail};
 use std::alloc::{AllocError, Global};
 
 /// The byte of the mark in the directory of a drive.
@@ -92,4 +92,28 @@ pub fn machine_with_command(alloc: Global) -> Result<CallOutcome, AllocError> {
 /// A program that prints a letter and returns.
 pub fn letter(alloc: Global) -> Result<Vec<u8>, AllocError> {
     Vec::from_slice(alloc, LETTER)
+}
+
+/// A machine that has begun to print its letter.
+pub fn begun(alloc: Global) -> Result<Machine, AllocError> {
+    let program = letter(alloc)?;
+    let opening = opening(alloc, Cpu::I8080, 256)?;
+    match Machine::with_program(alloc, opening, program) {
+        Ok(machine) => Ok(machine),
+        Err(_) => Err(AllocError),
+    }
+}
+
+pub fn save(alloc: Global) -> Result<CallOutcome, AllocError> {
+    let machine = begun(alloc)?;
+    Ok(CallOutcome::of(machine.save(alloc, &[MARK; 32])))
+}
+
+pub fn restored(alloc: Global) -> Result<CallOutcome, AllocError> {
+    let saved = begun(alloc)?.save(alloc, &[MARK; 32])?;
+    Ok(match Machine::restored(alloc, saved.as_slice()) {
+        Ok(_) => CallOutcome::Made,
+        Err(RestoreError::OutOfMemory) => CallOutcome::Refused,
+        Err(RestoreError::Damaged(_)) => CallOutcome::Wrong,
+    })
 }

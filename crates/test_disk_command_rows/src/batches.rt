@@ -4,12 +4,14 @@ use crate::files::{refused_with, shown_status};
 use crate::stores::Stores;
 use cpm_batch::{Input, ReadError, SessionFiles, Start, outputs_of, read_inputs};
 use cpm_config::{Config, SessionConfig};
-use cpm_geom::Image;
+use cpm_flags::Cpu;
+use cpm_geom::{Format, Image};
+use cpm_machine::{LEAST_QUOTA, Machine, Opening, digest_of};
 use cpm_script::Cue;
 use cpm_store::{MemoryStore, Output, Store};
 use std::alloc::{AllocError, Global};
 use test_images::Images;
-use test_language::{RowAnswer, RowFault, RowLine, Scene, Word, bytes_of};
+use test_language::{RowAnswer, RowFault, RowLine, Scene, Word, bytes_of, number};
 
 /// A configuration, the images and the store that its files are in, and the status of the last refusal.
 #[derive(Drop)]
@@ -50,9 +52,11 @@ impl Scene for Batches {
         match line.verb() {
             "config" => self.take(alloc, line),
             "drive" => self.put(alloc, line.arguments()),
+            "saving" => self.save(alloc, line.arguments()),
             "inputs" => self.inputs(alloc),
             "status" => shown_status(alloc, self.status),
-            "outputs" => self.outputs(alloc, line.arguments()),
+            "outputs" => self.outputs(alloc, line.arguments(), false),
+            "saved-outputs" => self.outputs(alloc, line.arguments(), true),
             "image" | "entry" | "record" | "sector" => self.images.act(alloc, line),
             _ => self.files.act(alloc, line),
         }
@@ -84,6 +88,23 @@ impl Batches {
         }
     }
 
+    /// `saving NAME STEPS IMAGE ..`: the file holds the saving of a machine with these drives that executed so many steps over a blank
+    /// system drive.
+    fn save(&mut self, alloc: Global, arguments: &[Word<'_>]) -> Result<RowAnswer, RowFault> {
+        let [name, steps, images @ ..] = arguments else {
+            return Err(RowFault::Words);
+        };
+        let mut drives = Vec::new(alloc);
+        for image in images {
+            drives.push(self.images.copy(alloc, image.text)?)?;
+        }
+        let bytes = saving_of(alloc, drives, number(*steps)?)?;
+        match self.files.store.write(name.text, bytes.as_slice()) {
+            Ok(()) => Ok(RowAnswer::Done),
+            Err(error) => RowAnswer::refused(alloc, error),
+        }
+    }
+
     /// `inputs`: what is read for the configuration, a line for each session.
     fn inputs(&mut self, alloc: Global) -> Result<RowAnswer, RowFault> {
         let Some(config) = &self.config else {
@@ -103,8 +124,13 @@ impl Batches {
     }
 
     /// `outputs CONSOLE LIST IMAGES`: the files that are written, each with its length, where each session left these texts and
-    /// drives.
-    fn outputs(&self, alloc: Global, arguments: &[Word<'_>]) -> Result<RowAnswer, RowFault> {
+    /// drives; `saved-outputs` where each is saved too, as the bytes of its console.
+    fn outputs(
+        &self,
+        alloc: Global,
+        arguments: &[Word<'_>],
+        is_saved: bool,
+    ) -> Result<RowAnswer, RowFault> {
         let [console, list, images @ ..] = arguments else {
             return Err(RowFault::Words);
         };
@@ -113,18 +139,24 @@ impl Batches {
         };
         let mut all = Vec::new(alloc);
         for session in &config.sessions {
-            all.push(self.left_by(alloc, session, [*console, *list], images)?)?;
+            let saved = if is_saved {
+                Some(bytes_of(alloc, &[*console])?)
+            } else {
+                None
+            };
+            all.push(self.left_by(alloc, session, [*console, *list], images, saved)?)?;
         }
         shown_outputs(alloc, outputs_of(alloc, all)?.as_slice())
     }
 
-    /// What a session left: the texts of its console and its list device, and its drives.
+    /// What a session left: the texts of its console and its list device, its drives and its saving.
     fn left_by<'a>(
         &self,
         alloc: Global,
         session: &'a SessionConfig,
         texts: [Word<'_>; 2],
         images: &[Word<'_>],
+        saved: Option<Vec<u8>>,
     ) -> Result<SessionFiles<'a>, RowFault> {
         let [console, list] = texts;
         Ok(SessionFiles {
@@ -132,6 +164,7 @@ impl Batches {
             console: bytes_of(alloc, &[console])?,
             list: bytes_of(alloc, &[list])?,
             drives: self.drives(alloc, images)?,
+            saved,
         })
     }
 
@@ -151,6 +184,21 @@ impl Batches {
             None => Ok(None),
         }
     }
+}
+
+/// The saving of a machine with these drives that executed so many steps over a blank system drive.
+fn saving_of(alloc: Global, drives: Vec<Image>, steps: u64) -> Result<Vec<u8>, RowFault> {
+    let system = Image::blank(alloc, Format::Ibm3740)?;
+    let opening = Opening {
+        cpu: Cpu::I8080,
+        quota: LEAST_QUOTA,
+        drives,
+    };
+    let Ok(mut machine) = Machine::new(alloc, opening) else {
+        return Err(RowFault::Unready);
+    };
+    machine.grant(&system, steps);
+    Ok(machine.save(alloc, &digest_of(&system))?)
 }
 
 /// What is read for a configuration, in lines, or the refusal.
@@ -196,7 +244,8 @@ fn shown_inputs(alloc: Global, inputs: &[Input<'_>]) -> Result<String, RowFault>
 fn write_input(out: &mut String, input: &Input<'_>) -> Result<(), RowFault> {
     out.push_str(input.session.name.as_str())?;
     write_start(out, &input.start)?;
-    out.push_str("; cues ")?;
+    let steps = input.steps;
+    write!(out, ", steps {steps}; cues ")?;
     if input.cues.is_empty() {
         return Ok(out.push_str("none")?);
     }
@@ -215,6 +264,10 @@ fn write_start(out: &mut String, start: &Start) -> Result<(), AllocError> {
                 out,
                 ": forked from session {parent}, counted from 0, at {at}"
             )
+        }
+        Start::Restored(saved) => {
+            let count = saved.count();
+            write!(out, ": saved at {count}")
         }
     }
 }

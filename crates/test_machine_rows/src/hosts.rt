@@ -5,11 +5,11 @@ use crate::machines::cpu_of;
 use crate::shown::{TakenBytes, room};
 use cpm_geom::{Format, Image};
 use cpm_machine::{Look, Opening};
-use cpm_slots::{Event, Host, LEAST_FRAMES, MOST_FRAMES, Reply, Request, SlotId};
+use cpm_slots::{Event, Host, HostRestoreError, LEAST_FRAMES, MOST_FRAMES, Reply, Request, SlotId};
 use std::alloc::{AllocError, Global};
 use test_images::Images;
 use test_language::{
-    RowAnswer, RowFault, RowLine, Scene, Word, address, byte, bytes_of, number, write_bytes,
+    RowAnswer, RowFault, RowLine, Scene, Word, address, byte, bytes_of, count, number, write_bytes,
 };
 
 /// The byte of the reply that is no event's.
@@ -20,6 +20,8 @@ const REST: u8 = 7;
 pub struct Hosts {
     images: Images,
     host: Option<Host>,
+    /// The bytes of the slot that was saved last.
+    saved: Vec<u8>,
     events: Vec<Event>,
     shown: TakenBytes,
 }
@@ -29,13 +31,14 @@ impl Scene for Hosts {
         Ok(Hosts {
             images: Images::new(alloc),
             host: None,
+            saved: Vec::new(alloc),
             events: Vec::new(alloc),
             shown: TakenBytes::new(alloc),
         })
     }
 
     fn is_alone(verb: &str) -> bool {
-        matches!(verb, "used" | "run")
+        matches!(verb, "used" | "run" | "restore")
     }
 
     fn takes_text(_verb: &str) -> bool {
@@ -55,22 +58,30 @@ impl Scene for Hosts {
 }
 
 impl Hosts {
-    /// `host FRAMES`.
+    /// `host FRAMES`, or `host FRAMES IMAGE` with that system drive.
     fn begin(&mut self, alloc: Global, arguments: &[Word<'_>]) -> Result<RowAnswer, RowFault> {
-        let [frames] = arguments else {
+        let [frames, names @ ..] = arguments else {
             return Err(RowFault::Words);
         };
         let frames = number(*frames)?;
         if frames < u64::from(LEAST_FRAMES) || frames > u64::from(MOST_FRAMES) {
             return Err(RowFault::Unready);
         }
-        let system = Image::blank(alloc, Format::Ibm3740)?;
+        let system = self.system(alloc, names)?;
         match Host::new(alloc, system, frames as u16) {
             Ok(host) => {
                 self.host = Some(host);
                 Ok(RowAnswer::Done)
             }
             Err((_, error)) => RowAnswer::refused(alloc, error),
+        }
+    }
+
+    /// The last of these images, or a blank one where there is none.
+    fn system(&self, alloc: Global, names: &[Word<'_>]) -> Result<Image, RowFault> {
+        match self.images.copies(alloc, names)?.pop() {
+            Some(image) => Ok(image),
+            None => Ok(Image::blank(alloc, Format::Ibm3740)?),
         }
     }
 
@@ -103,6 +114,9 @@ impl Hosts {
             }
             ("used", []) => RowAnswer::words(alloc, host.store().used()),
             ("run", []) => run(alloc, host, self.events.as_slice()),
+            ("save", [slot]) => save(alloc, host, slot_of(*slot)?, &mut self.saved),
+            ("restore", []) => restore(alloc, host, self.saved.as_slice()),
+            ("put", [place, value]) => put(&mut self.saved, count(*place)?, byte(*value)?),
             ("alike", [one, other]) => alike(alloc, host, slot_of(*one)?, slot_of(*other)?),
             ("take", [slot, room @ ..]) => {
                 take(alloc, host, &mut self.shown, slot_of(*slot)?, room)
@@ -165,7 +179,7 @@ fn open(
 }
 
 /// A line to a slot.
-fn act_slot(
+pub(crate) fn act_slot(
     alloc: Global,
     host: &mut Host,
     verb: &str,
@@ -197,6 +211,46 @@ fn act_slot(
         },
         ("close", []) => close(alloc, host, id),
         _ => Err(RowFault::Unknown),
+    }
+}
+
+/// `save SLOT`: how many bytes its saving has. They are kept, past the end of the host too.
+fn save(
+    alloc: Global,
+    host: &mut Host,
+    id: SlotId,
+    saved: &mut Vec<u8>,
+) -> Result<RowAnswer, RowFault> {
+    match host.save(alloc, id) {
+        Ok(bytes) => {
+            let length = bytes.len();
+            *saved = bytes;
+            RowAnswer::words(alloc, length)
+        }
+        Err(error) => RowAnswer::refused(alloc, error),
+    }
+}
+
+/// `put PLACE BYTE`: what was saved last has this byte there.
+fn put(saved: &mut Vec<u8>, place: usize, value: u8) -> Result<RowAnswer, RowFault> {
+    match saved.get_mut(place) {
+        Some(byte) => {
+            *byte = value;
+            Ok(RowAnswer::Done)
+        }
+        None => Err(RowFault::Number),
+    }
+}
+
+/// `restore`: the number of the slot that goes on from what was saved last.
+fn restore(alloc: Global, host: &mut Host, saved: &[u8]) -> Result<RowAnswer, RowFault> {
+    match host.restore(alloc, saved) {
+        Ok(id) => RowAnswer::words(alloc, id.0),
+        Err(HostRestoreError::Damaged(damage)) => {
+            let (field, at) = (damage.field, damage.at);
+            Ok(RowAnswer::Words(format!(in alloc; "Damaged {field:?} {at}")?))
+        }
+        Err(error) => RowAnswer::refused(alloc, error),
     }
 }
 
@@ -244,7 +298,7 @@ fn close(alloc: Global, host: &mut Host, id: SlotId) -> Result<RowAnswer, RowFau
 }
 
 /// `take SLOT`, or `take SLOT N`.
-fn take(
+pub(crate) fn take(
     alloc: Global,
     host: &mut Host,
     shown: &mut TakenBytes,
@@ -259,7 +313,7 @@ fn take(
 }
 
 /// `list SLOT`, or `list SLOT N`.
-fn take_list(
+pub(crate) fn take_list(
     alloc: Global,
     host: &mut Host,
     shown: &mut TakenBytes,

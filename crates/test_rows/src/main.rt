@@ -18,7 +18,7 @@ use test_disk_command_rows::{Batches, DiskCommands, Stores};
 use test_disk_rows::{Directories, Drives, ImageFiles, ImageLines, OneDrive};
 use test_language::{Scene, Tally, run_rows};
 use test_listing_rows::{Listings, Sources};
-use test_machine_rows::{Hosts, Machines};
+use test_machine_rows::{Hosts, Machines, RestoredSlots, SavedMachines};
 use test_memory_rows::{Instructions, Memories};
 use test_run_rows::{Programs, Runs};
 use test_text_rows::{CommandLines, Configurations, Scripts};
@@ -62,6 +62,8 @@ impl RowFile<'_> {
             "memories" => self.run::<Memories>(told),
             "instructions" => self.run::<Instructions>(told),
             "machines" => self.run::<Machines>(told),
+            "saved-machines" => self.run::<SavedMachines>(told),
+            "restored-slots" => self.run::<RestoredSlots>(told),
             "hosts" => self.run::<Hosts>(told),
             "programs" | "debugger" => self.run::<Programs>(told),
             "runs" => self.run::<Runs>(told),

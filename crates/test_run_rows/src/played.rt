@@ -3,8 +3,8 @@
 use crate::programs::Programs;
 use cpm_geom::Image;
 use cpm_host::{
-    CuedKeys, HostError, KeyReader, NoWatcher, ProgramPlay, ProgramStart, Source, cues_of,
-    run_program,
+    CuedKeys, HostError, KeyReader, NoWatcher, ProgramPlay, ProgramStart, SavedMachine, Source,
+    cues_of, run_program, saved_machine_of,
 };
 use std::alloc::Global;
 use std::io;
@@ -24,6 +24,7 @@ impl Programs {
         match line.verb() {
             "com" => self.com(alloc, line.arguments()),
             "type" => self.type_keys(alloc, line),
+            "go-on" => self.go_on(),
             _ => self.replay(alloc),
         }
     }
@@ -37,9 +38,9 @@ impl Programs {
         Ok(drives)
     }
 
-    /// The program, if the machine doesn't begin at the prompt.
+    /// The program, if the machine begins one, and not at the prompt.
     fn program_if_any(&self, alloc: Global) -> Result<Option<Vec<u8>>, RowFault> {
-        if self.at_prompt {
+        if self.at_prompt || self.saving.is_some() {
             return Ok(None);
         }
         Ok(Some(Vec::from_slice(alloc, self.program.as_slice())?))
@@ -53,14 +54,42 @@ impl Programs {
         }
     }
 
+    /// The saved machine that goes on, if there is one.
+    fn saved_if_any(&self, alloc: Global) -> Result<Option<Box<SavedMachine>>, RowFault> {
+        let Some(saving) = &self.saving else {
+            return Ok(None);
+        };
+        match saved_machine_of(alloc, "a.sav", saving.as_slice()) {
+            Ok(saved) => Ok(Some(saved)),
+            Err(_) => Err(RowFault::Unready),
+        }
+    }
+
+    /// `go-on`: commands go on with the machine that was saved at the end of the last one, which shows nothing any more.
+    fn go_on(&mut self) -> Result<RowAnswer, RowFault> {
+        let saved = match &mut self.played {
+            Some(play) => play.saved.take(),
+            None => None,
+        };
+        if saved.is_none() {
+            return Err(RowFault::Absent);
+        }
+        self.saving = saved;
+        self.keys.clear();
+        self.drives.clear();
+        Ok(RowAnswer::Done)
+    }
+
     /// What a machine is played with.
-    fn start(&self, alloc: Global) -> Result<ProgramStart, RowFault> {
+    pub(crate) fn start(&self, alloc: Global) -> Result<ProgramStart, RowFault> {
         Ok(ProgramStart {
             cpu: self.cpu,
             program: self.program_if_any(alloc)?,
             tail: self.tail.clone()?,
             drives: self.drives(alloc)?,
             system: self.system_if_any(alloc)?,
+            saved: self.saved_if_any(alloc)?,
+            is_saved: self.is_saved,
         })
     }
 

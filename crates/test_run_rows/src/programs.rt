@@ -28,6 +28,10 @@ pub struct Programs {
     pub(crate) drives: Vec<Image>,
     pub(crate) system: Option<Image>,
     pub(crate) steps: u64,
+    /// Whether a machine is saved at its end.
+    pub(crate) is_saved: bool,
+    /// The bytes of a saved machine that goes on, in place of a program, a processor and drives.
+    pub(crate) saving: Option<Vec<u8>>,
     /// What the last command wrote.
     pub(crate) out: Recorder,
     /// The record of the keys.
@@ -52,6 +56,8 @@ impl Scene for Programs {
             drives: Vec::new(alloc),
             system: None,
             steps: STEPS,
+            is_saved: false,
+            saving: None,
             out: Recorder::new(alloc),
             record: Vec::new(alloc),
             played: None,
@@ -74,6 +80,8 @@ impl Scene for Programs {
                 | "waits"
                 | "live-end"
                 | "prompt"
+                | "save"
+                | "go-on"
         )
     }
 
@@ -89,6 +97,7 @@ impl Scene for Programs {
             "cpu"
             | "program"
             | "prompt"
+            | "save"
             | "source"
             | "listing"
             | "orders"
@@ -110,7 +119,7 @@ impl Scene for Programs {
             | "live-end" => self.look(alloc, line),
             "left" => self.left(alloc, line.arguments()),
             "asm" | "asm-listed" | "list" | "check" | "debug" => self.write(alloc, line),
-            "com" | "type" | "replay" => self.play(alloc, line),
+            "com" | "type" | "replay" | "go-on" => self.play(alloc, line),
             _ => self.images.act(alloc, line),
         }
     }
@@ -124,6 +133,7 @@ impl Programs {
             "cpu" => self.cpu = cpu_of(arguments)?,
             "program" => self.program = line.given(alloc, arguments)?,
             "prompt" => self.at_prompt = true,
+            "save" => self.is_saved = true,
             "source" => self.source = line.given(alloc, arguments)?,
             "listing" => return self.listing(alloc, line),
             "orders" => self.orders = line.given(alloc, arguments)?,

@@ -46,7 +46,7 @@ impl Scene for Runs {
     fn is_alone(verb: &str) -> bool {
         matches!(
             verb,
-            "config" | "shown" | "recorded" | "left" | "cuts" | "status"
+            "config" | "clear" | "shown" | "recorded" | "left" | "cuts" | "status"
         )
     }
 
@@ -58,6 +58,7 @@ impl Scene for Runs {
         let arguments = line.arguments();
         match line.verb() {
             "config" => self.add(line),
+            "clear" => self.clear(alloc),
             "set" => self.set(alloc, arguments),
             "file" => self.file(alloc, line),
             "length" => self.length(alloc, arguments),
@@ -137,6 +138,12 @@ impl Runs {
     /// `config`, with lines after it: adds them to the configuration.
     fn add(&mut self, line: &RowLine<'_>) -> Result<RowAnswer, RowFault> {
         self.config.push_str(line.text.as_str())?;
+        Ok(RowAnswer::Done)
+    }
+
+    /// `clear`: the configuration has no line.
+    fn clear(&mut self, alloc: Global) -> Result<RowAnswer, RowFault> {
+        self.config = String::new(alloc);
         Ok(RowAnswer::Done)
     }
 

@@ -2,7 +2,7 @@
 
 use crate::given::bytes_given;
 use crate::programs::Programs;
-use cpm_host::{HostError, run_asm, run_asm_listed, run_check, run_debug, run_list};
+use cpm_host::{HostError, debug_start, run_asm, run_asm_listed, run_check, run_debug, run_list};
 use std::alloc::Global;
 use test_language::{RowAnswer, RowFault, RowLine};
 
@@ -86,11 +86,15 @@ impl Programs {
         }
     }
 
-    /// `debug BYTES`: what the debugger answers to these orders, with the program and its listing. Without bytes: to those given by `orders`.
+    /// `debug BYTES`: what the debugger answers to these orders, with the program and its listing, or with the saved machine that goes on. Without bytes: to
+    /// those given by `orders`.
     fn debug(&mut self, alloc: Global, line: &RowLine<'_>) -> Result<RowAnswer, RowFault> {
         let arguments = line.arguments();
         if !arguments.is_empty() {
             self.orders = line.given(alloc, arguments)?;
+        }
+        if self.saving.is_some() {
+            return self.debug_saved(alloc);
         }
         let program = Vec::from_slice(alloc, self.program.as_slice())?;
         let mut input = self.orders.as_slice();
@@ -103,5 +107,14 @@ impl Programs {
                 answer
             }
         }
+    }
+
+    /// What it answers with the saved machine that goes on.
+    fn debug_saved(&mut self, alloc: Global) -> Result<RowAnswer, RowFault> {
+        let start = self.start(alloc)?;
+        let mut input = self.orders.as_slice();
+        let listing = self.listing.as_slice();
+        let outcome = debug_start(alloc, start, listing, &mut input, &mut self.out);
+        self.wrote(alloc, outcome)
     }
 }

@@ -37,10 +37,10 @@ fn add_files(alloc: Global, out: &mut String, session: &SessionConfig) -> Result
     add_text(alloc, out, ", console", Some(session.console.as_str()))?;
     add_text(alloc, out, ", keys", session.keys.as_deref())?;
     add_text(alloc, out, ", list", session.list.as_deref())?;
-    match &session.out {
-        Some(names) => add_names(alloc, out, ", out", names.as_slice()),
-        None => Ok(()),
+    if let Some(names) = &session.out {
+        add_names(alloc, out, ", out", names.as_slice())?;
     }
+    add_text(alloc, out, ", save", session.save.as_deref())
 }
 
 /// Adds how a session begins.
@@ -56,6 +56,7 @@ fn add_origin(alloc: Global, out: &mut String, origin: &Origin) -> Result<(), Ro
             add_text(alloc, out, ": fork", Some(parent.as_str()))?;
             add_number(alloc, out, ", at", *at)
         }
+        Origin::Restored { saving } => add_text(alloc, out, ": from", Some(saving.as_str())),
     }
 }
 

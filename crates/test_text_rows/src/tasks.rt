@@ -1,7 +1,7 @@
 //! What a command line asks for, in words: the names of the task's fields, each with its value where it has one.
 
 use crate::{add_cpu, add_number, add_text, add_texts};
-use cpm_command_line::{DiskTask, Page, PlayTask, RunTask, Task};
+use cpm_command_line::{DebugTask, DiskTask, Page, PlayTask, RunTask, Task};
 use cpm_flags::Cpu;
 use std::alloc::Global;
 use test_language::RowFault;
@@ -26,10 +26,8 @@ fn add_task(alloc: Global, out: &mut String, task: &Task<'_>) -> Result<(), RowF
         Task::List { file, cpu } => add_program(alloc, out, "list file", file, *cpu),
         Task::Check { image } => add_text(alloc, out, "check image", Some(image)),
         Task::Run(task) => add_run(alloc, out, task),
-        Task::Debug { file, cpu, list } => {
-            add_program(alloc, out, "debug file", file, *cpu)?;
-            add_text(alloc, out, " list", *list)
-        }
+        Task::Debug(task) => add_debug(alloc, out, task),
+        Task::Saved { file } => add_text(alloc, out, "saved file", Some(file)),
         Task::Disk(task) => add_disk(alloc, out, task),
         Task::Help(page) => add_help(alloc, out, *page),
     }
@@ -58,6 +56,16 @@ fn add_program(
 ) -> Result<(), RowFault> {
     add_text(alloc, out, name, Some(file))?;
     add_cpu(out, cpu)
+}
+
+/// Adds a program or a saved machine that is debugged.
+fn add_debug(alloc: Global, out: &mut String, task: &DebugTask<'_>) -> Result<(), RowFault> {
+    out.push_str("debug")?;
+    add_text(alloc, out, " file", task.file)?;
+    add_cpu(out, task.cpu)?;
+    add_text(alloc, out, " list", task.list)?;
+    add_text(alloc, out, " from", task.from)?;
+    add_text(alloc, out, " system", task.system)
 }
 
 /// Adds a page of the help.
@@ -106,7 +114,8 @@ fn add_play(
     add_count(alloc, out, " steps", task.steps)?;
     add_keys(alloc, out, task)?;
     add_flags(out, task)?;
-    add_replay(alloc, out, task)
+    add_replay(alloc, out, task)?;
+    add_saved(alloc, out, task)
 }
 
 /// Adds the keys of a machine, its drives and what is recorded.
@@ -135,6 +144,12 @@ fn add_replay(alloc: Global, out: &mut String, task: &PlayTask<'_>) -> Result<()
     add_text(alloc, out, " system", task.system)?;
     add_texts(alloc, out, " out_folders", task.out_folders.as_slice())?;
     add_text(alloc, out, " list", task.list)
+}
+
+/// Adds the file that a machine is saved to, and that of the one that it goes on from.
+fn add_saved(alloc: Global, out: &mut String, task: &PlayTask<'_>) -> Result<(), RowFault> {
+    add_text(alloc, out, " save", task.save)?;
+    add_text(alloc, out, " from", task.from)
 }
 
 /// Adds a configuration that is run.

@@ -19,7 +19,7 @@ returns-in-Ok-clause-log g c =
 pub returns-in_err-text-clause-refused_log : goal.returns-in_err-text-clause-refused_log
 returns-in_err-text-clause-refused_log g c =
     let p = err_from_is_err_and c.from_residual.result c.from_residual.ensures.1 in
-    rw (p.1, p.2) (stopped_missed g.S.Store.does (ForkedScriptIn c.args.name.now c.args.at c.args.before) _ c.args.store.now c.read_bytes.new.store c.in_err-text.ensures.refusal
+    rw (p.1, p.2) (stopped_missed g.S.Store.does (ForkedScriptIn c.args.name.now c.args.at c.args.before) c.args.name.now _ c.args.store.now c.read_bytes.new.store refl c.in_err-text.ensures.refusal
     c.in_err-text.ensures.missed)
 
 pub returns-in-Err-Line-clause-refused_log : goal.returns-in-Err-Line-clause-refused_log

@@ -1,3 +1,4 @@
+use Rattle.std.proofs.Common.{refl}
 use Rattle.cpm_batch.proofs.ReadLemmas.{image_read}
 use Rattle.std.proofs.Common.{refl}
 use Rattle.std.proofs.lemmas.Result.{err_from_is_err_and}
@@ -15,7 +16,7 @@ returns-in-Ok-clause-log g c =
 pub returns-in_err-bytes-clause-refused_log : goal.returns-in_err-bytes-clause-refused_log
 returns-in_err-bytes-clause-refused_log g c =
     let p = err_from_is_err_and c.from_residual.result c.from_residual.ensures.1 in
-    rw (p.1, p.2) (stopped_missed g.S.Store.does (ImageIn c.args.name.now) _ c.args.store.now c.read_bytes.new.store c.in_err-bytes.ensures.refusal c.in_err-bytes.ensures.missed)
+    rw (p.1, p.2) (stopped_missed g.S.Store.does (ImageIn c.args.name.now) c.args.name.now _ c.args.store.now c.read_bytes.new.store refl c.in_err-bytes.ensures.refusal c.in_err-bytes.ensures.missed)
 
 pub returns-in-Err-clause-refused_log : goal.returns-in-Err-clause-refused_log
 returns-in-Err-clause-refused_log g c =

@@ -39,7 +39,13 @@ run_task-requires c =
 pub debug_task-requires : goal.debug_task-requires
 debug_task-requires c =
     let rows = rows_of (found_of c.args.matches.now) in
-    (whole_last (c.args.name.now, rows) c.in_default.not-com c.in_default.not-boot c.in_default.not-asm c.in_default.not-list c.in_default.not-check c.in_default.not-run c.requires).1
+    subst (λ (n : Text). IsWholeAs n rows) c.in-debug.is (whole_as (c.args.name.now, rows) c.requires)
+
+pub saved_task-requires : goal.saved_task-requires
+saved_task-requires c =
+    let rows = rows_of (found_of c.args.matches.now) in
+    (whole_last (c.args.name.now, rows) c.in_default.not-com c.in_default.not-boot c.in_default.not-asm c.in_default.not-list c.in_default.not-check c.in_default.not-run c.in_default.not-debug
+    c.requires).1
 
 -- ---- the task has the entries of this name
 
@@ -73,8 +79,14 @@ returns-in-run c =
     let rows = rows_of (found_of c.args.matches.now) in
     subst (λ (n : Text). IfOk c.run_task.result (HasEntriesOf (n, rows))) (sym c.in-run.is) c.run_task.ensures
 
+pub returns-in-debug : goal.returns-in-debug
+returns-in-debug c =
+    let rows = rows_of (found_of c.args.matches.now) in
+    subst (λ (n : Text). HasEntriesOf (n, rows) c.debug_task.result) (sym c.in-debug.is) c.debug_task.ensures
+
 pub returns-in_default : goal.returns-in_default
 returns-in_default c =
     let rows = rows_of (found_of c.args.matches.now) in
-    subst (λ (n : Text). HasEntriesOf (n, rows) c.debug_task.result)
-    (sym (whole_last (c.args.name.now, rows) c.in_default.not-com c.in_default.not-boot c.in_default.not-asm c.in_default.not-list c.in_default.not-check c.in_default.not-run c.requires).0) c.debug_task.ensures
+    subst (λ (n : Text). HasEntriesOf (n, rows) c.saved_task.result)
+    (sym (whole_last (c.args.name.now, rows) c.in_default.not-com c.in_default.not-boot c.in_default.not-asm c.in_default.not-list c.in_default.not-check c.in_default.not-run c.in_default.not-debug
+    c.requires).0) c.saved_task.ensures

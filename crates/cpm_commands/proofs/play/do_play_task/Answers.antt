@@ -11,7 +11,7 @@ use Rattle.cpm_commands.specs.Left.{IsPlayLeft, IsPlayUnleft, WriteActs}
 use Rattle.cpm_commands.specs.ListText.{kept_if}
 use Rattle.cpm_commands.specs.Messages.{IsEndTold}
 use Rattle.cpm_commands.specs.OutFolder.{IsUnwrittenTold, folder_view, unwritten_view}
-use Rattle.cpm_commands.specs.Play.{HasPlayedWith, IsPlayStopped, ReadActs}
+use Rattle.cpm_commands.specs.Play.{HasPlayedWith, IsPlayStopped, ReadActs, texts_left}
 use Rattle.cpm_commands.specs.Play.IsPlayStopped.{NotBegun}
 use Rattle.cpm_commands.specs.Play.IsPlayRefused.{KeptBack, NotLeft, NotPlayed, NotRecorded}
 use Rattle.cpm_commands.proofs.play.do_play_task.Goals as goal
@@ -111,10 +111,10 @@ returns-in_err-unwritten-clause-refusal g c =
     let whole = sym c.is_kept_back.ensures ∙ c.if-is_kept_back.false in
     let starts = ap (map folder_view) c.as_slice.ensures.value ∙ with_it.starts in
     let writes : WriteActs _ = record { does = g.F.Store.does; sees_to = g.F.CommandFiles.sees_to; gives_names = g.F.CommandFiles.gives_names; lists = g.F.CommandFiles.lists; unlists = g.F.CommandFiles.unlists } in
-    let unleft = subst (λ (ss : List (StoreName × Option Disk)). IsPlayUnleft writes c.args.task.now ss printed c.in_ok-play.field-0.play.drives c.play_machine.new.files c.write_left.new.files
+    let unleft = subst (λ (ss : List (StoreName × Option Disk)). IsPlayUnleft writes c.args.task.now ss (texts_left printed c.in_ok-play.field-0.play) c.in_ok-play.field-0.play.drives c.play_machine.new.files c.write_left.new.files
     c.in_err-unwritten.field-0.0) starts
-    (subst (λ (xs : Option (List ℕ)). IsPlayUnleft writes c.args.task.now (map folder_view c.as_slice.result.now) xs c.in_ok-play.field-0.play.drives c.play_machine.new.files c.write_left.new.files
-    c.in_err-unwritten.field-0.0) c.into_kept-printed.ensures c.in_err-unwritten.ensures.refusal) in
+    (subst (λ (xs : Option (List ℕ)). IsPlayUnleft writes c.args.task.now (map folder_view c.as_slice.result.now) (texts_left xs c.in_ok-play.field-0.play) c.in_ok-play.field-0.play.drives
+    c.play_machine.new.files c.write_left.new.files c.in_err-unwritten.field-0.0) c.into_kept.ensures c.in_err-unwritten.ensures.refusal) in
     rw (p.1, p.2) (NotLeft c.in_ok-play.field-0.play printed c.play_machine.new.files with_it.played c.in_ok-end_record.ensures.ended whole unleft)
 
 pub returns-clause-ran : goal.returns-clause-ran
@@ -141,10 +141,10 @@ returns-clause-ran g c =
     let starts = ap (map folder_view) c.as_slice.ensures.value ∙ with_it.starts in
     let writes : WriteActs _ = record { does = g.F.Store.does; sees_to = g.F.CommandFiles.sees_to; gives_names = g.F.CommandFiles.gives_names; lists = g.F.CommandFiles.lists; unlists = g.F.CommandFiles.unlists } in
     let unwritten = map unwritten_view c.in_ok-unwritten.unwritten.items in
-    let left = subst (λ (ss : List (StoreName × Option Disk)). IsPlayLeft writes c.args.task.now ss printed c.in_ok-play.field-0.play.drives c.play_machine.new.files c.write_left.new.files
+    let left = subst (λ (ss : List (StoreName × Option Disk)). IsPlayLeft writes c.args.task.now ss (texts_left printed c.in_ok-play.field-0.play) c.in_ok-play.field-0.play.drives c.play_machine.new.files c.write_left.new.files
     unwritten) starts
-    (subst (λ (xs : Option (List ℕ)). IsPlayLeft writes c.args.task.now (map folder_view c.as_slice.result.now) xs c.in_ok-play.field-0.play.drives c.play_machine.new.files c.write_left.new.files
-    unwritten) c.into_kept-printed.ensures c.in_ok-unwritten.ensures.left) in
+    (subst (λ (xs : Option (List ℕ)). IsPlayLeft writes c.args.task.now (map folder_view c.as_slice.result.now) (texts_left xs c.in_ok-play.field-0.play) c.in_ok-play.field-0.play.drives
+    c.play_machine.new.files c.write_left.new.files unwritten) c.into_kept.ensures c.in_ok-unwritten.ensures.left) in
     record {
       read = c.play_machine.new.files;
       play = c.in_ok-play.field-0.play;

@@ -1,6 +1,7 @@
-use Rattle.std.proofs.Common.{◌∙◌, List, None, Some, ap, map, refl, rules, subst, ℕ}
+use Rattle.std.proofs.Common.{◌∙◌, Bool, List, None, Some, ap, map, refl, rules, subst, ℕ}
+use Rattle.std.specs.Prelude.{is_some}
 use Rattle.std.proofs.lemmas.Result.{err_from_is_err_and}
-use Rattle.cpm_host.specs.Program.{IsPlayedBy, IsProgramPlayRefusal, machine_of, program_given, system_disk}
+use Rattle.cpm_host.specs.Program.{HasSaved, IsPlayedBy, IsProgramPlayRefusal, machine_of, program_given, system_disk}
 use Rattle.cpm_play.specs.Output.{output_state}
 use Rattle.cpm_run.specs.Settled.{play_streams}
 use Rattle.cpm_script.specs.declared.cue.Cue.{Cue}
@@ -144,7 +145,8 @@ returns-in_err-play-clause-refusal g c =
     (output_state (g.W.Write.contents c.args.out.now) (g.L.Write.contents c.args.list.now)) (output_state (g.W.Write.contents c.run_program.new.out) (g.L.Write.contents c.run_program.new.list))
     (g.R.Write.contents c.args.record.now) (g.R.Write.contents c.run_program.new.record) in
     rw (p.1, p.2) (NotPlayed places given said source reads source_is
-    (subst (λ (n : ℕ). IsProgramPlayRefusal source given n io c.in_err-play.field-0.0) (c.steps_asked.ensures ∙ ap (steps_asked task) c.as_slice-6.ensures.value) c.in_err-play.ensures.refusal))
+    (subst (λ (n : ℕ). IsProgramPlayRefusal (is_some task.save) source given n io c.in_err-play.field-0.0) (c.steps_asked.ensures ∙ ap (steps_asked task) c.as_slice-6.ensures.value)
+    (subst (λ (b : Bool). IsProgramPlayRefusal b source given c.steps_asked.result io c.in_err-play.field-0.0) c.in_ok-start.ensures.saves c.in_err-play.ensures.refusal)))
 
 pub returns-clause-played : goal.returns-clause-played
 returns-clause-played g c =
@@ -192,6 +194,7 @@ returns-clause-played g c =
         source_is = source_is;
         played = subst (λ (n : ℕ). IsPlayedBy source (system_disk given) (machine_of given) n c.in_ok-play.play io) (c.steps_asked.ensures ∙ ap (steps_asked task) c.as_slice-6.ensures.value)
             c.in_ok-play.ensures.played;
+        saves = subst (λ (b : Bool). HasSaved b (system_disk given) (machine_of given) c.in_ok-play.play) c.in_ok-start.ensures.saves c.in_ok-play.ensures.saved;
       };
       starts = c.in_ok-starts.ensures ∙ (λ i. folder_starts_of (map (λ n. n.now) (c.deref-2.ensures.value i)) (c.as_slice-5.ensures.value i));
     }

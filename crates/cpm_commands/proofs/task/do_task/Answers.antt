@@ -40,10 +40,16 @@ pub returns-in-Run-clause-refusal : goal.returns-in-Run-clause-refusal
 returns-in-Run-clause-refusal g c = plain-refused _ _ c.run_sessions.result c.plain-in-Run.result c.plain-in-Run.ensures (λ e h. rw c.in-Run.is h) c.run_sessions.ensures.refusal
 
 pub returns-in-Debug-clause-done : goal.returns-in-Debug-clause-done
-returns-in-Debug-clause-done g c = plain-done _ _ c.debug_program.result c.plain-in-Debug.result c.plain-in-Debug.ensures (λ h. rw c.in-Debug.is (h, refl)) c.debug_program.ensures.debugged
+returns-in-Debug-clause-done g c = plain-done _ _ c.do_debug_task.result c.plain-in-Debug.result c.plain-in-Debug.ensures (λ h. rw c.in-Debug.is (h, refl)) c.do_debug_task.ensures.done
 
 pub returns-in-Debug-clause-refusal : goal.returns-in-Debug-clause-refusal
-returns-in-Debug-clause-refusal g c = plain-refused _ _ c.debug_program.result c.plain-in-Debug.result c.plain-in-Debug.ensures (λ e h. rw c.in-Debug.is h) c.debug_program.ensures.refusal
+returns-in-Debug-clause-refusal g c = plain-refused _ _ c.do_debug_task.result c.plain-in-Debug.result c.plain-in-Debug.ensures (λ e h. rw c.in-Debug.is h) c.do_debug_task.ensures.refusal
+
+pub returns-in-Saved-clause-done : goal.returns-in-Saved-clause-done
+returns-in-Saved-clause-done g c = plain-done _ _ c.tell_saved.result c.plain-in-Saved.result c.plain-in-Saved.ensures (λ h. rw c.in-Saved.is (h, refl)) c.tell_saved.ensures.told
+
+pub returns-in-Saved-clause-refusal : goal.returns-in-Saved-clause-refusal
+returns-in-Saved-clause-refusal g c = plain-refused _ _ c.tell_saved.result c.plain-in-Saved.result c.plain-in-Saved.ensures (λ e h. rw c.in-Saved.is h) c.tell_saved.ensures.refusal
 
 pub returns-in-Disk-clause-done : goal.returns-in-Disk-clause-done
 returns-in-Disk-clause-done g c = plain-done _ _ c.do_disk.result c.plain-in-Disk.result c.plain-in-Disk.ensures (λ h. rw c.in-Disk.is (h, refl)) c.do_disk.ensures.done

@@ -1,7 +1,7 @@
-use Rattle.std.proofs.Common.{◌≤◌, ap, ap₂, ℕ, arith, length, take, option_map}
+use Rattle.std.proofs.Common.{◌≤◌, arith, length}
 use Rattle.std.proofs.lemmas.Result.{err_from_is_err_and}
 use Rattle.cpm_debug.specs.Debug.{debugged, debug_system_drive}
-use Rattle.cpm_debug.proofs.DialogLemmas.{at_once, held_result, refused_result}
+use Rattle.cpm_debug.proofs.DialogLemmas.{at_once, held_program, refused_program}
 use Rattle.cpm_debug.proofs.debug.run_debug.Goals as goal
 
 pub returns-in_err-system-clause-refusal : goal.returns-in_err-system-clause-refusal
@@ -13,15 +13,12 @@ returns-in_err-system-clause-refusal g c =
 
 pub returns-clause-held : goal.returns-clause-held
 returns-clause-held g c =
-    let reader = ap₂ (λ (n : ℕ) (x : g.row.R.Denot). option_map (take n) (g.R.Read.remaining x)) c.take-heard.ensures.limit (ap (λ r. r.now) c.take-heard.ensures.inner) in
-    held_result c.converse.result c.in_ok-system.system c.args.cpu c.args.listing.now c.in_ok-system.machine c.args.program.items (g.R.Read.remaining c.args.input.now)
-    (option_map (take c.take-heard.result.limit) (g.R.Read.remaining c.take-heard.result.inner.now)) (g.W.Write.contents c.args.out.now) (g.W.Write.contents c.converse.new.out)
-    c.in_ok-system.ensures.made.0 c.in_ok-system.ensures.made.1 reader c.converse.ensures.held
+    held_program c.debug_machine.result c.in_ok-system.system c.args.cpu c.args.listing.now c.in_ok-system.machine c.args.program.items (g.R.Read.remaining c.args.input.now)
+    (g.W.Write.contents c.args.out.now) (g.W.Write.contents c.debug_machine.new.out) c.in_ok-system.ensures.made.0 c.in_ok-system.ensures.made.1 c.debug_machine.ensures.held
 
 pub returns-clause-refusal : goal.returns-clause-refusal
 returns-clause-refusal g c =
-    let reader = ap₂ (λ (n : ℕ) (x : g.row.R.Denot). option_map (take n) (g.R.Read.remaining x)) c.take-heard.ensures.limit (ap (λ r. r.now) c.take-heard.ensures.inner) in
     let fits : length c.args.program.items ≤ 58112 = let l = c.len.ensures in let f = c.if-len-gt-MOST_PROGRAM.false in let k = c.args.program.ok.0 in omega arith in
-    refused_result c.converse.result c.in_ok-system.system c.args.cpu c.args.listing.now c.in_ok-system.machine c.args.program.items (g.R.Read.remaining c.args.input.now)
-    (option_map (take c.take-heard.result.limit) (g.R.Read.remaining c.take-heard.result.inner.now)) (g.W.Write.contents c.args.out.now) (g.W.Write.contents c.converse.new.out)
-    c.args.out.now c.converse.new.out c.in_ok-system.ensures.made.0 c.in_ok-system.ensures.made.1 reader fits c.converse.ensures.failed
+    refused_program c.debug_machine.result c.in_ok-system.system c.args.cpu c.args.listing.now c.in_ok-system.machine c.args.program.items (g.R.Read.remaining c.args.input.now)
+    (g.W.Write.contents c.args.out.now) (g.W.Write.contents c.debug_machine.new.out) c.args.out.now c.debug_machine.new.out
+    c.in_ok-system.ensures.made.0 c.in_ok-system.ensures.made.1 fits c.debug_machine.ensures.refusal

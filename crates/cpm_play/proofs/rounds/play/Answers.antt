@@ -1,11 +1,11 @@
 use Rattle.std.proofs.Common.{◌∙◌, sym}
 use Rattle.std.proofs.lemmas.Result.{err_from_is_err_and}
-use Rattle.cpm_play.proofs.PlayLemmas.{come-start, played-all, room-all, some-left}
+use Rattle.cpm_play.proofs.PlayLemmas.{played-all, room-all, some-left}
 use Rattle.cpm_play.proofs.rounds.play.Goals as goal
 use Rattle.cpm_play.proofs.rounds.play.Goals.{then-may_fork, else-may_fork}
 
 pub loop-alloc-init : goal.loop-alloc-init
-loop-alloc-init g c = record { none = λ no. sym c.has_fork-may_fork.ensures ∙ no; come = come-start c.args.host.now.host c.args.players.now c.requires.ready c.requires.differ c.slots_are_orderly.ensures }
+loop-alloc-init g c = record { none = λ no. sym c.has_fork-may_fork.ensures ∙ no; come = c.in_ok-take_waiting.ensures.come }
 
 pub loop-alloc-smaller : goal.loop-alloc-smaller
 loop-alloc-smaller g c =
@@ -23,7 +23,7 @@ loop-alloc-preserved g c = record {
 
 pub returns-in_err-round-clause-refused : goal.returns-in_err-round-clause-refused
 returns-in_err-round-clause-refused g c =
-    let p = err_from_is_err_and c.from_residual.result c.from_residual.ensures.1 in
+    let p = err_from_is_err_and c.from_residual-in_err-round.result c.from_residual-in_err-round.ensures.1 in
     rw (p.1, p.2) (c.in_err-round.ensures.refused c.args.host.now.host c.args.players.now c.requires.ready c.loop-alloc.invariant.come)
 
 pub returns-clause-played : goal.returns-clause-played

@@ -20,7 +20,7 @@ returns-clause-playing c = λ steps start r.
     let k = c.grant-executed.result in
     let most : c.turn-most.result ≡ turn_of p.pace (script_keys p) c.args.quantum =
     c.turn-most.ensures ∙ ap (λ (ks : List Key). turn_of p.pace ks c.args.quantum) c.deref.ensures.value in
-    playing-turn steps k c.args.quantum start p next h c.grant-executed.new.host.host c.press_due.ensures.due c.requires
+    playing-turn steps k c.args.quantum start p next h c.grant-executed.new.host.host c.press_due.ensures.due c.requires.some
     (subst (λ (n : ℕ). k ≤ n) most c.grant-executed.ensures.within)
     (λ s at. c.grant-executed.ensures.executed s at ∙ ap (λ (n : ℕ). executed h.system n s) most)
     (c.grant-executed.ensures.host ∙ ap (λ (n : ℕ). after_ask h p.id.0 (Calls (Grant n))) most)

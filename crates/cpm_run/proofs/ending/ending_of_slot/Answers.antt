@@ -1,7 +1,8 @@
 use Rattle.std.proofs.Common.{◌∙◌, Some, ap}
 use Rattle.cpm_slots.specs.Host.{Host, slot_at}
 use Rattle.cpm_slots.specs.HostWithStore.{HostWithStore}
-use Rattle.cpm_run.proofs.EndingLemmas.{ending_seen, looked, looks}
+use Rattle.cpm_play.proofs.HostLemmas.{looked, looks}
+use Rattle.cpm_run.proofs.EndingLemmas.{ending_seen}
 use Rattle.cpm_run.proofs.ending.ending_of_slot.Goals as goal
 
 pub returns-in_default-clause-ending : goal.returns-in_default-clause-ending

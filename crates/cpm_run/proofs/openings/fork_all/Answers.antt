@@ -21,7 +21,7 @@ returns-in-Err-clause-refusal c = λ first h left refuses.
     let inputs = c.args.inputs.now in
     let place = c.loop-place.place in
     let item = c.index-inputs-place.result in
-    c.refused_at.ensures first (starts_read (map given inputs))
+    c.refused_at.ensures first
     (refuses c.in-Err.fault place (not_forked (starts_read (map given inputs)) h place (start_view item.start) c.loop-place.left c.in-Err.fault
     (start_there inputs place item c.loop-place-test.true c.index-inputs-place.is) c.in-Err.ensures.refusal (c.loop-place.invariant h left)))
 

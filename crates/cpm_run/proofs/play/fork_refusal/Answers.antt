@@ -1,4 +1,4 @@
-use Rattle.std.proofs.Common.{◌∙◌, ap, refl, subst}
+use Rattle.std.proofs.Common.{◌∙◌, ap, subst}
 use Rattle.cpm_play.specs.Players.{IsPlayRefusal}
 use Rattle.cpm_play.specs.declared.error.PlayError.{PlayError}
 use Rattle.cpm_play.specs.declared.error.PlayError.TheVariants.{ForkRefused}
@@ -10,12 +10,10 @@ pub returns-in-NoFrames : goal.returns-in-NoFrames
 returns-in-NoFrames c = λ h players r.
     let place = c.in-ForkRefused.place in
     let why = subst (λ (e : PlayError). IsPlayRefusal h players e) (c.in-ForkRefused.is ∙ ap (λ (f : ForkError). ForkRefused place f) c.in-NoFrames.is) r in
-    (c.pages_of_config.ensures, refl, lacks_frames c.args.config.now.sessions.items h players place c.name_at.result.bytes why c.name_at.ensures)
+    lacks_frames c.args.config.now.sessions.items h players place c.name_at.result.bytes why c.name_at.ensures
 
 pub returns-in_default : goal.returns-in_default
 returns-in_default c = λ h players r.
     let place = c.in-ForkRefused.place in
-    let why = subst (λ (e : PlayError). IsPlayRefusal h players e) c.in-ForkRefused.is r in (
-      (λ e. cc),
-      lacks_slots c.args.config.now.sessions.items h players place c.in-ForkRefused.fault c.name_at-in_default.result.bytes c.in_default.not-NoFrames why c.name_at-in_default.ensures,
-    )
+    let why = subst (λ (e : PlayError). IsPlayRefusal h players e) c.in-ForkRefused.is r in
+    lacks_slots c.args.config.now.sessions.items h players place c.in-ForkRefused.fault c.name_at-in_default.result.bytes c.in_default.not-NoFrames why c.name_at-in_default.ensures

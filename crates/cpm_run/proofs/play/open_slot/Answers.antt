@@ -6,10 +6,12 @@ pub returns-in-Ok-clause-opened : goal.returns-in-Ok-clause-opened
 returns-in-Ok-clause-opened c = record {
   accepted = c.in-Ok.ensures.fits;
   host = c.in-Ok.ensures.opened;
-  id = ap (λ (x : SlotId). x.0) c.new.ensures.id ∙ c.in-Ok.ensures.number;
-  keys = c.new.ensures.keys;
-  steps = c.new.ensures.steps;
-  unplayed = c.new.ensures.unplayed;
+  next = record {
+    id = ap (λ (x : SlotId). x.0) c.new.ensures.id ∙ c.in-Ok.ensures.number;
+    keys = c.new.ensures.keys;
+    steps = c.new.ensures.steps;
+    unplayed = c.new.ensures.unplayed;
+  };
 }
 
 pub returns-in-Err-clause-refusal : goal.returns-in-Err-clause-refusal

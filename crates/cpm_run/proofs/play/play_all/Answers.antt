@@ -32,7 +32,7 @@ returns-clause-reports g c =
     let whole : players.len ≡ length players.items = let ok = players.ok.0 in omega (arith, ok) in
     let back = written_back players.len players.items begun c.play.new.players whole c.as_mut_slice.ensures.value c.in-Ok.ensures.played.long in
     (all_finished c.args.system start c.play.new.host.host c.args.config.now.sessions.items c.as_slice.result.now (map settled_view c.args.inputs.items) players.items begun
-    c.play.new.players _ c.in_ok-left.left.0.items c.in_ok-left.left.1.items c.in_ok-host.ensures.system c.as_slice.ensures.value c.as_mut_slice.ensures.value back c.requires.sessions
+    c.play.new.players _ c.in_ok-left.left.0.items c.in_ok-left.left.1.items c.in_ok-host.ensures.system c.in-Ok.ensures.others.system c.as_slice.ensures.value c.as_mut_slice.ensures.value back c.requires.sessions
     c.in_ok-host.ensures.prepared c.in-Ok.ensures.played c.in_ok-left.ensures).0
 
 pub returns-clause-files : goal.returns-clause-files
@@ -43,7 +43,7 @@ returns-clause-files g c =
     let whole : players.len ≡ length players.items = let ok = players.ok.0 in omega (arith, ok) in
     let back = written_back players.len players.items begun c.play.new.players whole c.as_mut_slice.ensures.value c.in-Ok.ensures.played.long in
     (all_finished c.args.system start c.play.new.host.host c.args.config.now.sessions.items c.as_slice.result.now (map settled_view c.args.inputs.items) players.items begun
-    c.play.new.players _ c.in_ok-left.left.0.items c.in_ok-left.left.1.items c.in_ok-host.ensures.system c.as_slice.ensures.value c.as_mut_slice.ensures.value back c.requires.sessions
+    c.play.new.players _ c.in_ok-left.left.0.items c.in_ok-left.left.1.items c.in_ok-host.ensures.system c.in-Ok.ensures.others.system c.as_slice.ensures.value c.as_mut_slice.ensures.value back c.requires.sessions
     c.in_ok-host.ensures.prepared c.in-Ok.ensures.played c.in_ok-left.ensures).1
 
 pub returns-clause-accepted : goal.returns-clause-accepted
@@ -57,5 +57,5 @@ returns-in-Err-clause-refusal g c =
     let start = c.in_ok-host.host.host in
     let inputs = map settled_view c.args.inputs.items in
     let players = c.in_ok-host.players.items in
-    fork_refused c.args.config.now (new_host c.args.system c.args.config.now.frames) start inputs players c.fork_refusal.result c.in_ok-host.ensures.prepared c.in_ok-host.ensures.short
+    fork_refused c.args.config.now.sessions.items (new_host c.args.system c.args.config.now.frames) start inputs players c.fork_refusal.result c.in_ok-host.ensures.prepared c.in_ok-host.ensures.short
     (c.fork_refusal.ensures start players (rw (sym c.as_mut_slice.ensures.value) c.in-Err.ensures.refused))

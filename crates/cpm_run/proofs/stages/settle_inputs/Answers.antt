@@ -22,17 +22,17 @@ pub settle-requires-clause-openable : goal.settle-requires-clause-openable
 settle-requires-clause-openable g c =
     let inputs = map given c.args.inputs.items in
     accepted_openable (starts_read inputs) (new_host c.args.system.now c.args.config.now.frames) (starts_read inputs)
-    ((rw (c.as_slice-sessions.ensures.value) at c.in_ok-judge_openings.ensures.accepted) c.args.system.now)
+    (rw (c.as_slice-sessions.ensures.value) at c.in_ok-judge_openings.ensures.accepted)
 
 pub returns-in_err-judge_openings-clause-refusal : goal.returns-in_err-judge_openings-clause-refusal
 returns-in_err-judge_openings-clause-refusal g c =
     let p = err_from_is_err_and c.from_residual.result c.from_residual.ensures.1 in
     rw (p.1, p.2) (sessions_refused c.args.config.now c.args.options _ c.args.system.now (map given c.args.inputs.items) c.in_err-judge_openings.field-0.0
-    (record { unread = refl; unwritten = refl; unrecorded = refl }) ((rw (c.as_slice-sessions.ensures.value) at c.in_err-judge_openings.ensures.refusal) c.args.system.now))
+    (record { unread = refl; unwritten = refl; unrecorded = refl }) (rw (c.as_slice-sessions.ensures.value) at c.in_err-judge_openings.ensures.refusal))
 
 pub returns-in_err-settled-clause-refusal : goal.returns-in_err-settled-clause-refusal
 returns-in_err-settled-clause-refusal g c =
     let p = err_from_is_err_and c.from_residual-in_err-settled.result c.from_residual-in_err-settled.ensures.1 in
     rw (p.1, p.2) (settle_refused_as c.args.config.now c.args.options _ c.args.system.now (map given c.args.inputs.items) c.in_ok-heard.heard _ c.in_err-settled.field-0.0 refl
-    ((rw (c.as_slice-sessions.ensures.value) at c.in_ok-judge_openings.ensures.accepted) c.args.system.now) (rw (c.as_slice-sessions.ensures.value) at c.in_ok-heard.ensures.typed)
+    (rw (c.as_slice-sessions.ensures.value) at c.in_ok-judge_openings.ensures.accepted) (rw (c.as_slice-sessions.ensures.value) at c.in_ok-heard.ensures.typed)
     c.in_err-settled.ensures.refusal)

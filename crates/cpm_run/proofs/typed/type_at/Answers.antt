@@ -31,7 +31,7 @@ returns-clause-typed g c =
       played = subst (λ (m : MachineState). IsTypedPlay (sitting unread.is_patient system m most_steps cues) unread left keys done play.end) same played.played;
       text = subst (λ (m : MachineState). Appends before written (alone_by system keys done m).session.console.screen) same played.text;
       lines = played.record;
-      long = let greatest = c.max.ensures in let last = c.last_fork.ensures in omega arith;
+      long = let greatest = c.max.ensures in let last = c.last_fork.ensures in let less = c.saturating_sub-last.ensures in let from = c.saved_count.ensures in omega arith;
     }
 
 pub returns-in_err-play-clause-refusal : goal.returns-in_err-play-clause-refusal

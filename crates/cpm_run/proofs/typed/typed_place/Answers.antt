@@ -1,4 +1,4 @@
-use Rattle.std.proofs.Common.{◌∙◌, ap, arith, subst, sym}
+use Rattle.std.proofs.Common.{◌∙◌, ⊎_elim, ap, arith, subst, sym}
 use Rattle.cpm_config.specs.Rules.{is_opened, origin_view}
 use Rattle.cpm_config.specs.declared.config.Origin.{Origin}
 use Rattle.cpm_run.specs.Refusing.{IsForkOrigin}
@@ -17,7 +17,7 @@ bounds-sessions-place c = place_within c.in-Some.name.now c.as_slice-sessions.re
 pub returns-in-Opened-clause-place : goal.returns-in-Opened-clause-place
 returns-in-Opened-clause-place c =
     place_typed c.args.config.now c.args.options c.in-Some.name c.in-Some-place_of.place c.as_slice-sessions.result.now c.index-sessions-place.result c.in-Some.is c.as_slice-sessions.ensures.value
-    (sym c.place_of.ensures ∙ c.in-Some-place_of.is) (ap (λ (o : Origin). is_opened (origin_view o)) c.in-Opened.is)
+    (sym c.place_of.ensures ∙ c.in-Some-place_of.is) (⊎_elim (λ opens. ap (λ (o : Origin). is_opened (origin_view o)) opens.3) (λ restores. ap (λ (o : Origin). is_opened (origin_view o)) restores.1) c.in-Opened.is)
 
 pub returns-in-Forked-clause-refusal : goal.returns-in-Forked-clause-refusal
 returns-in-Forked-clause-refusal c =

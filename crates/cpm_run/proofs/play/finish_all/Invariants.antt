@@ -1,7 +1,0 @@
-use Rattle.std.specs.Vec.Iter.{into_iter_items}
-use Rattle.cpm_run.proofs.FinishLemmas.{IsFinishing}
-use Rattle.cpm_run.proofs.play.finish_all.Given as goal
-
-abbrev pub invariant-loop-session : goal.invariant-loop-session
-invariant-loop-session l =
-    IsFinishing l.sessions l.session-index l.fn.host.host.slots l.host.host.slots l.fn.players.items (into_iter_items l.rest) l.reports.items l.files.items
