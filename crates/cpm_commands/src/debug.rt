@@ -53,11 +53,7 @@ pub fn debug_program<F: CommandFiles, I: BufRead, W: Write>(
 }
 
 /// A saved machine that goes on over this system drive.
-fn going_on(
-    alloc: Global,
-    saved: Box<SavedMachine>,
-    system: Option<Image>,
-) -> ProgramStart
+fn going_on(alloc: Global, saved: Box<SavedMachine>, system: Option<Image>) -> ProgramStart
     ensures { program_given result ≡ going_on (saving_view saved.value) system }
 {
     ProgramStart {
