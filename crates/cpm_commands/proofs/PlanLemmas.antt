@@ -10,10 +10,14 @@ use Rattle.cpm_batch.specs.declared.source.Replay.{Replay}
 use Rattle.cpm_batch.specs.Outputs.{SessionOutput, files_of, files_of_all, image_at, image_outputs, named_bytes, named_image, named_images, named_saving}
 use Rattle.cpm_batch.specs.Reads.{AreImagesRead, AreInputsRead, AreRead, IsForkedSaidRead, IsInputReadOf, IsSaidRead}
 use Rattle.cpm_command_line.specs.declared.task.RunTask.{RunTask}
+use Rattle.cpm_config.specs.Files.{NamedFile, all_named, all_named_if_any, named_if_any, output_files}
+use Rattle.cpm_config.specs.Rules.{texts_of_strings}
 use Rattle.cpm_config.specs.declared.config.Config.{Config}
 use Rattle.cpm_config.specs.declared.config.Origin.{Origin}
 use Rattle.cpm_config.specs.declared.config.Origin.TheVariants.{Opened, Forked, Restored}
 use Rattle.cpm_config.specs.declared.config.SessionConfig.{SessionConfig}
+use Rattle.cpm_config.specs.declared.field.Field.{Field}
+use Rattle.cpm_config.specs.declared.field.Field.TheVariants.{List as ListKey, Out, Save}
 use Rattle.cpm_command_line.specs.declared.task.PlayTask.{PlayTask}
 use Rattle.cpm_disk_commands.specs.declared.damage.NamedFile.{NamedFile}
 use Rattle.cpm_geom.specs.Disk.{Disk}
@@ -40,7 +44,7 @@ use Rattle.cpm_commands.specs.Plan.{Plan, PlannedName, all_planned, planned_if_a
 use Rattle.cpm_play.specs.declared.live.PlayEnd.{PlayEnd}
 use Rattle.cpm_run.specs.declared.ending.Ending.{Ending}
 use Rattle.cpm_run.specs.declared.report.SessionReport.{SessionReport}
-use Rattle.cpm_commands.specs.Run.{HasRunAll, beginning_named, images_named, plan_by, record_mark, record_marks, session_inputs, session_outputs}
+use Rattle.cpm_commands.specs.Run.{HasRunAll, beginning_named, plan_by, planned_file, record_mark, record_marks, role_of, session_inputs, session_outputs}
 use Rattle.cpm_commands.specs.declared.drives.DrivePlace.{DrivePlace}
 use Rattle.cpm_commands.specs.declared.drives.DrivePlace.TheVariants as from
 use Rattle.cpm_commands.specs.declared.drives.PlacedFile.{PlacedFile}
@@ -105,12 +109,28 @@ module _ (P : StoreName → Type 0) where
   image_at_such role names drives place such =
       image_such role (option_map string_bytes (slice_get names place)) (slice_index_or drives place None) (name_such role names place such)
 
-  images_such : (role : FileRole) (names : Option (Vec (String Global) Global)) (drives : List (Option Disk)) → AreSuch (all_planned role (images_named names))
+  -- the files of a session, by the list that names them
+  AreSuchNamed : List NamedFile → Type 0
+  AreSuchNamed fs = AreSuch (map planned_file fs)
+
+  named_apart : (fs gs : List NamedFile) → AreSuchNamed (fs ++ gs) → AreSuchNamed fs × AreSuchNamed gs
+  named_apart [] gs such = (tt, such)
+  named_apart (f ∷ fs) gs such = let rest = named_apart fs gs such.1 in ((such.0, rest.0), rest.1)
+
+  name_planned : (key : Field) (name : Option StoreName) → AreSuchNamed (named_if_any key name) → AreSuch (planned_if_any (role_of key) name)
+  name_planned key None such = tt
+  name_planned key (Some name) such = (such.0, tt)
+
+  names_planned : (key : Field) (names : List StoreName) → AreSuchNamed (all_named key names) → AreSuch (all_planned (role_of key) names)
+  names_planned key [] such = tt
+  names_planned key (name ∷ names) such = (such.0, names_planned key names such.1)
+
+  images_such : (names : Option (Vec (String Global) Global)) (drives : List (Option Disk)) → AreSuchNamed (all_named_if_any Out (option_map texts_of_strings names))
       → AreSuchFiles (named_images names drives)
   unfolding image_outputs
-  images_such role None drives such = no_files
-  images_such role (Some names) drives such =
-      let at = λ (place : ℕ). image_at_such role names.items drives place such in
+  images_such None drives such = no_files
+  images_such (Some names) drives such =
+      let at = λ (place : ℕ). image_at_such Image names.items drives place (names_planned Out (map string_bytes names.items) such) in
       files_joined (image_at names.items drives 0) _ (at 0) (files_joined (image_at names.items drives 1) _ (at 1) (files_joined (image_at names.items drives 2) _ (at 2) (at 3)))
 
   saving_such : (role : FileRole) (name : Option StoreName) (saved : Option (List ℕ)) → AreSuch (planned_if_any role name) → AreSuchFiles (named_saving name saved)
@@ -122,15 +142,15 @@ module _ (P : StoreName → Type 0) where
       let s = o.session in
       let list_name = option_map string_bytes s.list in
       let save_name = option_map string_bytes s.save in
-      let listed = planned_if_any Plain list_name in
-      let imaged = all_planned Image (images_named s.out) in
-      let saved = planned_if_any SavingFile save_name in
-      let behind = such_right listed (imaged ++ saved) such.1 in
+      let imaged = all_named_if_any Out (option_map texts_of_strings s.out) in
+      let saved = named_if_any Save save_name in
+      let listed = named_apart (named_if_any ListKey list_name) (imaged ++ saved) such.1 in
+      let behind = named_apart imaged saved listed.1 in
       file_more (string_bytes s.console) o.console _ such.0
       (files_joined (named_bytes list_name o.list) (named_images s.out o.drives ++ named_saving save_name o.saved)
-      (bytes_such Plain list_name o.list (such_left listed (imaged ++ saved) such.1))
-      (files_joined (named_images s.out o.drives) (named_saving save_name o.saved) (images_such Image s.out o.drives (such_left imaged saved behind))
-      (saving_such SavingFile save_name o.saved (such_right imaged saved behind))))
+      (bytes_such Plain list_name o.list (name_planned ListKey list_name listed.0))
+      (files_joined (named_images s.out o.drives) (named_saving save_name o.saved) (images_such s.out o.drives behind.0)
+      (saving_such SavingFile save_name o.saved (name_planned Save save_name behind.1))))
 
   -- those that sessions leave
   pub left_such : (system : Disk) (f left : SettledSession → MachineState) (ss : List SettledSession) → AreSuch (flat_map session_outputs (map (λ s. s.session) ss))

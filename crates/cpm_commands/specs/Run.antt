@@ -5,12 +5,15 @@ use Rattle.std.specs.declared.alloc.Global.{Global}
 use Rattle.cpm_batch.specs.Sources.{key_file, key_source}
 use Rattle.cpm_batch.specs.declared.source.Replay.{Replay}
 use Rattle.cpm_command_line.specs.declared.task.RunTask.{RunTask}
-use Rattle.cpm_config.specs.Rules.{IsRead}
+use Rattle.cpm_config.specs.Files.{NamedFile, output_files}
+use Rattle.cpm_config.specs.Rules.{IsRead, session_view}
 use Rattle.cpm_config.specs.declared.config.Config.{Config}
 use Rattle.cpm_config.specs.declared.config.Origin.{Origin}
 use Rattle.cpm_config.specs.declared.config.Origin.TheVariants.{Opened, Forked, Restored}
 use Rattle.cpm_config.specs.declared.config.SessionConfig.{SessionConfig}
 use Rattle.cpm_config.specs.declared.fault.ConfigError.{ConfigError}
+use Rattle.cpm_config.specs.declared.field.Field.{Field}
+use Rattle.cpm_config.specs.declared.field.Field.TheVariants as field
 use Rattle.cpm_host.specs.Refusals.{host_error_of_config, host_error_of_run}
 use Rattle.cpm_host.specs.declared.error.HostError.{HostError}
 use Rattle.cpm_host.specs.declared.error.HostError.TheVariants.{OutOfMemory}
@@ -31,6 +34,7 @@ use Rattle.cpm_commands.specs.Record.{IsUnrecorded}
 use Rattle.cpm_commands.specs.Replays.{IsReplayRefusal, replay_view, replays_from}
 use Rattle.cpm_commands.specs.Report.{IsReported, IsUnprinted, report_text}
 use Rattle.cpm_commands.specs.Typed.{IsScriptKept, is_typed_at, typed_script}
+use Rattle.cpm_commands.specs.declared.plan.FileRole.{FileRole}
 use Rattle.cpm_commands.specs.declared.plan.FileRole.TheVariants.{Configuration, Image, Plain, Saving, Script}
 use Rattle.cpm_commands.specs.declared.plan.OutputNaming.TheVariants.{Replaces}
 
@@ -54,20 +58,22 @@ beginning_named (Opened cpu quota drives) = all_planned Image (map string_bytes 
 beginning_named (Forked parent at) = []
 beginning_named (Restored saving) = planned (string_bytes saving) Saving ∷ []
 
-abbrev pub images_named : Option (Vec (String Global) Global) → List StoreName
-images_named None = []
-images_named (Some names) = map string_bytes names.items
-
 -- what a session reads: what it begins with, and its script, or the recording in place of that
 abbrev pub session_inputs : List Replay → SessionConfig → List PlannedName
 session_inputs replays s = beginning_named s.origin ++ planned_if_any Plain (key_file (key_source replays s))
 
--- what it writes: the text of its console, that of its list device, its drives and its saving, as far as files are named for them
+-- what a file is that a session names by this key: its drives are images, and `save` names a saving
+abbrev pub role_of : Field → FileRole
+role_of field.Out = Image
+role_of field.Save = Saving
+role_of key = Plain
+
+abbrev pub planned_file : NamedFile → PlannedName
+planned_file f = planned f.name (role_of f.key)
+
+-- what it writes
 abbrev pub session_outputs : SessionConfig → List PlannedName
-session_outputs s =
-    planned (string_bytes s.console) Plain
-    ∷ (planned_if_any Plain (option_map string_bytes s.list)
-    ++ (all_planned Image (images_named s.out) ++ planned_if_any Saving (option_map string_bytes s.save)))
+session_outputs s = map planned_file (output_files (session_view s))
 
 -- what a run reads, in this order: the configuration, the system drive, and what each session does
 abbrev pub run_inputs : StoreName → Config → List Replay → List PlannedName

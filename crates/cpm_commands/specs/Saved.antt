@@ -21,7 +21,7 @@ pub data IsSavingUntold {F W : Type 0} (does : F → StoreAccess → F → Type 
     : Type 0 where
   NoSaving : (bytes : List ℕ) → does old (Gave file bytes) new → IsSavingRefusal file bytes e → printed ≡ before
       → IsSavingUntold does file old new before printed e
-  NotPrinted : (bytes : List ℕ) (saving : Saving) → does old (Gave file bytes) new → restored bytes ≡ Ok saving → IsUntold e
+  NotPrinted : (bytes : List ℕ) (saving : Saving) → does old (Gave file bytes) new → restored bytes ≡ Ok saving → IsUntold before printed e
       → IsSavingUntold does file old new before printed e
 
 -- the file can't be read, and nothing is printed; or what it gave isn't told

@@ -7,8 +7,7 @@ ghost use Rattle.cpm_commands.specs.Report.{IsReported, report_text};
 ghost use Rattle.cpm_commands.specs.Replays.{IsReplayRefusal};
 ghost use Rattle.cpm_commands.specs.Run.{ArePlayedBack, HasRunAll, HasRunSessions, IsConfigRead, IsConfigRefused, IsEndStopped, IsRunAllStopped, IsRunStopped};
 ghost use Rattle.cpm_commands.specs.Run.{IsRunUnseen, plan_by, plan_of_run, record_mark, record_marks, run_inputs, run_outputs, script_names};
-ghost use Rattle.cpm_commands.specs.Run.{beginning_named, images_named, session_inputs, session_outputs};
-ghost use Rattle.cpm_commands.specs.declared.plan.FileRole.TheVariants.{Image};
+ghost use Rattle.cpm_commands.specs.Run.{beginning_named, role_of, session_inputs, session_outputs};
 ghost use Rattle.cpm_commands.specs.Typed.{IsScriptKept, is_typed_at, typed_script};
 ghost use Rattle.cpm_run.specs.Settled.{streams};
 
@@ -22,6 +21,7 @@ use crate::replays::replays_of;
 use crate::report::{LineWriter, print_report};
 use crate::typed::is_typed_at;
 use cpm_batch::{Replay, key_file};
+use cpm_config::Field;
 use cpm_host::{
     Config, HostError, Origin, RecordFile, Report, RunOptions, RunTask, RunWatcher, SessionConfig,
     Typist, run_host,
@@ -93,30 +93,30 @@ fn add_inputs<'a>(
     add_if_any(files, key_file(replays, session), FileRole::Plain)
 }
 
-/// Adds the images of a session's drives, where files are named for them.
-fn add_images<'a>(
-    files: &mut Vec<PlannedFile<'a>>,
-    names: &'a Option<Vec<String>>,
-) -> Result<(), AllocError>
-    ensures { OnOk result (named_files files.new.items ≡ named_files files.old.items ++ all_planned Image (images_named names.entry.now)) }
+/// What a file is that a session names by this key.
+fn role_of(key: Field) -> FileRole
+    ensures { result ≡ role_of key }
 {
-    match names {
-        Some(names) => add_strings(files, names, FileRole::Image),
-        None => Ok(()),
+    match key {
+        Field::Out => FileRole::Image,
+        Field::Save => FileRole::Saving,
+        _ => FileRole::Plain,
     }
 }
 
-/// Adds the text of a session's console, that of its list device, its drives and its saving, as far as files are named for them.
+/// Adds the files that a session writes.
 fn add_outputs<'a>(
+    alloc: Global,
     files: &mut Vec<PlannedFile<'a>>,
     session: &'a SessionConfig,
 ) -> Result<(), AllocError>
     ensures { OnOk result (named_files files.new.items ≡ named_files files.old.items ++ session_outputs session.entry.now) }
 {
-    add_file(files, session.console.as_str(), FileRole::Plain)?;
-    add_if_any(files, session.list.as_deref(), FileRole::Plain)?;
-    add_images(files, &session.out)?;
-    add_if_any(files, session.save.as_deref(), FileRole::Saving)
+    let named = session.output_files(alloc)?;
+    for file in named.as_slice() {
+        add_file(files, file.name, role_of(file.key))?;
+    }
+    Ok(())
 }
 
 /// The files that a run reads.
@@ -149,7 +149,7 @@ fn outputs_of<'a>(
 {
     let mut outputs = Vec::new(alloc);
     for session in &config.sessions {
-        add_outputs(&mut outputs, session)?;
+        add_outputs(alloc, &mut outputs, session)?;
     }
     add_if_any(&mut outputs, record, FileRole::Plain)?;
     add_strings(&mut outputs, scripts, FileRole::Script)?;

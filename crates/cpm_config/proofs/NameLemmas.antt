@@ -7,7 +7,7 @@ use Rattle.std.proofs.lemmas.List.{drop_more, map_more}
 use Rattle.cpm_config.specs.Entries.{Text}
 use Rattle.cpm_config.specs.Rules.{PlacedName, is_among, name_placed, repeated_after}
 use Rattle.cpm_config.specs.declared.field.Field.TheVariants.{Frames}
-use Rattle.cpm_config.specs.declared.draft.SessionDraft.{SessionDraft}
+use Rattle.cpm_config.specs.declared.config.SessionConfig.{SessionConfig}
 use Rattle.cpm_config.specs.declared.names.NameUse.{NameUse}
 
 among-placed : (ns : List NameUse) (t : Text) → list_any (λ n. bytes_eq n.name.now t) ns ≡ is_among (map name_placed ns) t
@@ -36,5 +36,5 @@ pub placed_step : (done new one rest : List PlacedName) → new ≡ done ++ one 
 placed_step done new one rest more = ap (λ (ps : List PlacedName). ps ++ rest) more ∙ append_assoc done one rest
 
 -- a session at a place, with those after it
-pub session_at : (ss : List SessionDraft) (i : ℕ) (s : SessionDraft) → i < length ss → s ≡ get_or ss i s → s ∷ drop (i + 1) ss ≡ drop i ss
-session_at ss i s within is = ap (λ (t : SessionDraft). t ∷ drop (i + 1) ss) is ∙ sym (drop_more ss i s within)
+pub session_at : (ss : List SessionConfig) (i : ℕ) (s : SessionConfig) → i < length ss → s ≡ get_or ss i s → s ∷ drop (i + 1) ss ≡ drop i ss
+session_at ss i s within is = ap (λ (t : SessionConfig). t ∷ drop (i + 1) ss) is ∙ sym (drop_more ss i s within)

@@ -9,6 +9,7 @@ use Rattle.toml.specs.Parse.{parse_document}
 use Rattle.cpm_flags.specs.declared.regs.Cpu.{Cpu}
 use Rattle.cpm_flags.specs.declared.regs.Cpu.TheVariants.{I8080, Z80}
 use Rattle.cpm_config.specs.Entries.{ConfigEntries, OriginEntries, Opens, Forks, Restores, SessionEntries, Text, config_in, config_key, top}
+use Rattle.cpm_config.specs.Files.{NamedFile, output_files}
 use Rattle.cpm_config.specs.declared.config.Config.{Config}
 use Rattle.cpm_config.specs.declared.config.Origin.{Origin}
 use Rattle.cpm_config.specs.declared.config.Origin.TheVariants as origin
@@ -210,21 +211,13 @@ abbrev pub session_names : ℕ → List SessionEntries → List PlacedName
 session_names n [] = []
 session_names n (s ∷ ss) = (config_key n field.Name, s.name) ∷ session_names (n + 1) ss
 
-abbrev pub placed_if_any : ConfigKey → Option Text → List PlacedName
-placed_if_any p None = []
-placed_if_any p (Some t) = (p, t) ∷ []
-
-abbrev pub all_placed : ConfigKey → List Text → List PlacedName
-all_placed p = map (λ t. (p, t))
-
-abbrev pub all_placed_if_any : ConfigKey → Option (List Text) → List PlacedName
-all_placed_if_any p None = []
-all_placed_if_any p (Some ts) = all_placed p ts
+-- the name of a file of the session with this number
+abbrev pub file_placed : ℕ → NamedFile → PlacedName
+file_placed n f = (config_key n f.key, f.name)
 
 -- the files that a session writes
 abbrev pub file_names_of : ℕ → SessionEntries → List PlacedName
-file_names_of n s = (config_key n field.Console, s.console) ∷ (placed_if_any (config_key n field.List) s.list
-    ++ (all_placed_if_any (config_key n field.Out) s.out ++ placed_if_any (config_key n field.Save) s.save))
+file_names_of n s = map (file_placed n) (output_files s)
 
 abbrev pub file_names_of_all : ℕ → List SessionEntries → List PlacedName
 file_names_of_all n [] = []

@@ -118,13 +118,12 @@ fn judged(alloc: Global, bytes: &[u8], table: &Table) -> Result<Config, ConfigEr
     if let Some(place) = range_fault(&draft) {
         return Err(ConfigError::Range(place));
     }
-    match twice_fault(alloc, &draft) {
-        Ok(Some(place)) => return Err(ConfigError::Twice(place)),
-        Ok(None) => {}
-        Err(_) => return Err(ConfigError::OutOfMemory),
-    }
-    match config_of(alloc, &draft) {
-        Ok(config) => Ok(config),
+    let Ok(config) = config_of(alloc, &draft) else {
+        return Err(ConfigError::OutOfMemory);
+    };
+    match twice_fault(alloc, &config) {
+        Ok(Some(place)) => Err(ConfigError::Twice(place)),
+        Ok(None) => Ok(config),
         Err(_) => Err(ConfigError::OutOfMemory),
     }
 }

@@ -121,9 +121,17 @@ drives_told a b c d s0 s1 s2 s3 s4 first second third fourth =
       (first.0, three, refl, first.2, (second.0, both, refl, second.2, (third.0, last, refl, third.2, (fourth.0, [], refl, fourth.2, refl)))),
     )
 
-pub saved_told : (x : Saving) (bytes : List ℕ) (drives : List (Option Disk)) (before middle after flushed : Option (List ℕ)) → bytes ≡ machine_text x → drives ≡ images_of x.state.session.disks →
-    Appends before middle bytes → HasAppended middle after (AreDrivesTold drives) → Keeps after flushed → HasAppended before flushed (IsSavedTold x)
-saved_told x bytes drives before middle after flushed is_text are_drives first rest kept =
+pub machine_told : (x : Saving) (bytes : List ℕ) (drives : List (Option Disk)) (before middle after : Option (List ℕ)) → bytes ≡ machine_text x → drives ≡ images_of x.state.session.disks →
+    Appends before middle bytes → HasAppended middle after (AreDrivesTold drives) → HasAppended before after (IsSavedTold x)
+machine_told x bytes drives before middle after is_text are_drives first rest =
     let lined = subst (λ (bs : List ℕ). Appends before middle bs) is_text first in
     let told = subst (λ (ds : List (Option Disk)). AreDrivesTold ds rest.0) are_drives rest.2 in
-    (machine_text x ++ rest.0, Appends-kept before after flushed _ (Appends-trans before middle after _ _ lined rest.1) kept, (rest.0, refl, told))
+    (machine_text x ++ rest.0, Appends-trans before middle after _ _ lined rest.1, (rest.0, refl, told))
+
+-- what a vector has got that was empty
+pub told_text : (x : Saving) (got : List ℕ) → HasAppended (Some []) (Some got) (IsSavedTold x) → IsSavedTold x got
+told_text x got told = subst (IsSavedTold x) (sym told.1) told.2
+
+pub saved_told : (x : Saving) (text : List ℕ) (before written flushed : Option (List ℕ)) → IsSavedTold x text → Appends before written text → Keeps written flushed →
+    HasAppended before flushed (IsSavedTold x)
+saved_told x text before written flushed told wrote kept = (text, Appends-kept before written flushed text wrote kept, told)

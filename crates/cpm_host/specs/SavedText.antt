@@ -79,8 +79,12 @@ IsSavedTold x text = (rest : List ℕ) × (text ≡ machine_text x ++ rest) × A
 abbrev pub HasAppended : (before after : Option (List ℕ)) → (List ℕ → Type 0) → Type 0
 HasAppended before after IsSuch = (text : List ℕ) × Appends before after text × IsSuch text
 
--- it can't be written, or memory was refused
-abbrev pub IsUntold : HostError → Type 0
-IsUntold (OutputUnwritable reason) = ⊤
-IsUntold OutOfMemory = ⊤
-IsUntold _ = ⊥
+-- it can't be written
+abbrev pub IsUnwritten : HostError → Type 0
+IsUnwritten (OutputUnwritable reason) = ⊤
+IsUnwritten _ = ⊥
+
+-- all of it can't be written; or memory was refused, and nothing is
+abbrev pub IsUntold : {W : Type 0} → (before after : W) → HostError → Type 0
+IsUntold before after OutOfMemory = after ≡ before
+IsUntold before after e = IsUnwritten e

@@ -2,7 +2,7 @@
 ghost use Rattle.std.specs.Prelude.{◌≡◌, IfErr, IfOk, OnOk, string_bytes};
 ghost use Rattle.std.specs.Io.KnownBytes.{Appends};
 ghost use Rattle.cpm_batch.specs.Savings.{saving_view};
-ghost use Rattle.cpm_host.specs.SavedText.{AreDrivesTold, HasAppended, IsDriveToldIfAny, IsSavedTold, IsUntold, machine_text};
+ghost use Rattle.cpm_host.specs.SavedText.{AreDrivesTold, HasAppended, IsDriveToldIfAny, IsSavedTold, IsUntold, IsUnwritten, machine_text};
 ghost use Rattle.cpm_host.specs.SavedText.{processor_word, program_words, waiting_words};
 
 use crate::error::HostError;
@@ -64,7 +64,7 @@ fn machine_text(alloc: Global, saved: &SavedMachine) -> Result<String, AllocErro
 /// Writes a text.
 fn write_text<W: Write>(out: &mut W, text: &[u8]) -> Result<(), HostError>
     ensures written { OnOk result (Appends (W.contents out.old) (W.contents out.new) text.now) }
-    ensures refusal { IfErr result IsUntold }
+    ensures refusal { IfErr result IsUnwritten }
 {
     match out.write_all(text) {
         Ok(()) => Ok(()),
@@ -80,7 +80,6 @@ fn tell_drive<W: Write>(
     out: &mut W,
 ) -> Result<(), HostError>
     ensures told { OnOk result (HasAppended (W.contents out.old) (W.contents out.new) (IsDriveToldIfAny letter.now drive.now)) }
-    ensures refusal { IfErr result IsUntold }
 {
     let Some(image) = drive else {
         return Ok(());
@@ -102,7 +101,6 @@ fn tell_drives<W: Write>(
     out: &mut W,
 ) -> Result<(), HostError>
     ensures told { OnOk result (HasAppended (W.contents out.old) (W.contents out.new) (AreDrivesTold drives.now)) }
-    ensures refusal { IfErr result IsUntold }
 {
     let [first, second, third, fourth] = drives;
     tell_drive(alloc, "A", first, out)?;
@@ -111,18 +109,43 @@ fn tell_drives<W: Write>(
     tell_drive(alloc, "D", fourth, out)
 }
 
-/// Tells what a saved machine is: the version of its format, its processor, how it ended or that it runs and whether it waits for a key, its registers and
-/// its count, its pages, the digest of its system drive, and its drives with their files.
-///
-/// `OutputUnwritable` has the error of the writer, who may have got the beginning. `OutOfMemory` comes only where memory is refused.
-pub fn run_saved<W: Write>(alloc: Global, saved: SavedMachine, out: &mut W) -> Result<(), HostError>
+/// Tells all of it.
+fn tell_machine<W: Write>(
+    alloc: Global,
+    saved: SavedMachine,
+    out: &mut W,
+) -> Result<(), HostError>
     ensures told { OnOk result (HasAppended (W.contents out.old) (W.contents out.new) (IsSavedTold (saving_view saved))) }
-    ensures refusal { IfErr result IsUntold }
 {
     let text = machine_text(alloc, &saved)?;
     write_text(out, text.as_bytes())?;
     let Closed { drives, .. } = saved.machine.finish();
-    tell_drives(alloc, &drives, out)?;
+    tell_drives(alloc, &drives, out)
+}
+
+/// What a saved machine is, as a text.
+fn saved_text(alloc: Global, saved: SavedMachine) -> Result<Vec<u8>, AllocError>
+    ensures { IfOk result (λ text. IsSavedTold (saving_view saved) text.items) }
+{
+    let mut text = Vec::new(alloc);
+    match tell_machine(alloc, saved, &mut text) {
+        Ok(()) => Ok(text),
+        // (a vector takes all that there is memory for)
+        Err(_) => Err(AllocError),
+    }
+}
+
+/// Tells what a saved machine is: the version of its format, its processor, how it ended or that it runs and whether it waits for a key, its registers and
+/// its count, its pages, the digest of its system drive, and its drives with their files.
+///
+/// `OutputUnwritable` has the error of the writer, who may have got the beginning. `OutOfMemory` comes only where memory is refused, and then nothing is
+/// written.
+pub fn run_saved<W: Write>(alloc: Global, saved: SavedMachine, out: &mut W) -> Result<(), HostError>
+    ensures told { OnOk result (HasAppended (W.contents out.old) (W.contents out.new) (IsSavedTold (saving_view saved))) }
+    ensures refusal { IfErr result (IsUntold out.old out.new) }
+{
+    let text = saved_text(alloc, saved)?;
+    write_text(out, text.as_slice())?;
     match out.flush() {
         Ok(()) => Ok(()),
         Err(reason) => Err(HostError::OutputUnwritable(reason)),
