@@ -208,6 +208,9 @@ turn-counted system left address chosen most k old new first now look why at lon
 abbrev pub LeavesTurn : (left rest : ℕ) → Type 0
 LeavesTurn left rest = (longest_turn ≤ left) ⊎ (left ≡ rest)
 
+pub leaves-least : (most rest left : ℕ) → longest_turn ≤ most → left ≡ min most rest → LeavesTurn left rest
+leaves-least most rest left long least = ⊎_elim (λ early. inl (omega arith)) (λ late. inr (omega arith)) (cases_lt most rest)
+
 module _ {system : Disk} {steps most : ℕ} {start now : MachineState} {before written : OutputState} {unrecorded record_now : Option (List ℕ)} {keys : List Key} {done : ℕ}
     (going : IsGoing system steps most start now before written unrecorded record_now keys done) where
   -- a turn in which it polls steadily, after which steps are left
@@ -230,10 +233,10 @@ module _ {system : Disk} {steps most : ℕ} {start now : MachineState} {before w
     turned-bare : length turned.session.console.screen ≡ 0
     turned-bare =
         let here : screen_at system start keys done ≡ screen_at system start keys n = (p.calm done low (omega arith)).still in
-        let then : screen_at system start keys (done + k) ≡ screen_at system start keys n = calm-there.still in
+        let later : screen_at system start keys (done + k) ≡ screen_at system start keys n = calm-there.still in
         let shows = ap length (going-shows going k) ∙ length-append (screen_at system start keys done) (after system k now).session.console.screen in
         let a : length (screen_at system start keys done) ≡ length (screen_at system start keys n) = ap length here in
-        let b : length (screen_at system start keys (done + k)) ≡ length (screen_at system start keys n) = ap length then in
+        let b : length (screen_at system start keys (done + k)) ≡ length (screen_at system start keys n) = ap length later in
         let c : length turned.session.console.screen ≡ length (after system k now).session.console.screen = ap (λ (s : MachineState). length s.session.console.screen) there in
         omega arith
 
@@ -330,7 +333,14 @@ module _ {system : Disk} {steps most : ℕ} {start now : MachineState} {before w
             let polls : next.polls ≡ min (watch.polls + 1) (2 ^ 32 - 1) = ap (λ (w : Watch). w.polls) seen in
             credit-called by watch next turns few (omega arith) (ap (λ (w : Watch). w.quantum) seen) credit
 
--- -- at patiently stands
+-- a turn is no shorter than the one before
+quick-after : (watch : Watch) (look : Look) (why : Why) → first_quantum ≤ watch.quantum → first_quantum ≤ (watch_after watch look why).quantum
+quick-after watch look Break quick = quick
+quick-after watch look All quick = omega arith
+quick-after watch look Stopped quick = omega arith
+quick-after watch look Blocked quick = omega arith
+
+-- ---- how a session that is typed at patiently stands
 
 -- The first turns are long enough. For each count from which on it may have polled steadily: how many turns are left before that is seen, and that these end
 -- in time. And it has polled no longer.
