@@ -144,7 +144,7 @@ module _ (system : Disk) (start : MachineState) where
   steady-sooner keys asks from until sooner less p = record {
     calm = λ i low high. p.calm i low (omega arith);
     often = λ i low high. p.often i low (omega arith);
-    prints = λ i j low more high few. p.prints i j low more (omega arith) few;
+    prints = λ i j low more few high. p.prints i j low more few (omega arith);
   }
 
   -- by other keys that do the same
@@ -158,20 +158,27 @@ module _ (system : Disk) (start : MachineState) where
         let h = p.often i low high in
         let sooner = h.2 in
         (h.0, h.1, h.2, sym (ap asks (same h.0 (omega arith))) ∙ h.3);
-    prints = λ i j low more_than high few.
+    prints = λ i j low more_than few high.
         let a : length (printer_at system start more i) ≡ length (printer_at system start keys i) = ap (λ (s : MachineState). length s.session.console.printer) (same i (omega arith)) in
         let b : length (printer_at system start more j) ≡ length (printer_at system start keys j) = ap (λ (s : MachineState). length s.session.console.printer) (same j high) in
-        let least = p.prints i j low more_than high few in
+        let least = p.prints i j low more_than few high in
         omega arith;
   }
 
 -- ---- a turn
 
-why-all : (all runs first begins : Bool) → all ≡ true → (if all then All else if not runs then Stopped else if not first && begins then Break else Blocked) ≡ All
-why-all all runs first begins e = rw e refl
-
 why-break : (all runs first begins : Bool) → all ≡ false → runs ≡ true → first ≡ false → begins ≡ true → (if all then All else if not runs then Stopped else if not first && begins then Break else Blocked) ≡ Break
 why-break all runs first begins a b c d = rw (a, b, c, d) refl
+
+-- what is watched after a turn that stopped before no call, whatever it stopped for
+no-break : (all runs first begins : Bool) → (all ≡ true) ⊎ (begins ≡ false) → (asks : Bool) (watch : Watch) →
+    watch_by (if all then All else if not runs then Stopped else if not first && begins then Break else Blocked) asks watch ≡ watch_uncalled watch
+no-break true runs first begins none asks watch = refl
+no-break false runs first begins (inl e) asks watch = absurd (true≢false (sym e))
+no-break false false first begins (inr e) asks watch = refl
+no-break false true true begins (inr e) asks watch = refl
+no-break false true false true (inr e) asks watch = absurd (true≢false e)
+no-break false true false false (inr e) asks watch = refl
 
 begins-if : (runs room first begins : Bool) → runs ≡ true → room ≡ true → first ≡ false → ((runs && room) && (first || not begins)) ≡ false → begins ≡ true
 begins-if runs room first true a b c e = refl
@@ -240,16 +247,16 @@ module _ {system : Disk} {steps most : ℕ} {start now : MachineState} {before w
         let c : length turned.session.console.screen ≡ length (after system k now).session.console.screen = ap (λ (s : MachineState). length s.session.console.screen) there in
         omega arith
 
-    turned-few : length turned.session.console.printer ≤ step_output
-    turned-few =
+    turned-few : k < poll_pause → length turned.session.console.printer ≤ step_output
+    turned-few quick =
         let a : length (printer_at system start keys (done + k)) ≡ length going.list + length turned.session.console.printer =
         ap (λ (s : MachineState). length s.session.console.printer) same-there ∙ length-append going.list turned.session.console.printer in
         let b : length going.list ≡ length (printer_at system start keys done) = ap length (going-printer system steps most start now before written unrecorded record_now keys done going) in
         let c = p.prints done (done + k) low (omega arith) (omega arith) (omega arith) in
         omega arith
 
-    turned-room : has_room turned.session.console ≡ true
-    turned-room = room-is (length turned.session.console.screen) (length turned.session.console.printer) (let bare = turned-bare in omega arith) turned-few
+    turned-room : k < poll_pause → has_room turned.session.console ≡ true
+    turned-room quick = room-is (length turned.session.console.screen) (length turned.session.console.printer) (let bare = turned-bare in omega arith) (turned-few quick)
 
     turn-longest : IsLongest (λ i. can_go_on (watched_address watch) i (after system i now)) (min (most_watched watch) left) k
     unfolding executed_until
@@ -260,11 +267,11 @@ module _ {system : Disk} {steps most : ℕ} {start now : MachineState} {before w
     no-first : (k == 0) ≡ false
     no-first = grind (arith, nat_tests)
 
-    -- where it ended early, it stopped before a call
-    turn-begins : k < min (most_watched watch) left → begins_at (watched_address watch) turned.session ≡ true
-    turn-begins early =
+    -- where it ended early and soon, it stopped before a call
+    turn-begins : k < min (most_watched watch) left → k < poll_pause → begins_at (watched_address watch) turned.session ≡ true
+    turn-begins early quick =
         let greatest : can_go_on (watched_address watch) k turned ≡ false = ap (can_go_on (watched_address watch) k) there ∙ turn-longest.greatest early in
-        begins-if (is_running turned.ended) (has_room turned.session.console) (k == 0) (begins_at (watched_address watch) turned.session) turned-runs turned-room no-first greatest
+        begins-if (is_running turned.ended) (has_room turned.session.console) (k == 0) (begins_at (watched_address watch) turned.session) turned-runs (turned-room quick) no-first greatest
 
     kept : polls_kept watch.polls (look_of turned) ≡ watch.polls
     unfolding look_of
@@ -272,64 +279,74 @@ module _ {system : Disk} {steps most : ℕ} {start now : MachineState} {before w
         let bare : (length turned.session.console.screen == 0) ≡ true = let none = turned-bare in grind (arith, nat_tests) in
         ap (λ (b : Bool). if b then watch.polls else 0) bare
 
-    seen-called : (k == min (most_watched watch) left) ≡ false → k < min (most_watched watch) left → next ≡ watch_called true watch
+    seen-called : (k == min (most_watched watch) left) ≡ false → begins_at (watched_address watch) turned.session ≡ true → next ≡ watch_called true watch
     unfolding look_of kept
-    seen-called other early =
-        let begins = turn-begins early in
+    seen-called early begins =
         let m : ℕ = min (most_watched watch) left in
         let why : why_until (watched_address watch) m k turned ≡ Break =
-        why-break (k == m) (is_running turned.ended) (k == 0) (begins_at (watched_address watch) turned.session) other turned-runs no-first begins in
+        why-break (k == m) (is_running turned.ended) (k == 0) (begins_at (watched_address watch) turned.session) early turned-runs no-first begins in
         turn.seen
         ∙ ap (λ (w : Why). watch_after watch (look_of turned) w) why
         ∙ ap (λ (asks : Bool). watch_called asks (record watch { polls = polls_kept watch.polls (look_of turned) })) (turned-polls watch.at_status begins)
         ∙ ap (λ (polls : ℕ). watch_called true (record watch { polls = polls })) kept
 
-    seen-uncalled : (k == min (most_watched watch) left) ≡ true → next ≡ watch_uncalled watch
+    seen-uncalled : ((k == min (most_watched watch) left) ≡ true) ⊎ (begins_at (watched_address watch) turned.session ≡ false) → next ≡ watch_uncalled watch
     unfolding look_of kept
-    seen-uncalled same =
+    seen-uncalled none =
         let m : ℕ = min (most_watched watch) left in
-        let why : why_until (watched_address watch) m k turned ≡ All =
-        why-all (k == m) (is_running turned.ended) (k == 0) (begins_at (watched_address watch) turned.session) same in
         turn.seen
-        ∙ ap (λ (w : Why). watch_after watch (look_of turned) w) why
+        ∙ no-break (k == m) (is_running turned.ended) (k == 0) (begins_at (watched_address watch) turned.session) none
+          (watch.at_status || is_poll turned.session.regs) (record watch { polls = polls_kept watch.polls (look_of turned) })
         ∙ ap (λ (polls : ℕ). watch_uncalled (record watch { polls = polls })) kept
 
-    -- a whole turn that is long enough and stopped before no call watched those of the other kind
-    missed : LeavesTurn left (steps - done) → done + k < steps → k ≡ min (most_watched watch) left → poll_pause ≤ watch.quantum → wrong by watch.at_status ≡ 1
-    missed room rest whole long =
+    -- behind it the machine asks, and the turn went no further if it stops there
+    ends-soon : poll_pause ≤ k → wrong by watch.at_status ≡ 0 → ⊥
+    ends-soon much right =
+        let h = p.often done low (omega arith) in
+        let later = h.1 in
+        let sooner = h.2 in
+        let at : done + (h.0 - done) ≡ h.0 = omega arith in
+        let P : ℕ → Type 0 = λ i. asks_by by (alone_by system keys i start) ≡ true in
+        let asks : asks_by by (alone_by system keys (done + (h.0 - done)) start) ≡ true = subst P (sym at) h.3 in
+        let begins : begins_at (watched_address watch) (after system (h.0 - done) now).session ≡ true =
+        sym (ap (λ (s : MachineState). begins_at (watched_address watch) s.session) (going-state going (h.0 - done)))
+        ∙ asks-begins by watch.at_status (alone_by system keys (done + (h.0 - done)) start) right asks in
+        let first : ((h.0 - done) == 0) ≡ false = grind (arith, nat_tests) in
+        let goes = turn-longest.each (h.0 - done) (omega arith) in
+        true≢false (sym begins ∙ not-begins _ ((h.0 - done) == 0) (begins_at (watched_address watch) (after system (h.0 - done) now).session) first goes)
+
+    -- so a turn that is long enough and stopped before no call watched those of the other kind
+    missed : LeavesTurn left (steps - done) → done + k < steps → (k ≡ min (most_watched watch) left) ⊎ (begins_at (watched_address watch) turned.session ≡ false) →
+        poll_pause ≤ watch.quantum → wrong by watch.at_status ≡ 1
+    missed room rest none long =
         let most = most-long watch long in
-        let much : poll_pause ≤ k = ⊎_elim (λ a. omega arith) (λ b. omega arith) room in
+        let within = turn-longest.within in
         let one = wrong-one by watch.at_status in
-        ⊎_elim (λ right. absurd (by_ask much (omega arith))) (λ other. omega arith) (cases_lt (wrong by watch.at_status) 1)
+        ⊎_elim (λ right. absurd (⊎_elim (λ quick. ends-quick quick) (λ much. ends-soon much (omega arith)) (cases_lt k poll_pause))) (λ other. omega arith)
+        (cases_lt (wrong by watch.at_status) 1)
       where
-        by_ask : poll_pause ≤ k → wrong by watch.at_status ≡ 0 → ⊥
-        by_ask much right =
-            let h = p.often done low (omega arith) in
-            let later = h.1 in
-            let sooner = h.2 in
-            let at : done + (h.0 - done) ≡ h.0 = omega arith in
-            let P : ℕ → Type 0 = λ i. asks_by by (alone_by system keys i start) ≡ true in
-            let asks : asks_by by (alone_by system keys (done + (h.0 - done)) start) ≡ true = subst P (sym at) h.3 in
-            let begins : begins_at (watched_address watch) (after system (h.0 - done) now).session ≡ true =
-            sym (ap (λ (s : MachineState). begins_at (watched_address watch) s.session) (going-state going (h.0 - done)))
-            ∙ asks-begins by watch.at_status (alone_by system keys (done + (h.0 - done)) start) right asks in
-            let first : ((h.0 - done) == 0) ≡ false = grind (arith, nat_tests) in
-            let goes = turn-longest.each (h.0 - done) (omega arith) in
-            true≢false (sym begins ∙ not-begins _ ((h.0 - done) == 0) (begins_at (watched_address watch) (after system (h.0 - done) now).session) first goes)
+        ends-quick : k < poll_pause → ⊥
+        ends-quick quick =
+            let most = most-long watch long in
+            let within = turn-longest.within in
+            let whole : k ≡ min (most_watched watch) left → ⊥ = λ same. ⊎_elim (λ a. let bad : ⊥ = omega arith in bad) (λ b. let bad : ⊥ = omega arith in bad) room in
+            ⊎_elim whole (λ other. true≢false (sym (turn-begins (omega (arith, whole)) quick) ∙ other)) none
 
     pub credit-turn : LeavesTurn left (steps - done) → done + k < steps → watch.polls < polls_enough → (turns : ℕ) → HasCredit by watch turns → HasCredit by next (turns - 1)
-    credit-turn room rest few turns credit = by_test (k == min (most_watched watch) left) refl
+    credit-turn room rest few turns credit = by_tests (k == min (most_watched watch) left) (begins_at (watched_address watch) turned.session) refl refl
       where
-        by_test : (b : Bool) → (k == min (most_watched watch) left) ≡ b → HasCredit by next (turns - 1)
-        by_test true e =
-            let whole : k ≡ min (most_watched watch) left = grind (arith, nat_tests) in
-            let seen = seen-uncalled e in
+        uncalled : ((k == min (most_watched watch) left) ≡ true) ⊎ (begins_at (watched_address watch) turned.session ≡ false) →
+            (k ≡ min (most_watched watch) left) ⊎ (begins_at (watched_address watch) turned.session ≡ false) → HasCredit by next (turns - 1)
+        uncalled tested none =
+            let seen = seen-uncalled tested in
             credit-uncalled by watch next turns few (ap (λ (w : Watch). w.polls) seen) (ap (λ (w : Watch). w.at_status) seen) (ap (λ (w : Watch). w.quantum) seen)
-            (missed room rest whole) credit
-        by_test false e =
-            let other : k ≡ min (most_watched watch) left → ⊥ = λ same. grind (arith, nat_tests) in
-            let within = turn-longest.within in
-            let seen = seen-called e (omega (arith, other)) in
+            (missed room rest none) credit
+
+        by_tests : (whole begins : Bool) → (k == min (most_watched watch) left) ≡ whole → begins_at (watched_address watch) turned.session ≡ begins → HasCredit by next (turns - 1)
+        by_tests true begins e f = uncalled (inl e) (inl (grind (arith, nat_tests)))
+        by_tests false false e f = uncalled (inr f) (inr f)
+        by_tests false true e f =
+            let seen = seen-called e f in
             let polls : next.polls ≡ min (watch.polls + 1) (2 ^ 32 - 1) = ap (λ (w : Watch). w.polls) seen in
             credit-called by watch next turns few (omega arith) (ap (λ (w : Watch). w.quantum) seen) credit
 

@@ -92,12 +92,12 @@ pub record DoesNoMore (shown : List ℕ) (s : MachineState) : Type 0 where
   pub still : s.session.console.screen ≡ shown
   pub only : begins_at bdos_address s.session ≡ true → is_poll s.session.regs ≡ true
 
--- From one count up to another the machine run alone polls by calls of one kind. It does no more at any of the counts; behind each of them it asks again, less
--- than 10,000 steps later; and for its list device a turn has no more bytes than can wait where the next step begins, since a turn ends early behind more.
+-- From one count up to another the machine run alone polls by calls of one kind: it does no more at any of the counts; behind each it asks again, less than
+-- 10,000 steps later; and in so few steps no more bytes come for its list device than may wait where a step begins (behind more a turn ends early).
 pub record PollsSteadily (system : Disk) (start : MachineState) (keys : List Key) (asks : MachineState → Bool) (from until : ℕ) : Type 0 where
   pub calm : (i : ℕ) → from ≤ i → i ≤ until → DoesNoMore (screen_at system start keys from) (alone_by system keys i start)
   pub often : (i : ℕ) → from ≤ i → i + poll_pause ≤ until → (at : ℕ) × (i < at) × (at < i + poll_pause) × (asks (alone_by system keys at start) ≡ true)
-  pub prints : (i j : ℕ) → from ≤ i → i ≤ j → j ≤ until → j ≤ i + longest_turn →
+  pub prints : (i j : ℕ) → from ≤ i → i ≤ j → j < i + poll_pause → j ≤ until →
       length (printer_at system start keys j) ≤ length (printer_at system start keys i) + step_output
 
 -- own: the steps of 150 of the longest turns
