@@ -304,7 +304,7 @@ module _ {s : Sitting} {now : MachineState} {written_before written : OutputStat
       let quantum : watch_then.quantum ≡ first_quantum = ap (λ (w : Watch). w.quantum) given in
       let timely : s.is_patient ≡ true → IsTimely s.system s.start more s.steps live.listened.begun done watch_then =
       λ patient. timely-key s.system s.start keys more s.steps live.listened.begun done watch watch_then key (live.timely patient) (omega arith) joined refl
-          (λ i sooner. alone-before s.system s.start keys more key i joined sooner) in
+      (λ i sooner. alone-before s.system s.start keys more key i joined sooner) in
       record {
         going = going-key s.system s.steps (length more) s.start now written_before written unrecorded record_now keys done (going-wide live.going (length more) (omega arith))
             byte pressed record_then more is.read.0 fits (omega arith) joined state notes;

@@ -21,7 +21,7 @@ use Rattle.cpm_machine.proofs.GrantLaws.{longest-is}
 use Rattle.cpm_machine.proofs.PressLaws.{alone-pressed}
 use Rattle.cpm_play.specs.Live.{IsGoing}
 use Rattle.cpm_play.specs.Output.{OutputState}
-use Rattle.cpm_play.specs.Playing.{alone_by, presses_of, printer_at, screen_at}
+use Rattle.cpm_play.specs.Playing.{alone_by, presses_of, printer_at, runs_at, screen_at}
 use Rattle.cpm_play.specs.Wanting.{DoesNoMore, HasNoLongPoll, IsWatchedTurn, PollsSteadily, asks_by_bdos, asks_by_status, console_status_address, doubled, first_quantum, is_poll, longest_polling, longest_turn, most_watched, poll_pause, polls_enough, polls_kept, polls_more, watch_after, watch_by, watch_called, watch_uncalled, watched_address}
 use Rattle.cpm_play.specs.declared.watch.Watch.{Watch}
 use Rattle.cpm_play.proofs.AloneLemmas.{presses-more}
@@ -222,7 +222,8 @@ module _ {system : Disk} {steps most : ℕ} {start now : MachineState} {before w
     (going : IsGoing system steps most start now before written unrecorded record_now keys done) where
   -- a turn in which it polls steadily, after which steps are left
   module _ (k left : ℕ) (turned : MachineState) (watch next : Watch) (there : turned ≡ after system k now) (turn : IsWatchedTurn system left watch next k now turned)
-      (some : 0 < k) (short : k ≤ longest_turn) (by : Bool) (n : ℕ) (low : n ≤ done) (p : PollsSteadily system start keys (asks_by by) n (done + k)) where
+      (some : 0 < k) (short : k ≤ longest_turn) (runs : runs_at system start keys (done + k) ≡ true)
+      (by : Bool) (n : ℕ) (low : n ≤ done) (p : PollsSteadily system start keys (asks_by by) n (done + k)) where
     same-there : alone_by system keys (done + k) start ≡ state_behind going.console going.list turned
     same-there = going-state going k ∙ ap (state_behind going.console going.list) (sym there)
 
@@ -230,12 +231,12 @@ module _ {system : Disk} {steps most : ℕ} {start now : MachineState} {before w
     calm-there = p.calm (done + k) (omega arith) (omega arith)
 
     turned-runs : is_running turned.ended ≡ true
-    turned-runs = sym (ap (λ (s : MachineState). is_running s.ended) same-there) ∙ calm-there.runs
+    turned-runs = sym (ap (λ (s : MachineState). is_running s.ended) same-there) ∙ runs
 
     turned-polls : (at_status : Bool) → begins_at (if at_status then console_status_address else bdos_address) turned.session ≡ true → (at_status || is_poll turned.session.regs) ≡ true
     turned-polls true begins = refl
     turned-polls false begins =
-        sym (ap (λ (s : MachineState). is_poll s.session.regs) same-there) ∙ calm-there.only (ap (λ (s : MachineState). begins_at bdos_address s.session) same-there ∙ begins)
+        sym (ap (λ (s : MachineState). is_poll s.session.regs) same-there) ∙ calm-there.only runs (ap (λ (s : MachineState). begins_at bdos_address s.session) same-there ∙ begins)
 
     turned-bare : length turned.session.console.screen ≡ 0
     turned-bare =
@@ -296,7 +297,7 @@ module _ {system : Disk} {steps most : ℕ} {start now : MachineState} {before w
         let m : ℕ = min (most_watched watch) left in
         turn.seen
         ∙ no-break (k == m) (is_running turned.ended) (k == 0) (begins_at (watched_address watch) turned.session) none
-          (watch.at_status || is_poll turned.session.regs) (record watch { polls = polls_kept watch.polls (look_of turned) })
+        (watch.at_status || is_poll turned.session.regs) (record watch { polls = polls_kept watch.polls (look_of turned) })
         ∙ ap (λ (polls : ℕ). watch_uncalled (record watch { polls = polls })) kept
 
     -- behind it the machine asks, and the turn went no further if it stops there
@@ -357,13 +358,21 @@ quick-after watch look All quick = omega arith
 quick-after watch look Stopped quick = omega arith
 quick-after watch look Blocked quick = omega arith
 
+-- the machine runs where a turn makes a step
+turn-runs : {system : Disk} {now : MachineState} (k left : ℕ) (turned : MachineState) (watch next : Watch) → IsWatchedTurn system left watch next k now turned → 0 < k → is_running now.ended ≡ true
+unfolding executed_until
+turn-runs {system} {now} k left turned watch next turn some =
+    let test : ℕ → Bool = λ i. can_go_on (watched_address watch) i (after system i now) in
+    let longest : IsLongest test (min (most_watched watch) left) k = subst (IsLongest test (min (most_watched watch) left)) (sym turn.executed) (longest-is test (min (most_watched watch) left)) in
+    and-first (is_running now.ended) (has_room now.session.console) (and-first (is_running now.ended && has_room now.session.console) true (longest.each 0 some))
+
 -- ---- how a session that is typed at patiently stands
 
 -- The first turns are long enough. For each count from which on it may have polled steadily: how many turns are left before that is seen, and that these end
 -- in time. And it has polled no longer.
 pub record IsTimely (system : Disk) (start : MachineState) (keys : List Key) (steps begun done : ℕ) (watch : Watch) : Type 0 where
   pub quick : first_quantum ≤ watch.quantum
-  pub credit : done < steps → (by : Bool) (n : ℕ) → begun ≤ n → n ≤ done → PollsSteadily system start keys (asks_by by) n done →
+  pub credit : done < steps → runs_at system start keys done ≡ true → (by : Bool) (n : ℕ) → begun ≤ n → n ≤ done → PollsSteadily system start keys (asks_by by) n done →
       (turns : ℕ) × HasCredit by watch turns × (done + turns * longest_turn ≤ n + (most_turns + 1) * longest_turn)
   pub answered : HasNoLongPoll system start keys begun done
 
@@ -380,7 +389,7 @@ either-longer system start keys from until answered false n low below polls = an
 pub timely-start : (system : Disk) (start : MachineState) (keys : List Key) (steps done : ℕ) (watch : Watch) → first_quantum ≤ watch.quantum → IsTimely system start keys steps done done watch
 timely-start system start keys steps done watch quick = record {
   quick = quick;
-  credit = λ rest by n low high p. (most_turns, credit-start by watch quick, omega arith);
+  credit = λ rest runs by n low high p. (most_turns, credit-start by watch quick, omega arith);
   answered = λ n low below p. absurd (omega arith);
 }
 
@@ -405,7 +414,7 @@ pub timely-key : (system : Disk) (start : MachineState) (keys more : List Key) (
     IsTimely system start more steps begun done next
 timely-key system start keys more steps begun done watch next key timely quick is at same = record {
   quick = quick;
-  credit = λ rest by n low high p. absurd (key-pending system start keys more key done is at (p.calm done high (omega arith)).none);
+  credit = λ rest runs by n low high p. absurd (key-pending system start keys more key done is at (p.calm done high (omega arith)).none);
   answered = none-longer system start more begun done (λ by n low below p.
       either-longer system start keys begun done timely.answered by n low below
       (steady-same system start keys more (asks_by by) n (n + longest_polling) (omega arith) (λ i high. same i (omega arith)) p));
@@ -419,9 +428,9 @@ module _ {system : Disk} {steps most : ℕ} {start now : MachineState} {before w
   steady-few by n high p = few (ap (λ (s : MachineState). s.session.console.keys) going.gone.state ∙ (p.calm done high (omega arith)).none)
 
   -- so that at least two turns are left
-  two-left : (by : Bool) (n : ℕ) → begun ≤ n → n ≤ done → done < steps → PollsSteadily system start keys (asks_by by) n done → done + 2 * longest_turn ≤ n + (most_turns + 1) * longest_turn
-  two-left by n low high rest p =
-      let c = timely.credit rest by n low high p in
+  two-left : (by : Bool) (n : ℕ) → begun ≤ n → n ≤ done → done < steps → runs_at system start keys done ≡ true → PollsSteadily system start keys (asks_by by) n done → done + 2 * longest_turn ≤ n + (most_turns + 1) * longest_turn
+  two-left by n low high rest runs p =
+      let c = timely.credit rest runs by n low high p in
       let credit = c.1.left in
       let bound = c.2 in
       let less = steady-few by n high p in
@@ -431,10 +440,10 @@ module _ {system : Disk} {steps most : ℕ} {start now : MachineState} {before w
       LeavesTurn left (steps - done) → IsTimely system start keys steps begun (done + k) next
   timely-turn k left turned next there turn some short here room = record {
     quick = quick-next;
-    credit = λ rest by n low high p. ⊎_elim (λ early. more_credit rest by n low (omega arith) p) (λ late. (most_turns, credit-start by next quick-next, omega arith)) (cases_lt n (done + 1));
+    credit = λ rest runs by n low high p. ⊎_elim (λ early. more_credit rest runs by n low (omega arith) p) (λ late. (most_turns, credit-start by next quick-next, omega arith)) (cases_lt n (done + 1));
     answered = none-longer system start keys begun (done + k) (λ by n low below p. ⊎_elim (λ early. either-longer system start keys begun done timely.answered by n low early p)
         (λ late.
-        let ends = two-left by n low (omega arith) here (steady-sooner system start keys (asks_by by) n (n + longest_polling) done late p) in
+        let ends = two-left by n low (omega arith) here runs-here (steady-sooner system start keys (asks_by by) n (n + longest_polling) done late p) in
         absurd (omega arith))
         (cases_lt (n + longest_polling) done));
   }
@@ -443,12 +452,16 @@ module _ {system : Disk} {steps most : ℕ} {start now : MachineState} {before w
       quick-next = subst (λ (w : Watch). first_quantum ≤ w.quantum) (sym turn.seen)
           (quick-after watch (look_of turned) (why_until (watched_address watch) (min (most_watched watch) left) k turned) timely.quick)
 
-      more_credit : done + k < steps → (by : Bool) (n : ℕ) → begun ≤ n → n ≤ done → PollsSteadily system start keys (asks_by by) n (done + k) →
+      -- it runs where it makes a step
+      runs-here : runs_at system start keys done ≡ true
+      runs-here = sym (ap (λ (s : MachineState). is_running s.ended) going.gone.state) ∙ turn-runs k left turned watch next turn some
+
+      more_credit : done + k < steps → runs_at system start keys (done + k) ≡ true → (by : Bool) (n : ℕ) → begun ≤ n → n ≤ done → PollsSteadily system start keys (asks_by by) n (done + k) →
           (turns : ℕ) × HasCredit by next turns × ((done + k) + turns * longest_turn ≤ n + (most_turns + 1) * longest_turn)
-      more_credit rest by n low high p =
+      more_credit rest runs by n low high p =
           let sooner = steady-sooner system start keys (asks_by by) n (done + k) done (omega arith) p in
-          let c = timely.credit here by n low high sooner in
+          let c = timely.credit here runs-here by n low high sooner in
           let less = steady-few by n high sooner in
           let credit = c.1.left in
           let bound = c.2 in
-          (c.0 - 1, credit-turn going k left turned watch next there turn some short by n high p room rest less c.0 c.1, omega arith)
+          (c.0 - 1, credit-turn going k left turned watch next there turn some short runs by n high p room rest less c.0 c.1, omega arith)

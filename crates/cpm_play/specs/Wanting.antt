@@ -85,12 +85,11 @@ HasNoLongWait system start keys from until =
 abbrev pub poll_pause : ℕ
 poll_pause = 10000
 
--- the machine runs, no key is pending, it has shown just this, and a call of the BDOS that it begins is a poll
+-- no key is pending, the machine has shown just this, and where it begins a call of the BDOS that is a poll
 pub record DoesNoMore (shown : List ℕ) (s : MachineState) : Type 0 where
-  pub runs : is_running s.ended ≡ true
   pub none : s.session.console.keys ≡ []
   pub still : s.session.console.screen ≡ shown
-  pub only : begins_at bdos_address s.session ≡ true → is_poll s.session.regs ≡ true
+  pub only : is_running s.ended ≡ true → begins_at bdos_address s.session ≡ true → is_poll s.session.regs ≡ true
 
 -- From one count up to another the machine run alone polls by calls of one kind: it does no more at any of the counts; behind each it asks again, less than
 -- 10,000 steps later; and in so few steps no more bytes come for its list device than may wait where a step begins (behind more a turn ends early).
