@@ -11,7 +11,7 @@ use Rattle.cpm_machine.specs.Alone.{alone}
 use Rattle.cpm_machine.specs.Calls.{state_behind}
 use Rattle.cpm_machine.specs.Laws.{IsLongest}
 use Rattle.cpm_machine.specs.MachineState.{MachineState}
-use Rattle.cpm_machine.specs.Serve.{keyed, longest, look_of}
+use Rattle.cpm_machine.specs.Serve.{keyed, look_of}
 use Rattle.cpm_machine.specs.Step.{after, is_running}
 use Rattle.cpm_machine.specs.Until.{begins_at, can_go_on, executed_until, why_until}
 use Rattle.cpm_machine.specs.declared.reply.Look.{Look}
@@ -22,7 +22,7 @@ use Rattle.cpm_machine.proofs.PressLaws.{alone-pressed}
 use Rattle.cpm_play.specs.Live.{IsGoing}
 use Rattle.cpm_play.specs.Output.{OutputState}
 use Rattle.cpm_play.specs.Playing.{alone_by, presses_of, printer_at, runs_at, screen_at}
-use Rattle.cpm_play.specs.Wanting.{DoesNoMore, HasNoLongPoll, IsWatchedTurn, PollsSteadily, asks_by_bdos, asks_by_status, console_status_address, doubled, first_quantum, is_poll, longest_polling, longest_turn, most_watched, poll_pause, polls_enough, polls_kept, polls_more, watch_after, watch_by, watch_called, watch_uncalled, watched_address}
+use Rattle.cpm_play.specs.Wanting.{DoesNoMore, HasNoLongPoll, IsWatchedTurn, PollsSteadily, asks_by_bdos, asks_by_status, console_status_address, doubled, first_quantum, is_poll, longest_polling, longest_turn, most_watched, poll_pause, polls_enough, polls_kept, watch_after, watch_by, watch_called, watch_uncalled, watched_address}
 use Rattle.cpm_play.specs.declared.watch.Watch.{Watch}
 use Rattle.cpm_play.proofs.AloneLemmas.{presses-more}
 use Rattle.cpm_play.proofs.CuedLemmas.{going-shows, going-state}

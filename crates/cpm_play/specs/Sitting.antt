@@ -39,8 +39,8 @@ AreScripted s after scripted begun =
     ⊎ ((s.is_patient ≡ false) × (is_over after ≡ true) × IsCuedUpTo s.system s.start s.steps begun 0 s.cues scripted)
 
 -- The session has these keys after so many steps: those of the script, as far as they come, and then those that the typist gave, each at the count at which
--- it did. The typist is asked from the end of the script on, often. A patient one gives a key only where one is wanted, and the machine polls for one no longer
--- than so many turns; and whoever it is, the machine waits for a key for no longer than a turn.
+-- it did. The typist is asked from the end of the script on, often. A patient one gives a key only where one is wanted, and the machine polls steadily for no
+-- longer than 150 turns. Whoever it is, the machine waits for a key for no longer than a turn.
 pub record HasListened (s : Sitting) (before after : TypingState) (keys : List Key) (done : ℕ) : Type 0 where
   pub scripted : List Key
   pub typed : List Key

@@ -91,8 +91,8 @@ pub record DoesNoMore (shown : List ℕ) (s : MachineState) : Type 0 where
   pub still : s.session.console.screen ≡ shown
   pub only : is_running s.ended ≡ true → begins_at bdos_address s.session ≡ true → is_poll s.session.regs ≡ true
 
--- From one count up to another the machine run alone polls by calls of one kind: it does no more at any of the counts; behind each it asks again, less than
--- 10,000 steps later; and in so few steps no more bytes come for its list device than may wait where a step begins (behind more a turn ends early).
+-- From one count up to another the machine run alone polls steadily, by calls of one kind. At each count it does no more. Behind each it asks again, less than
+-- 10,000 steps later. And in less than 10,000 steps it puts no more bytes on its list device than may wait there where a step begins: behind more a turn ends.
 pub record PollsSteadily (system : Disk) (start : MachineState) (keys : List Key) (asks : MachineState → Bool) (from until : ℕ) : Type 0 where
   pub calm : (i : ℕ) → from ≤ i → i ≤ until → DoesNoMore (screen_at system start keys from) (alone_by system keys i start)
   pub often : (i : ℕ) → from ≤ i → i + poll_pause ≤ until → (at : ℕ) × (i < at) × (at < i + poll_pause) × (asks (alone_by system keys at start) ≡ true)
@@ -103,11 +103,11 @@ pub record PollsSteadily (system : Disk) (start : MachineState) (keys : List Key
 abbrev pub longest_polling : ℕ
 longest_polling = 15000000
 
--- from one count up to another it polls steadily for no longer, by either kind of call (a key that comes is pending at its count, so none comes meanwhile)
+-- from one count up to another it polls steadily for no longer, by either kind of call: then a key comes (which is pending at its count)
 abbrev pub HasNoLongPoll : Disk → MachineState → List Key → (from until : ℕ) → Type 0
 HasNoLongPoll system start keys from until =
     (n : ℕ) → from ≤ n → n + longest_polling < until
-    → PollsSteadily system start keys asks_by_bdos n (n + longest_polling) ⊎ PollsSteadily system start keys asks_by_status n (n + longest_polling) → ⊥
+    → (PollsSteadily system start keys asks_by_bdos n (n + longest_polling) ⊎ PollsSteadily system start keys asks_by_status n (n + longest_polling)) → ⊥
 
 -- ---- what is watched
 
