@@ -178,7 +178,7 @@ module _ (system : Disk) (steps most : ℕ) (start now : MachineState) (before w
   pub going-screen : going.console ≡ (alone_by system keys done start).session.console.screen
   going-screen = sym (append-nil going.console) ∙ ap (λ xs. going.console ++ xs) (sym going.quiet.screen) ∙ ap (λ (s : MachineState). s.session.console.screen) going.gone.state
 
-  going-printer : going.list ≡ (alone_by system keys done start).session.console.printer
+  pub going-printer : going.list ≡ (alone_by system keys done start).session.console.printer
   going-printer = sym (append-nil going.list) ∙ ap (λ xs. going.list ++ xs) (sym going.quiet.printer) ∙ ap (λ (s : MachineState). s.session.console.printer) going.gone.state
 
   -- what it is now

@@ -24,3 +24,4 @@ pub mod CuedLemmas
 pub mod FollowLemmas
 pub mod PlainLemmas
 pub mod WantingLemmas
+pub mod PollLemmas

@@ -28,13 +28,14 @@ use Rattle.cpm_play.specs.declared.typist.Heard.TheVariants as heard
 use Rattle.cpm_play.specs.declared.typist.KeyNeed.{KeyNeed}
 use Rattle.cpm_play.specs.declared.typist.KeyNeed.TheVariants.{Pending, Possible, Wanted}
 use Rattle.cpm_play.specs.declared.typist.TypingEnd.{TypingEnd}
-use Rattle.cpm_play.specs.Wanting.{HasNoLongWait, HasPolled, HasWatched, IsKeyWanted, longest_turn}
+use Rattle.cpm_play.specs.Wanting.{HasNoLongPoll, HasNoLongWait, HasPolled, HasWatched, IsKeyWanted, IsWatchedTurn, first_quantum, first_watch, longest_turn, polls_enough, watch_given}
 use Rattle.cpm_play.specs.declared.watch.Watch.{Watch}
 use Rattle.cpm_play.proofs.CuedLemmas.{cued-whole}
 use Rattle.cpm_play.proofs.GoingLemmas.{going-come, going-ending, going-key, going-list, going-text, going-turn}
 use Rattle.cpm_play.proofs.RunLemmas.{stopped-waits}
 use Rattle.cpm_play.proofs.TypingLemmas.{read_more, read_none}
-use Rattle.cpm_play.proofs.WantingLemmas.{IsWatched, wanted-append, watched-key, watched-start, watched-turn}
+use Rattle.cpm_play.proofs.PollLemmas.{IsTimely, LeavesTurn, timely-key, timely-start, timely-turn}
+use Rattle.cpm_play.proofs.WantingLemmas.{IsWatched, alone-before, wanted-append, watched-key, watched-start, watched-turn}
 
 bytes-more : (keys : List Key) (k : Key) → bytes_of (keys ++ k ∷ []) ≡ bytes_of keys ++ k.byte ∷ []
 bytes-more [] k = refl
@@ -67,10 +68,10 @@ scripted-on s now next scripted begun same (inl all) = inl all
 scripted-on s now next scripted begun same (inr some) = inr (some.0, same ∙ some.1, some.2)
 
 module _ {s : Sitting} {before now : TypingState} {keys : List Key} {done : ℕ} (l : HasListened s before now keys done) where
-  -- nothing was typed, and steps of a turn follow
-  pub listened-on : (next : TypingState) (k : ℕ) → k ≤ longest_turn → IsHeard done now next heard.Nothing → HasNoLongWait s.system s.start keys l.begun (done + k) →
-      HasListened s before next keys (done + k)
-  listened-on next k few is brief = record {
+  -- nothing was typed, by some later count
+  listened-at : (next : TypingState) (later : ℕ) → IsHeard done now next heard.Nothing → AreOften l.begun later (l.answers ++ hearing done heard.Nothing ∷ []) →
+      HasNoLongWait s.system s.start keys l.begun later → (s.is_patient ≡ true → HasNoLongPoll s.system s.start keys l.begun later) → HasListened s before next keys later
+  listened-at next later is often brief answered = record {
     scripted = l.scripted;
     typed = l.typed;
     joined = l.joined;
@@ -80,15 +81,25 @@ module _ {s : Sitting} {before now : TypingState} {keys : List Key} {done : ℕ}
     answers = l.answers ++ hearing done heard.Nothing ∷ [];
     said = said-more before.heard now.heard next.heard l.answers (hearing done heard.Nothing ∷ []) l.said is.said;
     given = heard-more l.answers (hearing done heard.Nothing) ∙ append-nil (keys_heard l.answers) ∙ l.given;
-    often = often-more l.begun done k l.answers heard.Nothing l.often few;
+    often = often;
     read = subst (λ v. HasReadKeys before.unread next.unread v) (append-nil (bytes_of l.typed)) (read_more before.unread now.unread next.unread (bytes_of l.typed) [] l.read is.read);
     wanted = l.wanted;
     brief = brief;
+    answered = answered;
   }
 
+  -- after the steps of a turn
+  pub listened-on : (next : TypingState) (k : ℕ) → k ≤ longest_turn → IsHeard done now next heard.Nothing → HasNoLongWait s.system s.start keys l.begun (done + k) →
+      (s.is_patient ≡ true → HasNoLongPoll s.system s.start keys l.begun (done + k)) → HasListened s before next keys (done + k)
+  listened-on next k few is brief answered = listened-at next (done + k) is (often-more l.begun done k l.answers heard.Nothing l.often few) brief answered
+
+  -- or after none
   pub listened-still : (next : TypingState) → IsHeard done now next heard.Nothing → HasListened s before next keys done
-  listened-still next is = subst (HasListened s before next keys) (let same : done + 0 ≡ done = omega arith in same)
-      (listened-on next 0 (omega arith) is (subst (HasNoLongWait s.system s.start keys l.begun) (let same : done ≡ done + 0 = omega arith in same) l.brief))
+  listened-still next is =
+      let often : AreOften l.begun done (l.answers ++ hearing done heard.Nothing ∷ []) =
+      subst (λ (n : ℕ). AreOften l.begun n (l.answers ++ hearing done heard.Nothing ∷ [])) (let same : done + 0 ≡ done = omega arith in same)
+      (often-more l.begun done 0 l.answers heard.Nothing l.often (omega arith)) in
+      listened-at next done is often l.brief l.answered
 
   -- the typist failed
   pub listened-failed : (next : TypingState) → HasHeardNothing now next → HasListened s before next keys done
@@ -106,12 +117,14 @@ module _ {s : Sitting} {before now : TypingState} {keys : List Key} {done : ℕ}
     read = subst (λ v. HasReadKeys before.unread next.unread v) (append-nil (bytes_of l.typed)) (read_more before.unread now.unread next.unread (bytes_of l.typed) [] l.read none.read);
     wanted = l.wanted;
     brief = l.brief;
+    answered = l.answered;
   }
 
   -- a key was typed
   pub listened-key : (next : TypingState) (byte : ℕ) (more : List Key) → IsHeard done now next (heard.Key byte) → more ≡ keys ++ record { count = done; byte = byte } ∷ [] →
-      IsWantedByPatient s keys done → HasNoLongWait s.system s.start more l.begun done → HasListened s before next more done
-  listened-key next byte more is joined wants brief =
+      IsWantedByPatient s keys done → HasNoLongWait s.system s.start more l.begun done → (s.is_patient ≡ true → HasNoLongPoll s.system s.start more l.begun done) →
+      HasListened s before next more done
+  listened-key next byte more is joined wants brief answered =
       let key : Key = record { count = done; byte = byte } in
       record {
         scripted = l.scripted;
@@ -130,6 +143,7 @@ module _ {s : Sitting} {before now : TypingState} {keys : List Key} {done : ℕ}
         wanted = λ patient. wanted-append s.system s.start l.scripted l.typed key (l.wanted patient)
             (subst (λ (ks : List Key). IsKeyWanted s.system s.start ks done) l.joined (wants patient));
         brief = brief;
+        answered = answered;
       }
 
 -- a patient typist says something only where a key is wanted
@@ -154,6 +168,7 @@ pub record IsLive (s : Sitting) (now : MachineState) (written_before written : O
   pub going : IsGoing s.system s.steps (length keys) s.start now written_before written unrecorded record_now keys done
   pub listened : HasListened s before latest keys done
   pub polled : HasPolled s.system s.start keys watch.polls (last_count 0 keys) (done + 1) (screen_at s.system s.start keys done)
+  pub timely : s.is_patient ≡ true → IsTimely s.system s.start keys s.steps listened.begun done watch
 
 -- with other bounds of the number of its keys
 going-wide : {system : Disk} {steps most : ℕ} {start now : MachineState} {before written : OutputState} {unrecorded record_now : Option (List ℕ)} {keys : List Key} {done : ℕ} →
@@ -195,9 +210,11 @@ scripted-first s before typing keys done patience attended within cued = by_over
 pub live-start : (s : Sitting) (most : ℕ) (now : MachineState) (written_before written : OutputState) (unrecorded record_now : Option (List ℕ)) (before typing : TypingState) (keys : List Key) (done : ℕ) (watch : Watch) →
     IsGoing s.system s.steps most s.start now written_before written unrecorded record_now keys done → s.is_patient ≡ before.is_patient → HasAttended before typing →
     StaysCued s.system s.start s.steps (known_to (is_over typing) done s.steps) done 0 s.cues keys → (s.cues ≡ [] → done ≡ 0) →
-    watch.polls ≡ 0 → IsLive s now written_before written unrecorded record_now before typing keys done watch
-live-start s most now written_before written unrecorded record_now before typing keys done watch going patience attended cued first none =
-    let watched = watched-start s.system s.start keys done watch none in
+    watch ≡ first_watch → IsLive s now written_before written unrecorded record_now before typing keys done watch
+live-start s most now written_before written unrecorded record_now before typing keys done watch going patience attended cued first new =
+    let watched = watched-start s.system s.start keys done watch (ap (λ (w : Watch). w.polls) new) in
+    let quantum : watch.quantum ≡ first_quantum = ap (λ (w : Watch). w.quantum) new in
+    let timely = timely-start s.system s.start keys s.steps done watch (omega arith) in
     record {
       going = going-wide going (length keys) (omega arith);
       listened = record {
@@ -214,8 +231,10 @@ live-start s most now written_before written unrecorded record_now before typing
         read = subst (λ o. HasReadKeys before.unread o []) (sym attended.unread) (read_none before.unread);
         wanted = λ _. tt;
         brief = watched.brief;
+        answered = λ _. timely.answered;
       };
       polled = watched.polled;
+      timely = λ _. timely;
     }
 
 module _ {s : Sitting} {now : MachineState} {written_before written : OutputState} {unrecorded record_now : Option (List ℕ)} {before latest : TypingState} {keys : List Key} {done : ℕ} {watch : Watch}
@@ -224,21 +243,27 @@ module _ {s : Sitting} {now : MachineState} {written_before written : OutputStat
   live-watched = record { polled = live.polled; brief = live.listened.brief }
 
   -- nothing was typed, and the steps of a turn follow, whose text is taken
-  pub live-turn : (next : TypingState) (k : ℕ) (turned last : MachineState) (written_then : OutputState) (watch_then : Watch) → IsHeard done latest next heard.Nothing →
-      0 < k → k ≤ s.steps - done → k ≤ longest_turn → waits_at s.system s.start keys done ≡ false →
+  pub live-turn : (next : TypingState) (k left : ℕ) (turned last : MachineState) (written_then : OutputState) (watch_then : Watch) → IsHeard done latest next heard.Nothing →
+      0 < k → k ≤ s.steps - done → k ≤ longest_turn → waits_at s.system s.start keys done ≡ false → (now.session.console.keys ≡ [] → watch.polls < polls_enough) →
+      (s.is_patient ≡ true → LeavesTurn left (s.steps - done)) → (s.is_patient ≡ true → IsWatchedTurn s.system left watch watch_then k now turned) →
       turned ≡ after s.system k now → HasWatched watch watch_then k turned → last ≡ without_list (without_text turned) → GetsOutput written written_then turned →
       IsLive s last written_before written_then unrecorded record_now before next keys (done + k) watch_then
-  live-turn next k turned last written_then watch_then is some fits few busy there watches taken writes =
+  unfolding listened-on listened-at
+  live-turn next k left turned last written_then watch_then is some fits few busy calls room counted there watches taken writes =
       let watched = watched-turn live.going live-watched k turned watch_then some few busy there watches in
+      let timely : s.is_patient ≡ true → IsTimely s.system s.start keys s.steps live.listened.begun (done + k) watch_then =
+      λ patient. timely-turn live.going (live.timely patient) calls k left turned watch_then there (counted patient) some few (omega arith) (room patient) in
       record {
         going = going-turn s.system s.steps (length keys) s.start now written_before written unrecorded record_now keys done live.going k turned last written_then fits there taken writes;
-        listened = listened-on live.listened next k few is watched.brief;
+        listened = listened-on live.listened next k few is watched.brief (λ patient. (timely patient).answered);
         polled = watched.polled;
+        timely = timely;
       }
 
   -- nothing was typed, and no step follows
   pub live-still : (next : TypingState) → IsHeard done latest next heard.Nothing → IsLive s now written_before written unrecorded record_now before next keys done watch
-  live-still next is = record { going = live.going; listened = listened-still live.listened next is; polled = live.polled }
+  unfolding listened-still listened-at
+  live-still next is = record { going = live.going; listened = listened-still live.listened next is; polled = live.polled; timely = live.timely }
 
   -- the console or the list device failed
   pub live-unshown : (next : TypingState) (k : ℕ) (turned last : MachineState) (written_then : OutputState) (e : LiveError) → IsHeard done latest next heard.Nothing →
@@ -269,17 +294,23 @@ module _ {s : Sitting} {now : MachineState} {written_before written : OutputStat
   -- a key more
   pub live-key : (next : TypingState) (byte : ℕ) (pressed : MachineState) (record_then : Option (List ℕ)) (more : List Key) (watch_then : Watch) → IsHeard done latest next (heard.Key byte) →
       IsWantedByPatient s keys done → done < 2 ^ 64 → more ≡ keys ++ record { count = done; byte = byte } ∷ [] → pressed ≡ keyed byte now →
-      Appends record_now record_then (key_line (record { count = done; byte = byte })) → watch_then.polls ≡ 0 →
+      Appends record_now record_then (key_line (record { count = done; byte = byte })) → watch_then ≡ watch_given watch →
       IsLive s pressed written_before written unrecorded record_then before next more done watch_then
-  live-key next byte pressed record_then more watch_then is wants fits joined state notes none =
+  unfolding listened-key
+  live-key next byte pressed record_then more watch_then is wants fits joined state notes given =
       let key : Key = record { count = done; byte = byte } in
       let longer : length more ≡ length keys + 1 = ap length joined ∙ length_push keys key in
-      let watched = watched-key live.going live-watched watch_then more key none joined refl in
+      let watched = watched-key live.going live-watched watch_then more key (ap (λ (w : Watch). w.polls) given) joined refl in
+      let quantum : watch_then.quantum ≡ first_quantum = ap (λ (w : Watch). w.quantum) given in
+      let timely : s.is_patient ≡ true → IsTimely s.system s.start more s.steps live.listened.begun done watch_then =
+      λ patient. timely-key s.system s.start keys more s.steps live.listened.begun done watch watch_then key (live.timely patient) (omega arith) joined refl
+      (λ i sooner. alone-before s.system s.start keys more key i joined sooner) in
       record {
         going = going-key s.system s.steps (length more) s.start now written_before written unrecorded record_now keys done (going-wide live.going (length more) (omega arith))
             byte pressed record_then more is.read.0 fits (omega arith) joined state notes;
-        listened = listened-key live.listened next byte more is joined wants watched.brief;
+        listened = listened-key live.listened next byte more is joined wants watched.brief (λ patient. (timely patient).answered);
         polled = watched.polled;
+        timely = timely;
       }
 
   -- ---- where it is cut short

@@ -20,7 +20,7 @@ use Rattle.cpm_play.specs.Live.{AreBy, IsGoing}
 use Rattle.cpm_play.specs.Output.{OutputState}
 use Rattle.cpm_play.specs.Playing.{alone_by, last_count, presses_of, screen_at, waits_at}
 use Rattle.cpm_play.specs.Typist.{CanBeHeard}
-use Rattle.cpm_play.specs.Wanting.{AreWantedAfter, HasAsked, HasNoLongWait, HasPolled, HasWatched, IsKeyWanted, asks_for_key, console_status_address, is_poll, longest_turn, need_of, polls_by, polls_enough, polls_kept, polls_more, polls_seen, watched_address}
+use Rattle.cpm_play.specs.Wanting.{AreWantedAfter, HasAsked, HasNoLongWait, HasPolled, HasWatched, IsKeyWanted, asks_for_key, console_status_address, is_poll, longest_turn, need_of, polls_enough, polls_kept, polls_more, watch_after, watch_by, watched_address}
 use Rattle.cpm_play.specs.declared.typist.Heard.TheVariants as heard
 use Rattle.cpm_play.specs.declared.typist.KeyNeed.{KeyNeed}
 use Rattle.cpm_play.specs.declared.typist.KeyNeed.TheVariants.{Pending, Possible, Wanted}
@@ -65,10 +65,10 @@ stopped-before false true true begins e = absurd (let bad : ⊥ = cc in bad)
 stopped-before false true false false e = absurd (let bad : ⊥ = cc in bad)
 stopped-before false true false true e = (refl, refl, refl)
 
-asks-bdos : (runs begins polls status : Bool) → runs ≡ true → begins ≡ true → polls ≡ true → (runs && ((begins && polls) || status)) ≡ true
+asks-bdos : (runs begins polls status : Bool) → runs ≡ true → begins ≡ true → polls ≡ true → ((runs && (begins && polls)) || (runs && status)) ≡ true
 asks-bdos runs begins polls status a b c = rw (a, b, c) refl
 
-asks-status : (runs other begins : Bool) → runs ≡ true → begins ≡ true → (runs && (other || begins)) ≡ true
+asks-status : (runs other begins : Bool) → runs ≡ true → begins ≡ true → ((runs && other) || (runs && begins)) ≡ true
 asks-status runs false begins a b = rw (a, b) refl
 asks-status runs true begins a b = rw a refl
 
@@ -88,15 +88,16 @@ module _ (old new : Watch) (pc most k : ℕ) (now : MachineState) (at : pc ≡ w
       let why = stopped-before (k == most) (is_running now.ended) (k == 0) (begins_at pc now.session) is in
       inr (let some = why.1 in grind (arith, nat_tests), asks-there old.at_status pc now at why.0 why.2 e, omega arith)
 
-  by_why : (why : Why) → why ≡ why_until pc most k now → new.polls ≡ polls_by why (old.at_status || is_poll now.session.regs) (polls_kept old.polls (look_of now)) → HasWatched old new k now
+  by_why : (why : Why) → why ≡ why_until pc most k now →
+      new.polls ≡ (watch_by why (old.at_status || is_poll now.session.regs) (record old { polls = polls_kept old.polls (look_of now) })).polls → HasWatched old new k now
   by_why Break is seen = stopped-watched (old.at_status || is_poll now.session.regs) refl is seen
   by_why All is seen = inl (omega arith)
   by_why Stopped is seen = inl (omega arith)
   by_why Blocked is seen = inl (omega arith)
 
-  pub turn-watched : (why : Why) (look : Look) → look ≡ look_of now → why ≡ why_until pc most k now → new.polls ≡ polls_seen old look why → HasWatched old new k now
+  pub turn-watched : (why : Why) (look : Look) → look ≡ look_of now → why ≡ why_until pc most k now → new ≡ watch_after old look why → HasWatched old new k now
   unfolding look_of
-  turn-watched why look is told seen = by_why why told (seen ∙ ap (λ (l : Look). polls_seen old l why) is)
+  turn-watched why look is told seen = by_why why told (ap (λ (w : Watch). w.polls) (seen ∙ ap (λ (l : Look). watch_after old l why) is))
 
 -- ---- keys
 
@@ -114,7 +115,7 @@ last-by n m [] less come = less
 last-by n m (k ∷ keys) less come = last-by k.count m keys come.0 come.1
 
 -- a key changes nothing before it
-alone-before : (system : Disk) (start : MachineState) (keys more : List Key) (key : Key) (i : ℕ) → more ≡ keys ++ key ∷ [] → i < key.count → alone_by system more i start ≡ alone_by system keys i start
+pub alone-before : (system : Disk) (start : MachineState) (keys more : List Key) (key : Key) (i : ℕ) → more ≡ keys ++ key ∷ [] → i < key.count → alone_by system more i start ≡ alone_by system keys i start
 alone-before system start keys more key i is sooner =
     ap (λ (ks : List Key). alone_by system ks i start) is
     ∙ ap (λ ps. alone system ps i start) (presses-append keys (key ∷ []))
@@ -258,6 +259,23 @@ module _ {system : Disk} {steps most : ℕ} {start now : MachineState} {before w
             let waits : look.waiting ≡ true = ap (λ (l : Look). l.waiting) is ∙ e in
             let none : (look.keys == 0) ≡ true = grind (arith, nat_tests) in
             absurd (other (told ∙ (rw (none, waits) refl)))
+
+    wanting : (none waits polls : Bool) → none ≡ true → polls ≡ true → Wanted ≡ (if none then (if waits || polls then Wanted else Possible) else Pending)
+    wanting none false polls a b = rw (a, b) refl
+    wanting none true polls a b = rw a refl
+
+    -- where no key is wanted and none is pending, few polls came in a row
+    pub few-here : (need ≡ Wanted → ⊥) → now.session.console.keys ≡ [] → watch.polls < polls_enough
+    unfolding look_of
+    few-here other bare =
+        ⊎_elim (λ few. few)
+        (λ enough.
+        let counted : look.keys ≡ length now.session.console.keys = ap (λ (l : Look). l.keys) is in
+        let none : length now.session.console.keys ≡ 0 = ap length bare in
+        let first : (look.keys == 0) ≡ true = grind (arith, nat_tests) in
+        let polls : nat_le polls_enough watch.polls ≡ true = grind (arith, nat_tests) in
+        absurd (other (told ∙ sym (wanting (look.keys == 0) look.waiting (nat_le polls_enough watch.polls) first polls))))
+        (cases_lt watch.polls polls_enough)
 
     pub busy-here : (need ≡ Wanted → ⊥) → waits_at system start keys done ≡ false
     busy-here other = sym (going-waiting system steps most start now before written unrecorded record_now keys done going) ∙ idle-here other

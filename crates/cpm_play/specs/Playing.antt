@@ -20,7 +20,7 @@ IsInOrder n (k ∷ ks) = (n ≤ k.count) × IsInOrder k.count ks
 abbrev pub alone_by : Disk → List Key → ℕ → MachineState → MachineState
 alone_by system keys steps start = alone system (presses_of keys) steps start
 
--- after so many steps it waits for a key, it runs, and it has shown this
+-- after so many steps it waits for a key, it runs, and it has shown and printed this
 abbrev pub waits_at : Disk → MachineState → List Key → ℕ → Bool
 waits_at system start keys n = (look_of (alone_by system keys n start)).waiting
 
@@ -29,6 +29,9 @@ runs_at system start keys n = is_running (alone_by system keys n start).ended
 
 abbrev pub screen_at : Disk → MachineState → List Key → ℕ → List ℕ
 screen_at system start keys n = (alone_by system keys n start).session.console.screen
+
+abbrev pub printer_at : Disk → MachineState → List Key → ℕ → List ℕ
+printer_at system start keys n = (alone_by system keys n start).session.console.printer
 
 -- each of these keys finds room where it comes, after those before it: the machine run alone by these takes it there
 abbrev pub HaveRoomAfter : Disk → MachineState → (given keys : List Key) → Type 0

@@ -12,7 +12,7 @@ use Rattle.cpm_play.specs.Output.{OutputState}
 use Rattle.cpm_play.specs.Playing.{runs_at}
 use Rattle.cpm_play.specs.Typing.{HasReadKeys}
 use Rattle.cpm_play.specs.Typist.{AreOften, HasAttended, HasHeard, Hearing, IsHeard, TypingState, is_over, keys_heard}
-use Rattle.cpm_play.specs.Wanting.{AreWantedAfter, HasNoLongWait, IsKeyWanted}
+use Rattle.cpm_play.specs.Wanting.{AreWantedAfter, HasNoLongPoll, HasNoLongWait, IsKeyWanted}
 use Rattle.cpm_play.specs.declared.live.LiveError.{LiveError}
 use Rattle.cpm_play.specs.declared.live.LiveError.TheVariants.{Unreadable, Unwritable, Unprinted, Unrecorded, OutOfMemory}
 use Rattle.cpm_play.specs.declared.live.PlayEnd.{PlayEnd}
@@ -39,8 +39,8 @@ AreScripted s after scripted begun =
     ⊎ ((s.is_patient ≡ false) × (is_over after ≡ true) × IsCuedUpTo s.system s.start s.steps begun 0 s.cues scripted)
 
 -- The session has these keys after so many steps: those of the script, as far as they come, and then those that the typist gave, each at the count at which
--- it did. The typist is asked from the end of the script on, often. A patient one gives a key only where one is wanted; and whoever it is, the machine waits
--- for a key for no longer than a turn.
+-- it did. The typist is asked from the end of the script on, often. A patient one gives a key only where one is wanted, and the machine polls steadily for no
+-- longer than 150 turns. Whoever it is, the machine waits for a key for no longer than a turn.
 pub record HasListened (s : Sitting) (before after : TypingState) (keys : List Key) (done : ℕ) : Type 0 where
   pub scripted : List Key
   pub typed : List Key
@@ -56,6 +56,7 @@ pub record HasListened (s : Sitting) (before after : TypingState) (keys : List K
   pub read : HasReadKeys before.unread after.unread (bytes_of typed)
   pub wanted : s.is_patient ≡ true → AreWantedAfter s.system s.start scripted typed
   pub brief : HasNoLongWait s.system s.start keys begun done
+  pub answered : s.is_patient ≡ true → HasNoLongPoll s.system s.start keys begun done
 
 -- where the typist is patient a key is wanted
 abbrev pub IsWantedByPatient : Sitting → List Key → ℕ → Type 0

@@ -11,7 +11,7 @@ ghost use Rattle.cpm_play.specs.Output.{GetsOutput, output_state};
 ghost use Rattle.cpm_play.specs.Playing.{EndsAs, IsQuiet, alone_by, waits_at, state_left, without_list, without_text};
 ghost use Rattle.cpm_play.specs.Sitting.{IsTypedPlay, IsPlayCut, sitting};
 ghost use Rattle.cpm_play.specs.Typist.{CanBeHeard, HasAttended, HasHeardNothing, IsHeard, IsHeardPatiently, is_over};
-ghost use Rattle.cpm_play.specs.Wanting.{HasWatched, longest_turn};
+ghost use Rattle.cpm_play.specs.Wanting.{HasWatched, IsWatchedTurn, longest_turn};
 ghost use Rattle.cpm_play.specs.declared.typist.KeyNeed.TheVariants.{Wanted};
 
 use crate::cued::{CuedKeys, follow};
@@ -169,6 +169,7 @@ fn turn(
     ensures state { machine.new ≡ after system.now result machine.old }
     ensures ended { result ≡ 0 → IsQuiet machine.old → is_running machine.old.ended ≡ false }
     ensures watched { HasWatched watch.old watch.new result machine.new }
+    ensures counted { is_patient ≡ true → IsWatchedTurn system.now left watch.old watch.new result machine.old machine.new }
 {
     let most = watch.most().min(left);
     if is_patient {

@@ -1,7 +1,8 @@
 //! Who types at a machine that is played live, and what is heard of it.
 
-ghost use Rattle.std.specs.Prelude.{◌≡◌, ◌<◌, false, true, IfOk, None, OnErr};
+ghost use Rattle.std.specs.Prelude.{◌≡◌, ◌<◌, ◌≤◌, false, true, IfOk, None, OnErr};
 ghost use Rattle.cpm_play.specs.Typist.{CanBeHeard, HasAttended, HasHeardNothing, IsHeard, IsHeardPatiently, TypingState, is_over, wants_key};
+ghost use Rattle.cpm_play.specs.Wanting.{longest_turn};
 ghost use Rattle.cpm_play.specs.declared.typist.KeyNeed.TheVariants.{Wanted};
 
 use crate::typing::next_key;
@@ -62,9 +63,10 @@ pub trait Typist {
     fn is_patient(&self) -> bool
         ensures { result ≡ (typing self.now).is_patient };
 
-    /// How many steps a turn has at most, after which it is asked again.
+    /// How many steps a turn has at most, after which it is asked again. A patient one cuts no turn short.
     fn most_steps(&self) -> u64
-        ensures { 0 < result };
+        ensures some { 0 < result }
+        ensures patient { (typing self.now).is_patient ≡ true → longest_turn ≤ result };
 
     /// Looks whether it breaks in on a script that is played before, where the machine has executed so many steps.
     fn look_in(&mut self, count: u64)

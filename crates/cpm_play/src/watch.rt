@@ -1,7 +1,8 @@
 //! When a machine that is played live wants a key.
 
 ghost use Rattle.std.specs.Prelude.{◌≡◌, ◌<◌, ◌≤◌, ◌||◌};
-ghost use Rattle.cpm_play.specs.Wanting.{is_poll, longest_turn, need_of, polls_more, polls_seen, watched_address};
+ghost use Rattle.cpm_play.specs.Wanting.{first_watch, is_poll, longest_turn, most_watched, need_of, watch_after, watch_called, watch_given, watch_passed};
+ghost use Rattle.cpm_play.specs.Wanting.{watch_uncalled, watched_address};
 
 use crate::machine::QUANTUM;
 use crate::typist::KeyNeed;
@@ -55,7 +56,7 @@ pub(crate) struct Watch {
 impl Watch {
     /// Before the first turn.
     pub(crate) fn new() -> Watch
-        ensures { result.polls ≡ 0 }
+        ensures { result ≡ first_watch }
     {
         Watch {
             polls: 0,
@@ -74,6 +75,7 @@ impl Watch {
 
     /// How many steps the next turn has at most.
     pub(crate) fn most(&self) -> u64
+        ensures most { result ≡ most_watched self.now }
         ensures some { 0 < result }
         ensures few { result ≤ longest_turn }
     {
@@ -99,7 +101,7 @@ impl Watch {
 
     /// Sees what a turn left, before its text is taken, and why it ended.
     pub(crate) fn see(&mut self, look: &Look, why: Why)
-        ensures { self.new.polls ≡ polls_seen self.old look.now why }
+        ensures { self.new ≡ watch_after self.old look.now why }
     {
         if look.console > 0 {
             self.polls = 0;
@@ -112,7 +114,7 @@ impl Watch {
 
     /// Sees the call before which a turn stopped.
     fn see_call(&mut self, look: &Look)
-        ensures { self.new.polls ≡ polls_more (self.old.at_status || is_poll look.now.regs) self.old.polls }
+        ensures { self.new ≡ watch_called (self.old.at_status || is_poll look.now.regs) self.old }
     {
         self.is_pause = self.at_status;
         if self.is_pause || is_poll(&look.regs) {
@@ -125,7 +127,7 @@ impl Watch {
 
     /// Sees that a turn stopped before no call, where calls are not watched.
     pub(crate) fn pass(&mut self)
-        ensures { self.new.polls ≡ 0 }
+        ensures { self.new ≡ watch_passed self.old }
     {
         self.polls = 0;
         self.quantum = self.quantum.saturating_mul(2);
@@ -133,7 +135,7 @@ impl Watch {
 
     /// Sees that a turn stopped before no call.
     fn see_none(&mut self)
-        ensures { self.new.polls ≡ self.old.polls }
+        ensures { self.new ≡ watch_uncalled self.old }
     {
         self.is_pause = false;
         self.quantum = self.quantum.saturating_mul(2);
@@ -142,7 +144,7 @@ impl Watch {
 
     /// A key was given.
     pub(crate) fn give(&mut self)
-        ensures { self.new.polls ≡ 0 }
+        ensures { self.new ≡ watch_given self.old }
     {
         self.polls = 0;
         self.quantum = FIRST_QUANTUM;

@@ -7,7 +7,8 @@ use Rattle.cpm_play.specs.Typist.{IsHeard}
 use Rattle.cpm_play.specs.declared.typist.Heard.TheVariants as heard
 use Rattle.cpm_play.proofs.GoingLemmas.{going-ending, going-given, going-left, going-printed, going-shown, going-waiting}
 use Rattle.cpm_play.proofs.LiveLemmas.{listened-failed, listened-still, live-done, live-ended, live-key, live-not-given, live-quit, live-start, live-still, live-turn, live-unheard, live-unshown, live-watched, fewer-asks, is-wanted, not-wanted, patient-wanted, room-used, takes-first}
-use Rattle.cpm_play.proofs.WantingLemmas.{busy-here, idle-here, none-here, wanted-here}
+use Rattle.cpm_play.proofs.PollLemmas.{leaves-least}
+use Rattle.cpm_play.proofs.WantingLemmas.{busy-here, few-here, idle-here, none-here, wanted-here}
 use Rattle.cpm_play.proofs.live.play_live.Goals as goal
 
 pub loop-live-init : goal.loop-live-init
@@ -102,8 +103,11 @@ loop-live-preserved g c =
     let is : IsHeard c.loop-live.live.steps (g.T.Typist.typing c.loop-live.typist) (g.T.Typist.typing c.hear.new.typist) heard.Nothing = rw c.in-Nothing-2.is at c.in_ok-end.ensures.heard in
     let some : 0 < c.turn-executed.result = let more = c.if-executed-eq0.false in omega (arith, more) in
     let busy = busy-here live.going (live-watched live) c.look.result c.look.ensures c.need-need.result c.need-need.ensures (not-wanted c.need-need.result (sym c.wants_key.ensures ∙ c.if-wants_key.false)) in (
-      live-turn live (g.T.Typist.typing c.hear.new.typist) c.turn-executed.result c.turn-executed.new.machine c.show.new.machine (output_state (g.W.Write.contents c.show.new.out) (g.L.Write.contents c.show.new.list)) c.turn-executed.new.watch is
-          some (let least = c.min-most.ensures in let few = c.turn-executed.ensures.within in omega arith) c.turn-executed.ensures.few busy c.turn-executed.ensures.state c.turn-executed.ensures.watched c.in_ok-show-in-Nothing-2.ensures.state c.in_ok-show-in-Nothing-2.ensures.output,
+      live-turn live (g.T.Typist.typing c.hear.new.typist) c.turn-executed.result c.min-most.result c.turn-executed.new.machine c.show.new.machine (output_state (g.W.Write.contents c.show.new.out) (g.L.Write.contents c.show.new.list)) c.turn-executed.new.watch is
+          some (let least = c.min-most.ensures in let few = c.turn-executed.ensures.within in omega arith) c.turn-executed.ensures.few busy
+          (few-here live.going (live-watched live) c.look.result c.look.ensures c.need-need.result c.need-need.ensures (not-wanted c.need-need.result (sym c.wants_key.ensures ∙ c.if-wants_key.false)))
+          (λ patient. leaves-least c.most_steps.result (c.args.steps - c.loop-live.live.steps) c.min-most.result (c.most_steps.ensures.patient (c.hear.ensures.nature ∙ c.loop-live.invariant.1 ∙ patient)) c.min-most.ensures)
+          (λ patient. c.turn-executed.ensures.counted (c.is_patient-is_patient.ensures ∙ c.play_script.ensures.attended.nature ∙ patient)) c.turn-executed.ensures.state c.turn-executed.ensures.watched c.in_ok-show-in-Nothing-2.ensures.state c.in_ok-show-in-Nothing-2.ensures.output,
       c.hear.ensures.nature ∙ c.loop-live.invariant.1,
     )
 

@@ -1,5 +1,6 @@
 use Rattle.std.proofs.Common.{◌<◌, arith}
 use Rattle.cpm_play.proofs.LiveLemmas.{not-moved, unmoved}
+use Rattle.cpm_play.proofs.PollLemmas.{turn-counted}
 use Rattle.cpm_play.proofs.WantingLemmas.{turn-watched}
 use Rattle.cpm_play.proofs.live.turn.Goals as goal
 
@@ -17,3 +18,8 @@ pub returns-else-is_patient-clause-ended : goal.returns-else-is_patient-clause-e
 returns-else-is_patient-clause-ended c = λ none quiet.
     let some : 0 < c.min-most.result = let least = c.min-most.ensures in let most = c.most.ensures.some in let left = c.requires.some in omega arith in
     not-moved c.args.system.now c.min-most.result c.grant_to_wait-executed.result c.args.machine.now quiet some c.grant_to_wait-executed.ensures.executed none c.requires.busy
+
+pub returns-then-is_patient-clause-counted : goal.returns-then-is_patient-clause-counted
+returns-then-is_patient-clause-counted c = λ patient.
+    turn-counted c.args.system.now c.args.left c.address.result c.most.result c.min-most.result c.grant_until-granted.result.executed c.args.watch.now c.see.new.self c.args.machine.now c.grant_until-granted.new.self
+    c.look.result c.grant_until-granted.result.why c.address.ensures c.most.ensures.most c.min-most.ensures c.grant_until-granted.ensures.executed c.look.ensures c.grant_until-granted.ensures.why c.see.ensures
