@@ -1,5 +1,8 @@
+pub mod ComingLemmas
 pub mod EndingLemmas
 pub mod FinishLemmas
+pub mod GoingOnLemmas
+pub mod LaterLemmas
 pub mod OpeningLemmas
 pub mod OrderLemmas
 pub mod PartLemmas
@@ -13,4 +16,5 @@ pub mod ScriptLemmas
 pub mod SettleLemmas
 pub mod SlotLemmas
 pub mod StageLemmas
+pub mod StandingLemmas
 pub mod TypedLemmas

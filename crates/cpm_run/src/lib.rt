@@ -7,6 +7,7 @@ mod digits;
 mod ending;
 mod error;
 mod finish;
+pub mod laws;
 mod openings;
 mod options;
 mod part;
