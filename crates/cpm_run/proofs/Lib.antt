@@ -8,8 +8,10 @@ pub mod OrderLemmas
 pub mod PartLemmas
 pub mod PlayLemmas
 pub mod PrepareLemmas
+pub mod PressableLemmas
 pub mod RecordLemmas
 pub mod ReplayLemmas
+pub mod RestLemmas
 pub mod RoomLemmas
 pub mod RunLemmas
 pub mod ScriptLemmas

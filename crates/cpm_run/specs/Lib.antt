@@ -1,4 +1,5 @@
 pub mod Ending
+pub mod Kept
 pub mod Laws
 pub mod Openings
 pub mod Playing
