@@ -1,7 +1,8 @@
 -- The rest of a run in the code, and what is put in front of what it leaves.
 use Rattle.std.proofs.Common.{◌≡◌, ◌∙◌, ◌+◌, ◌<◌, ◌≤◌, ◌++◌, ℕ, zero, suc, List, [], ◌∷◌, Option, None, Some, refl, sym, ap, ap₂, arith, append-nil, append_assoc, drop, get_or, length, map, slice_get}
 use Rattle.std.specs.Prelude.{option_map}
-use Rattle.std.proofs.lemmas.List.{at_drop_all, drop_more, length_push, map-append}
+use Rattle.std.proofs.lemmas.List.{at_drop_all, drop_more, length-map, length_push, map-append}
+use Rattle.std.proofs.lemmas.Option.{slice_get-get_or, slice_get-map}
 use Rattle.cpm_batch.specs.Outputs.{SessionOutput, left_by}
 use Rattle.cpm_batch.specs.declared.output.SessionFiles.{SessionFiles}
 use Rattle.cpm_config.specs.declared.config.SessionConfig.{SessionConfig}
@@ -22,11 +23,14 @@ first-left [] (suc n) = refl
 first-left (s ∷ ss) zero = refl
 first-left (s ∷ ss) (suc n) = first-left ss n
 
+next-left : (ss : RunStanding) (n : ℕ) → drop 1 (drop n ss) ≡ drop (suc n) ss
+next-left [] zero = refl
+next-left [] (suc n) = refl
+next-left (s ∷ ss) zero = refl
+next-left (s ∷ ss) (suc n) = next-left ss n
+
 pub one-more-left : (ss : RunStanding) (n : ℕ) → drop 1 (drop n ss) ≡ drop (n + 1) ss
-one-more-left [] zero = refl
-one-more-left [] (suc n) = refl
-one-more-left (s ∷ ss) zero = refl
-one-more-left (s ∷ ss) (suc n) = one-more-left ss n
+one-more-left ss n = next-left ss n ∙ ap (λ (m : ℕ). drop m ss) (let next : suc n ≡ n + 1 = omega arith in next)
 
 -- ---- the rest of each session
 
@@ -78,6 +82,14 @@ pub stands-past : (all : RunStanding) (is : List SettledSession) (ss : RunStandi
 stands-past all [] ss n past = refl
 stands-past all (j ∷ is) ss zero past = absurd (omega arith)
 stands-past all (j ∷ is) ss (suc n) past = stands-past all is (drop 1 ss) n (omega arith)
+
+pub kept-there : (all : RunStanding) (is : List SettledInput) (n : ℕ) (x : SettledInput) → n < length is → x ≡ get_or is n x
+    → standing_at (stands_all all (map settled_view is) all) n ≡ stands_by all (standing_at all n) (settled_view x).start
+kept-there all is n x within at =
+    stands-at all (map settled_view is) all n (settled_view x) (slice_get-map settled_view is n ∙ ap (option_map settled_view) (slice_get-get_or is n x within ∙ ap Some (sym at)))
+
+pub kept-past : (all : RunStanding) (is : List SettledInput) (n : ℕ) → length is ≤ n → standing_at (stands_all all (map settled_view is) all) n ≡ None
+kept-past all is n past = stands-past all (map settled_view is) all n (let long = length-map is settled_view in omega (arith, past, long))
 
 -- ---- reports and files
 
@@ -132,3 +144,15 @@ pub same-bytes : (system : Disk) (is : List SettledSession) (rs : List SessionRe
     → map (λ (r : SessionReport). r.bytes) rs ≡ map (λ (f : SessionFiles). length f.console.items) fs
 same-bytes system is rs fs reports files =
     bytes-reported rs ∙ ap (map (λ (e : ReportEntry). e.bytes)) reports ∙ bytes-of system is is ∙ ap (map (λ (o : SessionOutput). length o.console)) (sym files) ∙ sym (bytes-left fs)
+
+-- those of the next session, and of the others
+pub bytes-next : (r : SessionReport) (rs : List SessionReport) (f : SessionFiles) (fs : List SessionFiles) → map (λ (x : SessionReport). x.bytes) (r ∷ rs) ≡ map (λ (x : SessionFiles). length x.console.items) (f ∷ fs)
+    → map (λ (x : SessionReport). x.bytes) rs ≡ map (λ (x : SessionFiles). length x.console.items) fs
+bytes-next r rs f fs same = cc
+
+pub files-none : (rs : List SessionReport) (fs : List SessionFiles) → rs ≡ [] → map (λ (x : SessionReport). x.bytes) rs ≡ map (λ (x : SessionFiles). length x.console.items) fs → fs ≡ []
+files-none rs [] none same = refl
+files-none rs (f ∷ fs) none same = absurd (bad (ap (map (λ (x : SessionReport). x.bytes)) (sym none) ∙ same))
+  where
+    bad : [] ≡ map (λ (x : SessionFiles). length x.console.items) (f ∷ fs) → ⊥
+    bad is = cc

@@ -103,12 +103,13 @@ fn whole_sessions<'a>(
 {
     let mut whole_reports = Vec::new(alloc);
     let mut whole_files = Vec::new(alloc);
+    let mut others = reports.into_iter();
     let mut rest = files.into_iter();
-    for (place, report) in reports.into_iter().enumerate() {
+    while let Some(report) = others.next() {
         let Some(left) = rest.next() else {
             return Ok((whole_reports, whole_files));
         };
-        let from = kept_for(inputs, kept, place);
+        let from = kept_for(inputs, kept, whole_reports.len());
         let (report, left) = whole_session(alloc, from, report, left)?;
         whole_reports.push(report)?;
         whole_files.push(left)?;

@@ -1,10 +1,11 @@
 //! Whether the keys of sessions can be pressed, whatever they come from.
-ghost use Rattle.std.specs.Prelude.{◌≡◌, ◌++◌, IfOk, drop, length, map, true};
+ghost use Rattle.std.specs.Prelude.{◌≡◌, ◌++◌, IfOk, List, drop, length, map, true};
 ghost use Rattle.cpm_batch.specs.Inputs.{IsOpened, start_view};
 ghost use Rattle.cpm_geom.specs.Disk.{Disk};
 ghost use Rattle.cpm_play.specs.Playing.{HaveRoom, IsInOrder};
 ghost use Rattle.cpm_run.specs.Playing.{ArePressable, IsForkPressable, IsPressableBy};
 ghost use Rattle.cpm_run.specs.Settled.{opening_of, settled_view};
+ghost use Rattle.cpm_script.specs.declared.script.Key.{Key as KeyValue};
 
 use crate::part::pending_keys;
 use crate::settle::{has_room, keys_after};
@@ -44,7 +45,7 @@ fn begin_with(keys: &[Key], first: &[Key]) -> bool
 
 /// Whether a machine takes so many keys wherever they come that begins so.
 fn takes_all(start: &Start, count: usize) -> bool
-    ensures { result ≡ true → (system : Disk) (keys : List Key) → length keys ≡ count → HaveRoom system (opening_of (start_view start.now)) keys }
+    ensures { result ≡ true → (system : Disk) (keys : List KeyValue) → length keys ≡ count → HaveRoom system (opening_of (start_view start.now)) keys }
 {
     has_room(pending_keys(start), 0, count)
 }
@@ -78,7 +79,17 @@ fn is_fork_pressable(
     }
     let first = keys_before(alloc, other.keys.as_slice(), at)?;
     let keys = input.keys.as_slice();
-    Ok(begin_with(keys, first.as_slice()) && are_in_order(keys_after(keys, first.len()), at))
+    if !begin_with(keys, first.as_slice()) {
+        return Ok(false);
+    }
+    Ok(are_in_order(keys_after(keys, first.len()), at))
+}
+
+/// Whether keys can be pressed at a session that begins by itself.
+fn is_own_pressable(start: &Start, keys: &[Key]) -> bool
+    ensures { result ≡ true → (system : Disk) → IsInOrder 0 keys.now × HaveRoom system (opening_of (start_view start.now)) keys.now }
+{
+    takes_all(start, keys.len()) && are_in_order(keys, 0)
 }
 
 /// Whether the keys of a session can be pressed, among the others.
@@ -92,7 +103,7 @@ fn is_pressable(
 {
     match &input.start {
         Start::Forked { parent, at } => is_fork_pressable(alloc, inputs, input, *parent, *at),
-        start => Ok(are_in_order(input.keys.as_slice(), 0) && takes_all(start, input.keys.len())),
+        start => Ok(is_own_pressable(start, input.keys.as_slice())),
     }
 }
 
