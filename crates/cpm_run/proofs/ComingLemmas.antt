@@ -24,13 +24,12 @@ come-first system start steps given (k ∷ early) rest come =
     rw (soon, come.1)
     (ap (λ ks. k ∷ ks) (come-first system start steps (given ++ k ∷ []) early rest come.2 ∙ ap (λ ks. early ++ coming_after system start steps ks rest) (append_assoc given (k ∷ []) early)))
 
-later-more : (n : ℕ) (given : List Key) (k : Key) → later_keys n (given ++ k ∷ []) ≡ later_keys n given ++ record { count = n + k.count; byte = k.byte } ∷ []
+pub later-more : (n : ℕ) (given : List Key) (k : Key) → later_keys n (given ++ k ∷ []) ≡ later_keys n given ++ record { count = n + k.count; byte = k.byte } ∷ []
 later-more n [] k = refl
 later-more n (x ∷ given) k = ap (λ (ks : List Key). record { count = n + x.count; byte = x.byte } ∷ ks) (later-more n given k)
 
 module _ (system : Disk) (early : List Key) (n : ℕ) (console list : List ℕ) (start saved : MachineState) (by : AreBy n early)
     (same : state_behind console list saved ≡ alone_by system early n start) where
-
   -- those that come behind the saving are the same, so many steps later
   come-later : (m : ℕ) (given keys : List Key) →
       coming_after system start (n + m) (early ++ later_keys n given) (later_keys n keys) ≡ later_keys n (coming_after system saved m given keys)

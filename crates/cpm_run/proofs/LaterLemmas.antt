@@ -70,7 +70,6 @@ alone-last system xs ys (suc n) start none =
 
 module _ (system : Disk) (early : List Key) (n : ℕ) (console list : List ℕ) (start saved : MachineState) (by : AreBy n early)
     (same : state_behind console list saved ≡ alone_by system early n start) where
-
   joined : List Key → List Key
   joined later = early ++ later_keys n later
 

@@ -2,6 +2,8 @@ pub mod ComingLemmas
 pub mod EndingLemmas
 pub mod FinishLemmas
 pub mod GoingOnLemmas
+pub mod JoinLemmas
+pub mod KeepingLemmas
 pub mod LaterLemmas
 pub mod OpeningLemmas
 pub mod OrderLemmas

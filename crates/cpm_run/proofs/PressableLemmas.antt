@@ -49,8 +49,6 @@ room-counted start pending count is few system keys long =
     let all : length start.session.console.keys + length keys ≤ most_keys = omega (arith, is, long, within) in
     few-room system start keys all
 
-
-
 -- ---- sessions
 
 -- those of one that begins by itself

@@ -45,8 +45,8 @@ rests-more all is n x so_far more r within at one pushed h =
     ∙ ap (λ (ys : List SettledSession). ys ++ others) (map-append settled_view so_far (r ∷ []))
     ∙ append_assoc (map settled_view so_far) (settled_view r ∷ []) others
     ∙ ap₂ (λ (y : SettledSession) (ys : List SettledSession). map settled_view so_far ++ (y ∷ ys))
-      (one ∙ ap (λ (o : Option SessionStanding). rest_of_session all o (settled_view x)) (sym (first-left all n)))
-      (ap (λ (ss : RunStanding). rests all (map settled_view (drop (n + 1) is)) ss) (sym (one-more-left all n)))
+    (one ∙ ap (λ (o : Option SessionStanding). rest_of_session all o (settled_view x)) (sym (first-left all n)))
+    (ap (λ (ss : RunStanding). rests all (map settled_view (drop (n + 1) is)) ss) (sym (one-more-left all n)))
     ∙ ap (λ (ys : List SettledInput). map settled_view so_far ++ rests all (map settled_view ys) (drop n all)) (sym here)
     ∙ h
 
@@ -105,9 +105,9 @@ reports-more from n r w so_far more rest whole long pushed one h =
     ∙ ap (λ (ys : List ReportEntry). ys ++ others) (map-append report_view so_far (w ∷ []))
     ∙ append_assoc (map report_view so_far) (report_view w ∷ []) others
     ∙ ap₂ (λ (y : ReportEntry) (ys : List ReportEntry). map report_view so_far ++ (y ∷ ys))
-      (one ∙ ap (λ (m : ℕ). report_behind (standing_at from m) (report_view r)) long
-      ∙ ap (λ (o : Option SessionStanding). report_behind o (report_view r)) (sym (first-left from (length so_far))))
-      (ap (λ (m : ℕ). reports_behind (drop m from) (map report_view rest)) longer ∙ ap (λ (ss : RunStanding). reports_behind ss (map report_view rest)) (sym (one-more-left from (length so_far))))
+    (one ∙ ap (λ (m : ℕ). report_behind (standing_at from m) (report_view r)) long
+    ∙ ap (λ (o : Option SessionStanding). report_behind o (report_view r)) (sym (first-left from (length so_far))))
+    (ap (λ (m : ℕ). reports_behind (drop m from) (map report_view rest)) longer ∙ ap (λ (ss : RunStanding). reports_behind ss (map report_view rest)) (sym (one-more-left from (length so_far))))
     ∙ h
 
 pub files-more : (from : RunStanding) (n : ℕ) (f w : SessionFiles) (so_far more rest : List SessionFiles) (whole : List SessionOutput) → n ≡ length so_far → more ≡ so_far ++ w ∷ []
@@ -121,9 +121,9 @@ files-more from n f w so_far more rest whole long pushed one h =
     ∙ ap (λ (ys : List SessionOutput). ys ++ others) (map-append left_by so_far (w ∷ []))
     ∙ append_assoc (map left_by so_far) (left_by w ∷ []) others
     ∙ ap₂ (λ (y : SessionOutput) (ys : List SessionOutput). map left_by so_far ++ (y ∷ ys))
-      (one ∙ ap (λ (m : ℕ). output_behind (standing_at from m) (left_by f)) long
-      ∙ ap (λ (o : Option SessionStanding). output_behind o (left_by f)) (sym (first-left from (length so_far))))
-      (ap (λ (m : ℕ). outputs_behind (drop m from) (map left_by rest)) longer ∙ ap (λ (ss : RunStanding). outputs_behind ss (map left_by rest)) (sym (one-more-left from (length so_far))))
+    (one ∙ ap (λ (m : ℕ). output_behind (standing_at from m) (left_by f)) long
+    ∙ ap (λ (o : Option SessionStanding). output_behind o (left_by f)) (sym (first-left from (length so_far))))
+    (ap (λ (m : ℕ). outputs_behind (drop m from) (map left_by rest)) longer ∙ ap (λ (ss : RunStanding). outputs_behind ss (map left_by rest)) (sym (one-more-left from (length so_far))))
     ∙ h
 
 -- a report says as many bytes as the console has

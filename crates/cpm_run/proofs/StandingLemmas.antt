@@ -42,7 +42,7 @@ module _ (system : Disk) (start : MachineState) (i : SettledSession) (s : Sessio
   rest_keys : List Key
   rest_keys = keys_left s.pressed s.done i.keys
 
-  begun : state_behind s.console s.list s.saving.state ≡ alone_by system (take s.pressed i.keys) s.done start
+  pub begun : state_behind s.console s.list s.saving.state ≡ alone_by system (take s.pressed i.keys) s.done start
   begun =
       ap (λ (x : Saving). state_behind s.console s.list x.state) there.saving
       ∙ ap₂ (λ (xs ys : List ℕ). state_behind xs ys (state_left system (take s.pressed i.keys) s.done start)) there.console there.list
@@ -65,19 +65,19 @@ module _ (system : Disk) (start : MachineState) (i : SettledSession) (s : Sessio
   whole_left =
       ap₂ (λ (ks : List Key) (n : ℕ). state_left system (coming_keys system start n ks) n start) (sym all_keys) (sym all_steps)
       ∙ left_by_coming system (take s.pressed i.keys) s.done s.console s.list start s.saving.state there.early begun (i.steps - s.done) (keys_left s.pressed s.done i.keys)
-        (subst (λ (n : ℕ). HaveComeAfter system start n [] (take s.pressed i.keys)) (sym all_steps) there.come)
+      (subst (λ (n : ℕ). HaveComeAfter system start n [] (take s.pressed i.keys)) (sym all_steps) there.come)
 
 -- ---- how its rest begins
 
-abbrev begins_with : Option SessionStanding → MachineState → MachineState
+abbrev pub begins_with : Option SessionStanding → MachineState → MachineState
 begins_with None start = start
 begins_with (Some s) start = s.saving.state
 
-next-standing : (ss : RunStanding) (place : ℕ) → standing_at (drop 1 ss) place ≡ standing_at ss (suc place)
+pub next-standing : (ss : RunStanding) (place : ℕ) → standing_at (drop 1 ss) place ≡ standing_at ss (suc place)
 next-standing [] place = refl
 next-standing (s ∷ ss) place = refl
 
-rest-at : (all : RunStanding) (is : List SettledSession) (ss : RunStanding) (place : ℕ) → slice_get (rests all is ss) place ≡ option_map (rest_of_session all (standing_at ss place)) (slice_get is place)
+pub rest-at : (all : RunStanding) (is : List SettledSession) (ss : RunStanding) (place : ℕ) → slice_get (rests all is ss) place ≡ option_map (rest_of_session all (standing_at ss place)) (slice_get is place)
 rest-at all [] ss place = refl
 rest-at all (i ∷ is) ss zero = refl
 rest-at all (i ∷ is) ss (suc place) =
@@ -186,7 +186,7 @@ module _ (system : Disk) (inputs rest : List SettledSession) (i : SettledSession
       let is : state_behind s.console s.list later ≡ whole = whole_run system (start_of inputs i) i s there in
       ap₂ (session_output system i.session) (sym is) (whole_left system (start_of inputs i) i s there)
       ∙ ap (λ (x : MachineState). output_behind (Some s) (session_output system i.session (alone_by system (keys_left s.pressed s.done i.keys) (i.steps - s.done) x)
-        (state_left system (coming_keys system x (i.steps - s.done) (keys_left s.pressed s.done i.keys)) (i.steps - s.done) x))) (sym begins)
+      (state_left system (coming_keys system x (i.steps - s.done) (keys_left s.pressed s.done i.keys)) (i.steps - s.done) x))) (sym begins)
 
 -- ---- all of them
 

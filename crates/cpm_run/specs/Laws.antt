@@ -10,11 +10,16 @@ use Rattle.cpm_machine.specs.Saving.{Saving, restored, saving_with}
 use Rattle.cpm_machine.specs.SystemDigest.{system_digest}
 use Rattle.cpm_play.specs.Live.{AreBy}
 use Rattle.cpm_play.specs.Playing.{EndsAs, IsInOrder, alone_by, coming_keys, state_left, without_list, without_text}
+use Rattle.cpm_play.specs.Players.{HaveBecome}
+use Rattle.cpm_play.specs.declared.player.Player.{Player}
 use Rattle.cpm_run.specs.Ending.{ending_of}
+use Rattle.cpm_run.specs.Kept.{standing_of}
+use Rattle.cpm_run.specs.Playing.{ArePressable, HavePlayers}
 use Rattle.cpm_run.specs.Run.{files_left, left_of, reports_of, run_of, saving_over, start_of}
 use Rattle.cpm_run.specs.Settled.{SettledSession}
-use Rattle.cpm_run.specs.Standing.{IsTrueStanding, RunStanding, outputs_behind, reports_behind, rest_of, stands_all}
+use Rattle.cpm_run.specs.Standing.{IsTrueStanding, RunStanding, join_standings, outputs_behind, reports_behind, rest_of, stands_all}
 use Rattle.cpm_script.specs.declared.script.Key.{Key}
+use Rattle.cpm_slots.specs.Host.{Host}
 
 -- the same keys, so many steps later
 abbrev pub later_keys : ℕ → List Key → List Key
@@ -79,3 +84,13 @@ pub record RestLeavesAll (system : Disk) (inputs : List SettledSession) (standin
 abbrev pub RestIsWhole : Type 0
 RestIsWhole = (system : Disk) (inputs : List SettledSession) (standing : RunStanding) → IsTrueStanding system inputs standing →
     RestLeavesAll system inputs standing
+
+-- Where the sessions of a run are played in a host, by players that were made for them, and stand between two turns, that is a true standing of the run.
+abbrev pub KeptIsTrue : Type 0
+KeptIsTrue = (inputs : List SettledSession) (old h : Host) (players now : List Player) → ArePressable old.system inputs → HavePlayers old.slots inputs players →
+    HaveBecome old h players now → IsTrueStanding old.system inputs (standing_of h now)
+
+-- Where the rest of a run stands truly, from where the run had stood, the run stands truly by both.
+abbrev pub StandingsJoin : Type 0
+StandingsJoin = (system : Disk) (inputs : List SettledSession) (standing rest : RunStanding) → ArePressable system inputs → IsTrueStanding system inputs standing →
+    IsTrueStanding system (rest_of inputs standing) rest → IsTrueStanding system inputs (join_standings inputs standing rest)

@@ -129,3 +129,31 @@ outputs_behind ss (o ∷ os) = output_behind (standing_at ss 0) o ∷ outputs_be
 abbrev pub reports_behind : RunStanding → List ReportEntry → List ReportEntry
 reports_behind ss [] = []
 reports_behind ss (r ∷ rs) = report_behind (standing_at ss 0) r ∷ reports_behind (drop 1 ss) rs
+
+-- ---- the rest of a run on its way
+
+-- where a session stands whose rest, from where it had stood, stands so
+abbrev pub joined : SessionStanding → SessionStanding → SessionStanding
+joined s rest = record {
+  pressed = s.pressed + rest.pressed;
+  done = s.done + rest.done;
+  console = s.console ++ rest.console;
+  list = s.list ++ rest.list;
+  saving = rest.saving;
+}
+
+-- it stands as it did where its rest has not begun, and as its rest where it had not begun itself
+abbrev pub joined_if : (from own rest : Option SessionStanding) → Option SessionStanding
+joined_if from own None = own
+joined_if None own (Some rest) = Some rest
+joined_if (Some s) own (Some rest) = Some (joined s rest)
+
+-- so it is with some sessions, the first of which had the first of some standings, and whose rest has the first of others
+abbrev pub join_all : (all : RunStanding) → List SettledSession → RunStanding → RunStanding → RunStanding
+join_all all [] ss rests = []
+join_all all (i ∷ is) ss rests =
+    joined_if (stands_by all (standing_at ss 0) i.start) (standing_at ss 0) (standing_at rests 0) ∷ join_all all is (drop 1 ss) (drop 1 rests)
+
+-- where a run stands, whose rest stands so
+abbrev pub join_standings : List SettledSession → RunStanding → RunStanding → RunStanding
+join_standings inputs standing rest = join_all standing inputs standing rest

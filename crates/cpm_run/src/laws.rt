@@ -1,6 +1,6 @@
 //! Laws of sessions that go on from a saving, as contracts.
 
-ghost use Rattle.cpm_run.specs.Laws.{GoesOnAlone, GoesOnBehind, RestIsWhole, SavedRunGoesOn};
+ghost use Rattle.cpm_run.specs.Laws.{GoesOnAlone, GoesOnBehind, KeptIsTrue, RestIsWhole, SavedRunGoesOn, StandingsJoin};
 
 /// A session that was saved, with all of its output taken, and goes on from that, is its machine alone, by the keys from before the saving and those from
 /// behind it: it shows the text before it with the text behind it, and comes to the same state.
@@ -23,4 +23,15 @@ pub fn saved_run_goes_on()
 /// savings, and those that are still to be forked.
 pub fn rest_is_whole()
     ensures { RestIsWhole }
+{}
+
+/// Where the sessions of a run stand between two turns, as they are kept, that is a true standing of the run: those that are played, and those that are
+/// still to be forked.
+pub fn kept_is_true()
+    ensures { KeptIsTrue }
+{}
+
+/// Where the rest of a run stands truly, from where the run had stood, the run stands truly by both.
+pub fn standings_join()
+    ensures { StandingsJoin }
 {}

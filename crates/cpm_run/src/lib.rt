@@ -8,6 +8,7 @@ mod ending;
 mod error;
 mod finish;
 mod going_on;
+mod keeping;
 pub mod laws;
 mod openings;
 mod options;
@@ -28,6 +29,7 @@ mod watcher;
 
 pub use ending::{Ending, IllegalBytes, end_word};
 pub use error::RunError;
+pub use keeping::keep_sessions;
 pub use options::{RecordFile, RunOptions};
 pub use report::{Report, SessionReport, SessionStop};
 pub use run::run_host;

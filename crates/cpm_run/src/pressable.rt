@@ -109,10 +109,7 @@ fn is_pressable(
 
 /// Whether the keys of all sessions can be pressed, so that they can be played. The keys are counted for that with those that are pending: a session with
 /// more than 4,096 can't be, though some such could.
-pub(crate) fn are_pressable(
-    alloc: Global,
-    inputs: &[SettledInput<'_>],
-) -> Result<bool, AllocError>
+pub(crate) fn are_pressable(alloc: Global, inputs: &[SettledInput<'_>]) -> Result<bool, AllocError>
     ensures { IfOk result (λ can. can ≡ true → (system : Disk) → ArePressable system (map settled_view inputs.now)) }
 {
     for input in inputs {

@@ -24,12 +24,7 @@ fn copied(alloc: Global, keys: &[Key]) -> Result<Vec<Key>, AllocError>
 }
 
 /// The keys after so many, whose counts begin at this one.
-fn keys_left(
-    alloc: Global,
-    keys: &[Key],
-    pressed: usize,
-    done: u64,
-) -> Result<Vec<Key>, AllocError>
+fn keys_left(alloc: Global, keys: &[Key], pressed: usize, done: u64) -> Result<Vec<Key>, AllocError>
     ensures { IfOk result (λ v. v.items ≡ keys_left pressed done keys.now) }
 {
     keys_after(keys, pressed)
@@ -90,10 +85,7 @@ fn rest_start(
 }
 
 /// A session that has not begun, which is left whole.
-fn unbegun<'a>(
-    alloc: Global,
-    input: &SettledInput<'a>,
-) -> Result<SettledInput<'a>, AllocError>
+fn unbegun<'a>(alloc: Global, input: &SettledInput<'a>) -> Result<SettledInput<'a>, AllocError>
     ensures { IfOk result (λ r. settled_view r ≡ settled_view input.now) }
 {
     Ok(SettledInput {
