@@ -1,5 +1,7 @@
 //! Keeping the sessions of a run on its way.
 ghost use Rattle.std.specs.Prelude.{◌≡◌, IfOk, Some, option_map};
+ghost use Rattle.cpm_batch.specs.Savings.{saving_view};
+ghost use Rattle.cpm_machine.specs.Saving.{restored};
 ghost use Rattle.cpm_play.specs.declared.player.Player.TheVariants.{Playing};
 ghost use Rattle.cpm_run.specs.Kept.{kept_view, standing_of, standing_of_player, standing_view};
 
@@ -10,6 +12,17 @@ use cpm_play::{Player, ScriptedSlot};
 use cpm_slots::Host;
 use std::alloc::{AllocError, Global};
 
+/// The machine of these bytes, which were just made of one and so are not damaged.
+fn saved_machine(alloc: Global, bytes: &[u8]) -> Result<SavedMachine, AllocError>
+    ensures { IfOk result (λ s. restored bytes.now ≡ Ok (saving_view s)) }
+{
+    let (digest, machine) = match Machine::restored(alloc, bytes) {
+        Ok(restored) => restored,
+        Err(_) => return Err(AllocError),
+    };
+    Ok(SavedMachine { digest, machine })
+}
+
 /// What is kept of a session that is played in a host.
 fn keep_slot(
     alloc: Global,
@@ -19,11 +32,8 @@ fn keep_slot(
     ensures kept { IfOk result (λ k. Some (kept_view k) ≡ standing_of_player host.old.host (Playing slot.now)) }
     ensures host { host.new ≡ host.old }
 {
-    // (its slot is open, and bytes that were just made of a machine are not damaged)
+    // (its slot is open, so that saving fails for nothing but memory)
     let Ok(bytes) = host.save(alloc, slot.id) else {
-        return Err(AllocError);
-    };
-    let Ok((digest, machine)) = Machine::restored(alloc, bytes.as_slice()) else {
         return Err(AllocError);
     };
     Ok(KeptSession {
@@ -31,7 +41,7 @@ fn keep_slot(
         done: slot.done(),
         console: slot.console.clone()?,
         list: slot.list.clone()?,
-        saved: SavedMachine { digest, machine },
+        saved: saved_machine(alloc, bytes.as_slice())?,
     })
 }
 
