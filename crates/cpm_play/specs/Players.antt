@@ -200,6 +200,13 @@ pub record HaveBecome (old new : Host) (players now : List Player) : Type 0 wher
   pub numbers : new.openings + forks_of now ≡ old.openings + forks_of players
   pub pages : quotas_of new.slots + sum_by (pages_of old.slots players) now ≡ quotas_of old.slots + fork_pages old.slots players
 
+-- some players that could be played, in a host before, have become these in this one
+pub record AreOnTheWay (h : Host) (now : List Player) : Type 0 where
+  pub old : Host
+  pub given : List Player
+  pub ready : AllReady old.system old.slots given
+  pub come : HaveBecome old h given now
+
 -- a session is still to be forked
 abbrev pub waits : Player → Bool
 waits (Playing slot) = false

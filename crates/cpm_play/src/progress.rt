@@ -1,8 +1,10 @@
 //! How far sessions have come, for whoever wants to be told.
 
-ghost use Rattle.std.specs.Prelude.{◌<◌};
+ghost use Rattle.std.specs.Prelude.{◌<◌, ◌≡◌};
+ghost use Rattle.cpm_play.specs.Players.{AreOnTheWay};
 
 use crate::player::Player;
+use cpm_slots::Host;
 
 /// How far sessions have come.
 #[derive(Clone, Copy, Drop)]
@@ -29,6 +31,17 @@ pub trait Watcher {
         ensures { 0 < result };
 
     fn see(&mut self, progress: Progress);
+
+    /// Whether it wants to look at the sessions themselves, now that all had a turn.
+    fn wants_rest(&self) -> bool {
+        false
+    }
+
+    /// Looks at the sessions of a host where they rest between two turns: some that could be played have become these. It leaves the host as it is.
+    fn rest(&mut self, host: &mut Host, players: &[Player])
+        requires { AreOnTheWay host.old.host players.now }
+        ensures { host.new ≡ host.old }
+    {}
 }
 
 /// Nobody.

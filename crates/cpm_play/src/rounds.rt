@@ -3,7 +3,7 @@
 ghost use Rattle.std.specs.Prelude.{◌≡◌, ◌≤◌, ◌<◌, List, OnOk, IfErr, false};
 ghost use Rattle.cpm_slots.specs.Host.{Host as HostValue, IsHost};
 ghost use Rattle.cpm_play.specs.declared.player.Player.{Player as PlayerValue};
-ghost use Rattle.cpm_play.specs.Players.{AllDiffer, AllPlayed, AllReady, HaveBecome, HasRoomForForks, IsPlayRefusal, LeavesRest};
+ghost use Rattle.cpm_play.specs.Players.{AllDiffer, AllPlayed, AllReady, AreOnTheWay, HaveBecome, HasRoomForForks, IsPlayRefusal, LeavesRest};
 ghost use Rattle.cpm_play.specs.Players.{fork_pages, forks_of, still_plays, has_fork, ids_of, is_over, players_left};
 
 use crate::error::PlayError;
@@ -107,12 +107,22 @@ fn take_waiting(host: &mut Host, players: &mut [Player]) -> Result<(), AllocErro
     Ok(())
 }
 
+/// Shows the sessions to a watcher that wants to look at them where they rest.
+fn let_rest<T: Watcher>(host: &mut Host, players: &[Player], watcher: &mut T)
+    requires { AreOnTheWay host.old.host players.now }
+    ensures { host.new ≡ host.old }
+{
+    if watcher.wants_rest() {
+        watcher.rest(host, players);
+    }
+}
+
 /// Plays sessions of a host, and forks those that are to be forked. The players have turns in their order, each of at most `quantum` steps (or where the
 /// session waits for a key of as many as it waits) and cut at the count of the next key and at that of the next fork,
 /// and all that a session shows is taken after its turn, until each has executed its steps or ended. What waits in a slot before comes first.
 /// A session is forked once the one that it is forked from has executed as many steps, or executes no more, and before that one's keys of this count.
 ///
-/// The watcher is told after each round how far they have come.
+/// The watcher is told after each round how far they have come, and looks at them then if it wants to.
 ///
 /// `ForkRefused` names the place of a session for which there is no slot or are not enough frames; `OutOfMemory` comes only where memory is refused.
 pub fn play<T: Watcher>(
@@ -137,6 +147,7 @@ pub fn play<T: Watcher>(
     while still_plays(players) {
         round(alloc, host, players, asks_in(rounds), quantum, may_fork)?;
         may_fork = may_fork && has_fork(players);
+        let_rest(host, players, watcher);
         if watcher.is_watching() {
             watcher.see(progress_of(players));
         }

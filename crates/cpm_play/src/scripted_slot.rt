@@ -41,6 +41,20 @@ impl ScriptedSlot {
         }
     }
 
+    /// How many of its keys were pressed so far.
+    pub fn pressed(&self) -> usize
+        ensures { result ≡ self.now.pace.pressed }
+    {
+        self.pace.pressed
+    }
+
+    /// How many of its steps it has executed so far.
+    pub fn done(&self) -> u64
+        ensures { result ≡ self.now.pace.done }
+    {
+        self.pace.done
+    }
+
     /// A scripted slot for a fork of this one's slot: it has shown and pressed and executed what this one has, and goes on by these keys for so many
     /// steps in all.
     pub(crate) fn forked(

@@ -207,7 +207,7 @@ started_there slots (i ∷ is) (p ∷ ps) zero start all at = started_by slots i
 started_there slots (i ∷ is) (p ∷ ps) (suc place) start all at = started_there slots is ps place start all.1 at
 
 module _ (system : Disk) (before now : List SlotState) (is : List SettledSession) (ps : List Player) (all : HavePlayers before is ps) where
-  start_is : (b : StartInput) (i : SettledSession) (p : Player) (start : MachineState) → HasPlayerBy before b i p → start_at before ps p ≡ Some start → start ≡ start_by (starts_of is) b
+  pub start_is : (b : StartInput) (i : SettledSession) (p : Player) (start : MachineState) → HasPlayerBy before b i p → start_at before ps p ≡ Some start → start ≡ start_by (starts_of is) b
   start_is (Opens cpu quota drives) i (Playing slot) start h at = let there = h.slot in cc
   start_is (Opens cpu quota drives) i (Waiting fork) start h at = absurd h
   start_is (Forks parent count) i (Playing slot) start h at = absurd h
@@ -215,7 +215,7 @@ module _ (system : Disk) (before now : List SlotState) (is : List SettledSession
   start_is (Restores x) i (Playing slot) start h at = let there = h.slot in cc
   start_is (Restores x) i (Waiting fork) start h at = absurd h
 
-  keys_are : (b : StartInput) (i : SettledSession) (p : Player) → HasPlayerBy before b i p → player_keys p ≡ i.keys
+  pub keys_are : (b : StartInput) (i : SettledSession) (p : Player) → HasPlayerBy before b i p → player_keys p ≡ i.keys
   keys_are (Opens cpu quota drives) i (Playing slot) h = h.keys
   keys_are (Opens cpu quota drives) i (Waiting fork) h = absurd h
   keys_are (Forks parent at) i (Playing slot) h = absurd h
@@ -223,7 +223,7 @@ module _ (system : Disk) (before now : List SlotState) (is : List SettledSession
   keys_are (Restores x) i (Playing slot) h = h.keys
   keys_are (Restores x) i (Waiting fork) h = absurd h
 
-  steps_are : (b : StartInput) (i : SettledSession) (p : Player) → HasPlayerBy before b i p → player_steps p ≡ i.steps
+  pub steps_are : (b : StartInput) (i : SettledSession) (p : Player) → HasPlayerBy before b i p → player_steps p ≡ i.steps
   steps_are (Opens cpu quota drives) i (Playing slot) h = h.steps
   steps_are (Opens cpu quota drives) i (Waiting fork) h = absurd h
   steps_are (Forks parent at) i (Playing slot) h = absurd h

@@ -1,4 +1,6 @@
 pub mod Ending
+pub mod Kept
+pub mod Laws
 pub mod Openings
 pub mod Playing
 pub mod Refusals
@@ -6,3 +8,4 @@ pub mod Refusing
 pub mod Run
 pub mod Settled
 pub mod Settling
+pub mod Standing

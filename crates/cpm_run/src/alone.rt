@@ -15,7 +15,7 @@ use cpm_script::{Cue, Key};
 use std::alloc::{AllocError, Global};
 
 /// Equal images.
-fn copies_of(alloc: Global, images: &[Image]) -> Result<Vec<Image>, AllocError>
+pub(crate) fn copies_of(alloc: Global, images: &[Image]) -> Result<Vec<Image>, AllocError>
     ensures { IfOk result (λ v. v.items ≡ images.now) }
 {
     let mut copies = Vec::new(alloc);

@@ -118,7 +118,7 @@ fn is_few(before: usize, own: usize) -> bool
 }
 
 /// Whether a machine takes so many keys wherever they come, those from before and own ones, where so many are pending at first.
-fn has_room(pending: usize, before: usize, own: usize) -> bool
+pub(crate) fn has_room(pending: usize, before: usize, own: usize) -> bool
     ensures { result ≡ nat_le (pending + before + own) most_keys }
 {
     is_few(before, own) && is_few(pending, before + own)

@@ -1,5 +1,7 @@
-use Rattle.std.proofs.Common.{◌∙◌, sym}
+use Rattle.std.proofs.Common.{◌∙◌, subst, sym}
 use Rattle.std.proofs.lemmas.Result.{err_from_is_err_and}
+use Rattle.cpm_slots.specs.HostWithStore.{HostWithStore}
+use Rattle.cpm_play.specs.Players.{HaveBecome}
 use Rattle.cpm_play.proofs.PlayLemmas.{played-all, room-all, some-left}
 use Rattle.cpm_play.proofs.rounds.play.Goals as goal
 use Rattle.cpm_play.proofs.rounds.play.Goals.{then-may_fork, else-may_fork}
@@ -11,9 +13,18 @@ pub loop-alloc-smaller : goal.loop-alloc-smaller
 loop-alloc-smaller g c =
     c.in_ok-round.ensures.left c.args.host.now.host c.args.players.now c.requires.ready c.loop-alloc.invariant.come (some-left c.loop-alloc.players (sym c.still_plays.ensures ∙ c.loop-alloc-test.true))
 
+pub let_rest-requires : goal.let_rest-requires
+let_rest-requires g c = record {
+  old = c.args.host.now.host;
+  given = c.args.players.now;
+  ready = c.requires.ready;
+  come = c.in_ok-round.ensures.come c.args.host.now.host c.args.players.now c.requires.ready c.loop-alloc.invariant.come;
+}
+
 pub loop-alloc-preserved : goal.loop-alloc-preserved
 loop-alloc-preserved g c = record {
-  come = c.in_ok-round.ensures.come c.args.host.now.host c.args.players.now c.requires.ready c.loop-alloc.invariant.come;
+  come = subst (λ (h : HostWithStore). HaveBecome c.args.host.now.host h.host c.args.players.now c.round.new.players) (sym c.let_rest.ensures)
+      (c.in_ok-round.ensures.come c.args.host.now.host c.args.players.now c.requires.ready c.loop-alloc.invariant.come);
   none =
       elim c.if-may_fork.branch [
         | then-may_fork w ↦ λ no. sym w.has_fork-may_fork-then-may_fork.ensures ∙ sym w.may_fork-is ∙ no

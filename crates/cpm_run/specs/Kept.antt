@@ -1,0 +1,27 @@
+-- What is kept of the sessions of a run on its way, as where they stand. All of it is own.
+use Rattle.std.specs.Prelude.{List, map, Option, None, option_map}
+use Rattle.cpm_batch.specs.Savings.{saving_view}
+use Rattle.cpm_play.specs.declared.player.Player.{Player}
+use Rattle.cpm_play.specs.declared.player.Player.TheVariants.{Playing, Waiting}
+use Rattle.cpm_run.specs.Standing.{RunStanding, SessionStanding}
+use Rattle.cpm_run.specs.declared.standing.KeptSession.{KeptSession}
+use Rattle.cpm_slots.specs.Host.{Host, saving_of, slot_at}
+
+-- the code's value
+abbrev pub kept_view : KeptSession → SessionStanding
+kept_view k = record { pressed = k.pressed; done = k.done; console = k.console.items; list = k.list.items; saving = saving_view k.saved }
+
+abbrev pub standing_view : List (Option KeptSession) → RunStanding
+standing_view kept = map (λ k. option_map kept_view k) kept
+
+-- where the session of a player stands that is played in a host, with its output taken: by its pace, by what it has shown, and by the state of its slot. One that
+-- is still to be forked has no standing of its own
+abbrev pub standing_of_player : Host → Player → Option SessionStanding
+standing_of_player h (Playing slot) =
+    option_map (λ s. record { pressed = slot.pace.pressed; done = slot.pace.done; console = slot.console.items; list = slot.list.items; saving = saving_of h s })
+    (slot_at slot.id.0 h.slots)
+standing_of_player h (Waiting fork) = None
+
+-- and so those of a run
+abbrev pub standing_of : Host → List Player → RunStanding
+standing_of h players = map (standing_of_player h) players

@@ -1,0 +1,179 @@
+//! A run that goes on from where it stood: its rest is played, and what was shown before is put in front.
+ghost use Rattle.std.specs.Prelude.{◌≡◌, ◌≤◌, ◌++◌, ◌⊎◌, IfErr, IfOk, length, map, option_map};
+ghost use Rattle.cpm_batch.specs.Outputs.{left_by};
+ghost use Rattle.cpm_run.specs.Kept.{kept_view, standing_view};
+ghost use Rattle.cpm_run.specs.Playing.{ArePressable, IsSlotRefusal};
+ghost use Rattle.cpm_run.specs.Run.{files_left, report_view, reports_of};
+ghost use Rattle.cpm_run.specs.Settled.{settled_view, starts_of};
+ghost use Rattle.cpm_run.specs.Standing.{IsTrueStanding, output_behind, outputs_behind, report_behind, reports_behind, rest_of, stands_all, standing_at};
+ghost use Rattle.cpm_slots.specs.Host.{new_host};
+
+use crate::error::RunError;
+use crate::play::play_all;
+use crate::pressable::are_pressable;
+use crate::report::SessionReport;
+use crate::rest::rest_inputs;
+use crate::settled::SettledInput;
+use crate::standing::{KeptSession, kept_by};
+use cpm_batch::SessionFiles;
+use cpm_config::Config;
+use cpm_geom::Image;
+use cpm_play::Watcher;
+use cpm_slots::{LEAST_FRAMES, MOST_FRAMES};
+use std::alloc::{AllocError, Global};
+
+/// Bytes with others in front.
+fn behind(alloc: Global, front: &[u8], mut bytes: Vec<u8>) -> Result<Vec<u8>, AllocError>
+    ensures { IfOk result (λ v. v.items ≡ front.now ++ bytes.items) }
+{
+    let mut all = Vec::new(alloc);
+    all.extend_from_slice(front)?;
+    all.append(&mut bytes)?;
+    Ok(all)
+}
+
+/// What is kept of the session at a place, or of the one that it is still to be forked from.
+fn kept_for<'k>(
+    inputs: &[SettledInput<'_>],
+    kept: &'k [Option<KeptSession>],
+    place: usize,
+) -> Option<&'k KeptSession>
+    ensures { option_map (λ k. kept_view k.now) result
+        ≡ standing_at (stands_all (standing_view kept.entry.now) (map settled_view inputs.now) (standing_view kept.entry.now)) place }
+{
+    match inputs.get(place) {
+        Some(input) => kept_by(kept, &input.start, place),
+        None => None,
+    }
+}
+
+/// What a session leaves whose rest left this, with what it had shown before in front.
+fn whole_session<'a>(
+    alloc: Global,
+    from: Option<&KeptSession>,
+    report: SessionReport,
+    files: SessionFiles<'a>,
+) -> Result<(SessionReport, SessionFiles<'a>), AllocError>
+    requires { report.bytes ≡ length files.console.items }
+    ensures report { IfOk result (λ w. report_view w.0 ≡ report_behind (option_map (λ k. kept_view k.now) from.entry) (report_view report)) }
+    ensures files { IfOk result (λ w. left_by w.1 ≡ output_behind (option_map (λ k. kept_view k.now) from.entry) (left_by files.entry)) }
+{
+    let Some(before) = from else {
+        return Ok((report, files));
+    };
+    let SessionReport { name, ending, .. } = report;
+    let SessionFiles {
+        session,
+        console,
+        list,
+        drives,
+        saved,
+    } = files;
+    let console = behind(alloc, before.console.as_slice(), console)?;
+    let list = behind(alloc, before.list.as_slice(), list)?;
+    let bytes = console.len() as u64;
+    let report = SessionReport {
+        name,
+        ending,
+        bytes,
+    };
+    let files = SessionFiles {
+        session,
+        console,
+        list,
+        drives,
+        saved,
+    };
+    Ok((report, files))
+}
+
+/// What sessions leave whose rests left these, with what each had shown before in front.
+fn whole_sessions<'a>(
+    alloc: Global,
+    inputs: &[SettledInput<'_>],
+    kept: &[Option<KeptSession>],
+    reports: Vec<SessionReport>,
+    files: Vec<SessionFiles<'a>>,
+) -> Result<(Vec<SessionReport>, Vec<SessionFiles<'a>>), AllocError>
+    requires { map (λ r. r.bytes) reports.items ≡ map (λ f. length f.console.items) files.items }
+    ensures reports { let from = stands_all (standing_view kept.now) (map settled_view inputs.now) (standing_view kept.now) in
+        IfOk result (λ w. map report_view w.0.items ≡ reports_behind from (map report_view reports.items)) }
+    ensures files { let from = stands_all (standing_view kept.now) (map settled_view inputs.now) (standing_view kept.now) in
+        IfOk result (λ w. map left_by w.1.items ≡ outputs_behind from (map left_by files.entry.items)) }
+{
+    let mut whole_reports = Vec::new(alloc);
+    let mut whole_files = Vec::new(alloc);
+    let mut others = reports.into_iter();
+    let mut rest = files.into_iter();
+    while let Some(report) = others.next() {
+        let Some(left) = rest.next() else {
+            return Ok((whole_reports, whole_files));
+        };
+        let from = kept_for(inputs, kept, whole_reports.len());
+        let (report, left) = whole_session(alloc, from, report, left)?;
+        whole_reports.push(report)?;
+        whole_files.push(left)?;
+    }
+    Ok((whole_reports, whole_files))
+}
+
+/// Plays the rest of a run from where it stands, and gives what the whole of it leaves.
+fn play_rest<'a, T: Watcher>(
+    alloc: Global,
+    config: &'a Config,
+    system: Image,
+    inputs: &[SettledInput<'_>],
+    rest: Vec<SettledInput<'_>>,
+    kept: &[Option<KeptSession>],
+    watcher: &mut T,
+) -> Result<(Vec<SessionReport>, Vec<SessionFiles<'a>>), RunError>
+    requires least { LEAST_FRAMES ≤ config.now.frames }
+    requires most { config.now.frames ≤ MOST_FRAMES }
+    requires quantum { 1 ≤ config.now.quantum }
+    requires rest { map settled_view rest.items ≡ rest_of (map settled_view inputs.now) (standing_view kept.now) }
+    requires keys { ArePressable system (map settled_view rest.items) }
+    requires sessions { map (λ i. i.session) (map settled_view inputs.now) ≡ config.now.sessions.items }
+    ensures reports { IsTrueStanding system (map settled_view inputs.now) (standing_view kept.now)
+        → IfOk result (λ p. map report_view p.0.items ≡ reports_of system (map settled_view inputs.now)) }
+    ensures files { IsTrueStanding system (map settled_view inputs.now) (standing_view kept.now)
+        → IfOk result (λ p. map left_by p.1.items ≡ files_left system (map settled_view inputs.now)) }
+    ensures refusal { IfErr result (IsSlotRefusal config.entry.now.sessions.items (new_host system config.entry.now.frames)
+        (starts_of (rest_of (map settled_view inputs.now) (standing_view kept.now)))) }
+{
+    let (reports, files) = play_all(alloc, config, system, rest, watcher)?;
+    let whole = whole_sessions(alloc, inputs, kept, reports, files)?;
+    Ok(whole)
+}
+
+/// Plays the sessions of a configuration from where they stood by what was kept of them, and gives what is left of them. Where their rests can't be played,
+/// which may be so if what was kept isn't theirs, they are played from their beginnings.
+pub(crate) fn play_from<'a, T: Watcher>(
+    alloc: Global,
+    config: &'a Config,
+    system: Image,
+    inputs: Vec<SettledInput<'_>>,
+    kept: &[Option<KeptSession>],
+    watcher: &mut T,
+) -> Result<(Vec<SessionReport>, Vec<SessionFiles<'a>>), RunError>
+    requires least { LEAST_FRAMES ≤ config.now.frames }
+    requires most { config.now.frames ≤ MOST_FRAMES }
+    requires quantum { 1 ≤ config.now.quantum }
+    requires keys { ArePressable system (map settled_view inputs.items) }
+    requires sessions { map (λ i. i.session) (map settled_view inputs.items) ≡ config.now.sessions.items }
+    ensures reports { IsTrueStanding system (map settled_view inputs.entry.items) (standing_view kept.now)
+        → IfOk result (λ p. map report_view p.0.items ≡ reports_of system (map settled_view inputs.entry.items)) }
+    ensures files { IsTrueStanding system (map settled_view inputs.entry.items) (standing_view kept.now)
+        → IfOk result (λ p. map left_by p.1.items ≡ files_left system (map settled_view inputs.entry.items)) }
+    ensures refusal { IfErr result (λ e. IsSlotRefusal config.entry.now.sessions.items (new_host system config.entry.now.frames)
+        (starts_of (map settled_view inputs.entry.items)) e
+        ⊎ IsSlotRefusal config.entry.now.sessions.items (new_host system config.entry.now.frames)
+        (starts_of (rest_of (map settled_view inputs.entry.items) (standing_view kept.now))) e) }
+{
+    let sessions = inputs.as_slice();
+    let rest = rest_inputs(alloc, sessions, kept)?;
+    if are_pressable(alloc, rest.as_slice())? {
+        play_rest(alloc, config, system, sessions, rest, kept, watcher)
+    } else {
+        play_all(alloc, config, system, inputs, watcher)
+    }
+}

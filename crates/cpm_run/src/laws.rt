@@ -1,0 +1,37 @@
+//! Laws of sessions that go on from a saving, as contracts.
+
+ghost use Rattle.cpm_run.specs.Laws.{GoesOnAlone, GoesOnBehind, KeptIsTrue, RestIsWhole, SavedRunGoesOn, StandingsJoin};
+
+/// A session that was saved, with all of its output taken, and goes on from that, is its machine alone, by the keys from before the saving and those from
+/// behind it: it shows the text before it with the text behind it, and comes to the same state.
+pub fn goes_on_alone()
+    ensures { GoesOnAlone }
+{}
+
+/// So it is with one that was saved while some of its output still waited.
+pub fn goes_on_behind()
+    ensures { GoesOnBehind }
+{}
+
+/// A session of a run that goes on from the saving that one of another run left, over the same system drive, leaves with that one what one machine leaves
+/// alone.
+pub fn saved_run_goes_on()
+    ensures { SavedRunGoesOn }
+{}
+
+/// The rest of a run from where it stands leaves what the whole run leaves, with what was shown before in front: the sessions that go on from their
+/// savings, and those that are still to be forked.
+pub fn rest_is_whole()
+    ensures { RestIsWhole }
+{}
+
+/// Where the sessions of a run stand between two turns, as they are kept, that is a true standing of the run: those that are played, and those that are
+/// still to be forked.
+pub fn kept_is_true()
+    ensures { KeptIsTrue }
+{}
+
+/// Where the rest of a run stands truly, from where the run had stood, the run stands truly by both.
+pub fn standings_join()
+    ensures { StandingsJoin }
+{}
