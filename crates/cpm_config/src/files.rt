@@ -16,11 +16,7 @@ pub struct SessionFile<'a> {
 }
 
 /// Adds a file.
-fn add<'a>(
-    files: &mut Vec<SessionFile<'a>>,
-    key: Field,
-    name: &'a str,
-) -> Result<(), AllocError>
+fn add<'a>(files: &mut Vec<SessionFile<'a>>, key: Field, name: &'a str) -> Result<(), AllocError>
     ensures { OnOk result (map file_view files.new.items ≡ map file_view files.old.items ++ named_file key name.now ∷ []) }
 {
     files.push(SessionFile { key, name })?;

@@ -110,11 +110,7 @@ fn tell_drives<W: Write>(
 }
 
 /// Tells all of it.
-fn tell_machine<W: Write>(
-    alloc: Global,
-    saved: SavedMachine,
-    out: &mut W,
-) -> Result<(), HostError>
+fn tell_machine<W: Write>(alloc: Global, saved: SavedMachine, out: &mut W) -> Result<(), HostError>
     ensures told { OnOk result (HasAppended (W.contents out.old) (W.contents out.new) (IsSavedTold (saving_view saved))) }
 {
     let text = machine_text(alloc, &saved)?;
