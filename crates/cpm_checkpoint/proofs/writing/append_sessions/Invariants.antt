@@ -1,0 +1,8 @@
+use Rattle.std.proofs.Common.{◌≡◌, ◌++◌, take}
+use Rattle.std.specs.List.{flat_map}
+use Rattle.cpm_checkpoint.specs.CheckpointBytes.{marked_bytes, session_values}
+use Rattle.cpm_checkpoint.proofs.writing.append_sessions.Given as goal
+
+-- the sessions so far
+abbrev pub invariant-loop-session : goal.invariant-loop-session
+invariant-loop-session l = l.out.items ≡ l.initial.out.items ++ flat_map marked_bytes (session_values (take l.session-index l.sessions))
