@@ -1,14 +1,14 @@
 -- The parts of a checkpoint: what is read of one is written so, and what is written is read.
-use Rattle.std.proofs.Common.{◌≡◌, ◌∙◌, ◌<◌, ◌≤◌, ◌+◌, ◌^◌, ℕ, zero, suc, Bool, true, false, List, [], ◌∷◌, ◌++◌, length}
-use Rattle.std.proofs.Common.{Option, Some, None, Ok, Err, ap, append_assoc, arith, refl, subst, sym}
-use Rattle.std.specs.Prelude.{Result, ◌==◌}
+use Rattle.std.proofs.Common.{◌≡◌, ◌∙◌, ◌<◌, ◌+◌, ℕ, zero, suc, List, [], ◌∷◌, ◌++◌, length}
+use Rattle.std.proofs.Common.{Option, Some, None, Ok, ap, append_assoc, arith, refl, subst, sym}
+use Rattle.std.specs.Prelude.{◌==◌}
 use Rattle.std.specs.List.{AllByRecursion, flat_map}
 use Rattle.std.proofs.lemmas.Bool.{eqb-true}
 use Rattle.std.proofs.lemmas.List.{append-nil, nil_from_length}
 use Rattle.std.proofs.lemmas.List.Concat.{flat_map-cons}
 use Rattle.cpm_checkpoint.specs.CheckpointBytes.{AreBytes, CheckpointValue, IsCheckpoint, IsSession, IsSessionIfAny, SessionValue, checkpoint_bytes, long, magic}
 use Rattle.cpm_checkpoint.specs.CheckpointBytes.{marked_bytes, run, session_bytes, version}
-use Rattle.cpm_checkpoint.specs.CheckpointReading.{◌>>=◌, Read, Rest, all_read, begun_read, beginning_read, byte_read, bytes_read, checkpoint_read}
+use Rattle.cpm_checkpoint.specs.CheckpointReading.{◌>>=◌, Rest, all_read, begun_read, beginning_read, byte_read, bytes_read, checkpoint_read}
 use Rattle.cpm_checkpoint.specs.CheckpointReading.{long_read, marked_read, parts_read, rest_at, run_read, session_read, sessions_read, these_read}
 use Rattle.cpm_checkpoint.specs.Laws.{ReadIsWritten, WrittenIsRead}
 use Rattle.cpm_checkpoint.proofs.Fields.{Takes, byte_again, byte_takes, bytes_again, bytes_take, if_ok, long_again, long_takes, ok_is, run_again, run_takes}
@@ -65,9 +65,13 @@ session_again s rest at of =
     ∙ ap (λ (x : List ℕ). long s.done ++ x) (append_assoc (run s.console) (run s.list ++ run s.saving) rest
     ∙ ap (λ (x : List ℕ). run s.console ++ x) (append_assoc (run s.list) (run s.saving) rest))) in
     ap (λ (x : List ℕ). session_read (rest_at at x)) regrouped
-    ∙ rw (long_again s.pressed done at of.pressed, long_again s.done console (at + 8) of.done, run_again s.console list (at + 8 + 8) of.console,
-    run_again s.list saving (at + 8 + 8 + 8 + length s.console) of.list,
-    run_again s.saving rest (at + 8 + 8 + 8 + length s.console + 8 + length s.list) of.saving) refl
+    ∙ rw (
+      long_again s.pressed done at of.pressed,
+      long_again s.done console (at + 8) of.done,
+      run_again s.console list (at + 8 + 8) of.console,
+      run_again s.list saving (at + 8 + 8 + 8 + length s.console) of.list,
+      run_again s.saving rest (at + 8 + 8 + 8 + length s.console + 8 + length s.list) of.saving,
+    ) refl
 
 -- ---- a session with its mark
 
@@ -196,5 +200,8 @@ written_read c of =
     let again = sessions_again c.sessions [] 42 of.sessions in
     let read : sessions_read (length c.sessions) (rest_at 42 sessions) ≡ Ok (c.sessions, rest_at again.0 []) =
     ap (λ (x : List ℕ). sessions_read (length c.sessions) (rest_at 42 x)) last ∙ again.1 in
-    rw (beginning_again c.beginning (length c.sessions ∷ sessions) 0 of.beginning.0,
-    byte_again 65 (length c.sessions) sessions 41 (omega (arith, count)), read) refl
+    rw (
+      beginning_again c.beginning (length c.sessions ∷ sessions) 0 of.beginning.0,
+      byte_again 65 (length c.sessions) sessions 41 (omega (arith, count)),
+      read,
+    ) refl

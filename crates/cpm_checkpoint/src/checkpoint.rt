@@ -1,6 +1,6 @@
 //! Checkpoints as values.
 
-ghost use Rattle.std.specs.Prelude.{◌≡◌, ◌≤◌, IfOk, length};
+ghost use Rattle.std.specs.Prelude.{◌≡◌, ◌≤◌, IfOk, Ok, length};
 ghost use Rattle.cpm_checkpoint.specs.CheckpointBytes.{checkpoint_bytes, checkpoint_value, most_sessions};
 ghost use Rattle.cpm_checkpoint.specs.CheckpointReading.{IsWhole, checkpoint_read};
 
@@ -72,14 +72,17 @@ impl Checkpoint {
     /// The bytes of a checkpoint; refused if out of memory.
     pub fn bytes(&self, alloc: Global) -> Result<Vec<u8>, AllocError>
         requires { length self.now.sessions.items ≤ most_sessions }
-        ensures { IfOk result (λ bytes. bytes.items ≡ checkpoint_bytes (checkpoint_value self.now)) }
+        ensures written { IfOk result (λ bytes. bytes.items ≡ checkpoint_bytes (checkpoint_value self.now)) }
+        ensures restores { IfOk result (λ bytes. checkpoint_read bytes.items ≡ Ok (checkpoint_value self.now)) }
     {
         checkpoint_bytes(alloc, self)
     }
 
     /// The checkpoint of bytes. It is refused with the place of the first fault, or if out of memory.
     pub fn read(alloc: Global, bytes: &[u8]) -> Result<Checkpoint, CheckpointError>
-        ensures { IsWhole checkpoint_value (checkpoint_read bytes.now) result }
+        ensures read { IsWhole checkpoint_value (checkpoint_read bytes.now) result }
+        ensures written { IfOk result (λ c. checkpoint_bytes (checkpoint_value c) ≡ bytes.now) }
+        ensures few { IfOk result (λ c. length c.sessions.items ≤ most_sessions) }
     {
         read_checkpoint(alloc, bytes)
     }

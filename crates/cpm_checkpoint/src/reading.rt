@@ -5,7 +5,7 @@ ghost use Rattle.cpm_checkpoint.specs.CheckpointBytes.{checkpoint_value, magic, 
 ghost use Rattle.cpm_checkpoint.specs.CheckpointReading.{IsRead, IsWhole, begun_read, beginning_read, checkpoint_read};
 ghost use Rattle.cpm_checkpoint.specs.CheckpointReading.{marked_read, parts_read, session_read, sessions_read, these_read};
 
-use crate::checkpoint::{Checkpoint, CheckpointError, CheckpointSession};
+use crate::checkpoint::{Checkpoint, CheckpointError, CheckpointSession, MOST_SESSIONS};
 use crate::reader::Reader;
 use crate::writing::{MAGIC, VERSION};
 use std::alloc::Global;
@@ -115,7 +115,7 @@ fn read_parts(alloc: Global, reader: &mut Reader<'_>) -> Result<Checkpoint, Chec
     ensures { IsRead checkpoint_value (parts_read reader.old) reader.new result }
 {
     let beginning = read_beginning(reader)?;
-    let count = reader.byte_below(65)?;
+    let count = reader.byte_below(MOST_SESSIONS as u8 + 1)?;
     let sessions = read_sessions(alloc, reader, count)?;
     Ok(Checkpoint {
         beginning,
