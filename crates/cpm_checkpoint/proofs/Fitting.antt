@@ -5,15 +5,15 @@ use Rattle.std.specs.Prelude.{IfOk, Result}
 use Rattle.std.specs.Global.{Vec}
 use Rattle.std.specs.List.{AllByRecursion}
 use Rattle.std.proofs.lemmas.List.{length-map, map_more}
-use Rattle.cpm_checkpoint.specs.CheckpointBytes.{AreBytes, CheckpointValue, IsCheckpoint, IsSessionIfAny, SessionValue, checkpoint_bytes, checkpoint_value, most_sessions}
+use Rattle.cpm_checkpoint.specs.CheckpointBytes.{AreByteValues, CheckpointValue, IsCheckpoint, IsSessionIfAny, SessionValue, checkpoint_bytes, checkpoint_value, most_sessions}
 use Rattle.cpm_checkpoint.specs.CheckpointBytes.{session_value, session_values}
-use Rattle.cpm_checkpoint.specs.CheckpointReading.{IsWhole, checkpoint_read}
+use Rattle.cpm_checkpoint.specs.CheckpointReading.{IsWholeParsed, checkpoint_read}
 use Rattle.cpm_checkpoint.specs.declared.checkpoint.Checkpoint.{Checkpoint}
 use Rattle.cpm_checkpoint.specs.declared.checkpoint.CheckpointError.{CheckpointError}
 use Rattle.cpm_checkpoint.specs.declared.checkpoint.CheckpointSession.{CheckpointSession}
 use Rattle.cpm_checkpoint.proofs.Sessions.{read_written, written_read}
 
-pub all_bytes : (xs : List ℕ) → ((i : ℕ) → get_or xs i 0 < 256) → AreBytes xs
+pub all_bytes : (xs : List ℕ) → ((i : ℕ) → get_or xs i 0 < 256) → AreByteValues xs
 all_bytes [] h k d within = absurd (omega (arith, within))
 all_bytes (x ∷ xs) h zero d within = h 0
 all_bytes (x ∷ xs) h (suc k) d within = all_bytes xs (λ (i : ℕ). h (suc i)) k d (omega (arith, within))
@@ -32,12 +32,12 @@ fits_more sessions i d low all here =
     (push_fits (session_values (take i sessions)) (option_map session_value (get_or sessions i d)) all here)
 
 -- what is read of bytes is written as these, and has 64 sessions at most
-pub is_written : (bytes : List ℕ) (r : Result Checkpoint CheckpointError) → AreBytes bytes → IsWhole checkpoint_value (checkpoint_read bytes) r
+pub is_written : (bytes : List ℕ) (r : Result Checkpoint CheckpointError) → AreByteValues bytes → IsWholeParsed checkpoint_value (checkpoint_read bytes) r
     → IfOk r (λ c. checkpoint_bytes (checkpoint_value c) ≡ bytes)
 is_written bytes (Ok c) all read = (read_written (checkpoint_value c) bytes all read).0
 is_written bytes (Err fault) all read = tt
 
-pub has_few : (bytes : List ℕ) (r : Result Checkpoint CheckpointError) → AreBytes bytes → IsWhole checkpoint_value (checkpoint_read bytes) r
+pub has_few : (bytes : List ℕ) (r : Result Checkpoint CheckpointError) → AreByteValues bytes → IsWholeParsed checkpoint_value (checkpoint_read bytes) r
     → IfOk r (λ c. length c.sessions.items ≤ most_sessions)
 has_few bytes (Ok c) all read =
     let few = (read_written (checkpoint_value c) bytes all read).1.count in

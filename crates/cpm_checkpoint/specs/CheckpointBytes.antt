@@ -34,12 +34,12 @@ checkpoint_value c = record { beginning = c.beginning; sessions = session_values
 -- ---- bytes
 
 -- `cpmrun`, the byte that ends a text, and 0
-abbrev pub magic : List ℕ
-magic = 0x63 ∷ 0x70 ∷ 0x6D ∷ 0x72 ∷ 0x75 ∷ 0x6E ∷ 0x1A ∷ 0x00 ∷ []
+abbrev pub checkpoint_magic : List ℕ
+checkpoint_magic = 0x63 ∷ 0x70 ∷ 0x6D ∷ 0x72 ∷ 0x75 ∷ 0x6E ∷ 0x1A ∷ 0x00 ∷ []
 
 -- the number of this format
-abbrev pub version : List ℕ
-version = 1 ∷ []
+abbrev pub checkpoint_version : List ℕ
+checkpoint_version = 1 ∷ []
 
 -- eight bytes, the lowest first
 abbrev pub long : ℕ → List ℕ
@@ -60,7 +60,7 @@ marked_bytes (Some s) = 1 ∷ session_bytes s
 
 -- the order of a checkpoint
 unfoldable pub checkpoint_bytes : CheckpointValue → List ℕ
-checkpoint_bytes c = magic ++ (version ++ (c.beginning ++ length c.sessions ∷ flat_map marked_bytes c.sessions))
+checkpoint_bytes c = checkpoint_magic ++ (checkpoint_version ++ (c.beginning ++ length c.sessions ∷ flat_map marked_bytes c.sessions))
 
 -- ---- which values have bytes
 
@@ -68,19 +68,19 @@ checkpoint_bytes c = magic ++ (version ++ (c.beginning ++ length c.sessions ∷ 
 abbrev pub most_sessions : ℕ
 most_sessions = 64
 
-abbrev pub AreBytes : List ℕ → Type 0
-AreBytes bytes = All (λ b. b < 256) bytes
+abbrev pub AreByteValues : List ℕ → Type 0
+AreByteValues bytes = All (λ b. b < 256) bytes
 
-abbrev pub IsRun : List ℕ → Type 0
-IsRun bytes = (length bytes < 2 ^ 64) × AreBytes bytes
+abbrev pub IsByteRun : List ℕ → Type 0
+IsByteRun bytes = (length bytes < 2 ^ 64) × AreByteValues bytes
 
 -- numbers of 64 bits, and bytes
 pub record IsSession (s : SessionValue) : Type 0 where
   pub pressed : s.pressed < 2 ^ 64
   pub done : s.done < 2 ^ 64
-  pub console : IsRun s.console
-  pub list : IsRun s.list
-  pub saving : IsRun s.saving
+  pub console : IsByteRun s.console
+  pub list : IsByteRun s.list
+  pub saving : IsByteRun s.saving
 
 abbrev pub IsSessionIfAny : Option SessionValue → Type 0
 IsSessionIfAny None = ⊤
@@ -88,6 +88,6 @@ IsSessionIfAny (Some s) = IsSession s
 
 -- a digest of 32 bytes, and 64 sessions at most
 pub record IsCheckpoint (c : CheckpointValue) : Type 0 where
-  pub beginning : (length c.beginning ≡ 32) × AreBytes c.beginning
+  pub beginning : (length c.beginning ≡ 32) × AreByteValues c.beginning
   pub count : length c.sessions ≤ most_sessions
   pub sessions : AllByRecursion IsSessionIfAny c.sessions

@@ -1,6 +1,6 @@
 -- Laws of checkpoints. All of it is own.
 use Rattle.std.specs.Prelude.{◌≡◌, ℕ, List, Ok}
-use Rattle.cpm_checkpoint.specs.CheckpointBytes.{AreBytes, CheckpointValue, IsCheckpoint, checkpoint_bytes}
+use Rattle.cpm_checkpoint.specs.CheckpointBytes.{AreByteValues, CheckpointValue, IsCheckpoint, checkpoint_bytes}
 use Rattle.cpm_checkpoint.specs.CheckpointReading.{checkpoint_read}
 
 -- what was written is read
@@ -9,5 +9,5 @@ WrittenIsRead = (c : CheckpointValue) → IsCheckpoint c → checkpoint_read (ch
 
 -- what is read of bytes is written as just these bytes
 abbrev pub ReadIsWritten : Type 0
-ReadIsWritten = (c : CheckpointValue) (bytes : List ℕ) → AreBytes bytes → checkpoint_read bytes ≡ Ok c
+ReadIsWritten = (c : CheckpointValue) (bytes : List ℕ) → AreByteValues bytes → checkpoint_read bytes ≡ Ok c
     → (checkpoint_bytes c ≡ bytes) × IsCheckpoint c

@@ -2,7 +2,7 @@
 
 ghost use Rattle.std.specs.Prelude.{◌≡◌, ◌≤◌, IfOk, Ok, length};
 ghost use Rattle.cpm_checkpoint.specs.CheckpointBytes.{checkpoint_bytes, checkpoint_value, most_sessions};
-ghost use Rattle.cpm_checkpoint.specs.CheckpointReading.{IsWhole, checkpoint_read};
+ghost use Rattle.cpm_checkpoint.specs.CheckpointReading.{IsWholeParsed, checkpoint_read};
 
 use crate::reading::read_checkpoint;
 use crate::writing::checkpoint_bytes;
@@ -80,7 +80,7 @@ impl Checkpoint {
 
     /// The checkpoint of bytes. It is refused with the place of the first fault, or if out of memory.
     pub fn read(alloc: Global, bytes: &[u8]) -> Result<Checkpoint, CheckpointError>
-        ensures read { IsWhole checkpoint_value (checkpoint_read bytes.now) result }
+        ensures read { IsWholeParsed checkpoint_value (checkpoint_read bytes.now) result }
         ensures written { IfOk result (λ c. checkpoint_bytes (checkpoint_value c) ≡ bytes.now) }
         ensures few { IfOk result (λ c. length c.sessions.items ≤ most_sessions) }
     {

@@ -1,37 +1,37 @@
 //! Bytes that are read from the front, a value at a time.
 
 ghost use Rattle.std.specs.Prelude.{◌≡◌, ◌≤◌, ◌<◌, IfOk, Err, drop, length, ◌==◌};
-ghost use Rattle.cpm_checkpoint.specs.CheckpointReading.{IsRead, bytes_read, byte_read, long_read, run_read};
+ghost use Rattle.cpm_checkpoint.specs.CheckpointReading.{IsParsed, bytes_taken, byte_read, long_read, run_read};
 
 use crate::checkpoint::CheckpointError;
 use std::marker::Model;
 
 /// Bytes that are read from the front. A value that can't be read changes nothing.
 #[derive(Drop)]
-pub struct Reader<'a> {
+pub struct CheckpointReader<'a> {
     bytes: &'a [u8],
     at: usize,
 }
 
-impl<'a> Model for Reader<'a> {
+impl<'a> Model for CheckpointReader<'a> {
     ghost use Rattle.std.specs.Prelude.{◌≤◌, drop, length};
-    ghost use Rattle.cpm_checkpoint.specs.CheckpointReading.{Rest, rest_at};
+    ghost use Rattle.cpm_checkpoint.specs.CheckpointReading.{Unread, unread_at};
 
-    ghost Value = { Rest };
+    ghost Value = { Unread };
 
-    ghost view = { λ r. rest_at r.at (drop r.at r.bytes.now) };
+    ghost view = { λ r. unread_at r.at (drop r.at r.bytes.now) };
 
     ghost invariant = { λ r. r.at ≤ length r.bytes.now };
 }
 
-impl<'a> Reader<'a> {
-    ghost use Rattle.cpm_checkpoint.specs.CheckpointReading.{rest_at};
+impl<'a> CheckpointReader<'a> {
+    ghost use Rattle.cpm_checkpoint.specs.CheckpointReading.{unread_at};
 
     /// All of these bytes are still to be read.
-    pub fn new(bytes: &'a [u8]) -> Reader<'a>
-        ensures { result ≡ rest_at 0 bytes.now }
+    pub fn new(bytes: &'a [u8]) -> CheckpointReader<'a>
+        ensures { result ≡ unread_at 0 bytes.now }
     {
-        Reader { bytes, at: 0 }
+        CheckpointReader { bytes, at: 0 }
     }
 
     /// The place of what is still to be read, counted from 0.
@@ -50,7 +50,7 @@ impl<'a> Reader<'a> {
 
     /// The next bytes, just so many.
     pub fn take(&mut self, count: usize) -> Result<&'a [u8], CheckpointError>
-        ensures read { IsRead (λ b. b.now) (bytes_read count self.old) self.new result }
+        ensures read { IsParsed (λ b. b.now) (bytes_taken count self.old) self.new result }
         ensures length { IfOk result (λ b. length b.now ≡ count) }
     {
         if self.bytes.len() - self.at < count {
@@ -63,7 +63,7 @@ impl<'a> Reader<'a> {
 
     /// The next bytes, as many as an array has.
     pub fn array<const N: usize>(&mut self) -> Result<[u8; N], CheckpointError>
-        ensures { IsRead (λ b. b) (bytes_read N self.old) self.new result }
+        ensures { IsParsed (λ b. b) (bytes_taken N self.old) self.new result }
     {
         let mut bytes = [0; N];
         bytes.copy_from_slice(self.take(N)?);
@@ -73,7 +73,7 @@ impl<'a> Reader<'a> {
     /// A byte below a limit.
     #[tactic(auto, unfolding(crate::specs::CheckpointReading::byte_read))]
     pub fn byte_below(&mut self, limit: u8) -> Result<u8, CheckpointError>
-        ensures read { IsRead (λ b. b) (byte_read limit self.old) self.new result }
+        ensures read { IsParsed (λ b. b) (byte_read limit self.old) self.new result }
         ensures below { IfOk result (λ b. b < limit) }
     {
         let at = self.at;
@@ -88,7 +88,7 @@ impl<'a> Reader<'a> {
     /// A number of 64 bits.
     #[tactic(auto, unfolding(crate::specs::CheckpointReading::long_read))]
     pub fn long(&mut self) -> Result<u64, CheckpointError>
-        ensures { IsRead (λ n. n) (long_read self.old) self.new result }
+        ensures { IsParsed (λ n. n) (long_read self.old) self.new result }
     {
         Ok(u64::from_le_bytes(self.array()?))
     }
@@ -96,7 +96,7 @@ impl<'a> Reader<'a> {
     /// How many bytes come, and then these.
     #[tactic(auto, unfolding(crate::specs::CheckpointReading::run_read))]
     pub fn run(&mut self) -> Result<&'a [u8], CheckpointError>
-        ensures { IsRead (λ b. b.now) (run_read self.old) self.new result }
+        ensures { IsParsed (λ b. b.now) (run_read self.old) self.new result }
     {
         let count = self.long()?;
         self.take(count as usize)

@@ -2,9 +2,9 @@
 
 ghost use Rattle.std.specs.Prelude.{◌≡◌, ◌<◌, ◌≤◌, ◌^◌, ◌++◌, IfOk, OnOk, length, option_map};
 ghost use Rattle.std.specs.List.{AllByRecursion, flat_map};
-ghost use Rattle.cpm_checkpoint.specs.CheckpointBytes.{AreBytes, IsCheckpoint, IsRun, IsSession, IsSessionIfAny};
-ghost use Rattle.cpm_checkpoint.specs.CheckpointBytes.{checkpoint_bytes, checkpoint_value, magic, marked_bytes, most_sessions};
-ghost use Rattle.cpm_checkpoint.specs.CheckpointBytes.{long, run, session_bytes, session_value, session_values, version};
+ghost use Rattle.cpm_checkpoint.specs.CheckpointBytes.{AreByteValues, IsCheckpoint, IsByteRun, IsSession, IsSessionIfAny};
+ghost use Rattle.cpm_checkpoint.specs.CheckpointBytes.{checkpoint_bytes, checkpoint_value, checkpoint_magic, marked_bytes, most_sessions};
+ghost use Rattle.cpm_checkpoint.specs.CheckpointBytes.{long, run, session_bytes, session_value, session_values, checkpoint_version};
 
 use crate::checkpoint::{Checkpoint, CheckpointSession};
 use std::alloc::{AllocError, Global};
@@ -26,7 +26,7 @@ fn append_long(out: &mut Vec<u8>, number: u64) -> Result<(), AllocError>
 /// Appends how many bytes come, and then these.
 fn append_run(out: &mut Vec<u8>, bytes: &[u8]) -> Result<(), AllocError>
     ensures appended { OnOk result (out.new.items ≡ out.old.items ++ run bytes.now) }
-    ensures fits { IsRun bytes.now }
+    ensures fits { IsByteRun bytes.now }
 {
     append_long(out, bytes.len() as u64)?;
     out.extend_from_slice(bytes)?;
@@ -78,7 +78,7 @@ fn append_sessions(
 /// Appends the digest of what the run began with.
 fn append_beginning(out: &mut Vec<u8>, beginning: &[u8; 32]) -> Result<(), AllocError>
     ensures appended { OnOk result (out.new.items ≡ out.old.items ++ beginning.now) }
-    ensures fits { IfOk result (λ _. (length beginning.now ≡ 32) × AreBytes beginning.now) }
+    ensures fits { IfOk result (λ _. (length beginning.now ≡ 32) × AreByteValues beginning.now) }
 {
     out.extend_from_slice(beginning)
 }
