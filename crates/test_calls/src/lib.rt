@@ -4,6 +4,8 @@
 #[cfg(test)]
 mod bdos;
 #[cfg(test)]
+mod checkpoints;
+#[cfg(test)]
 mod disks;
 #[cfg(test)]
 mod machines;

@@ -1,0 +1,3 @@
+pub mod CheckpointBytes
+pub mod CheckpointReading
+pub mod Laws
