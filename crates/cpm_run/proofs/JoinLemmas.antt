@@ -97,13 +97,12 @@ module _ (system : Disk) (early : List Key) (n : ℕ) (console list : List ℕ) 
   come-behind : (m : ℕ) (given keys : List Key) → HaveComeAfter system saved m given keys → HaveComeAfter system start (n + m) (early ++ later_keys n given) (later_keys n keys)
   come-behind m given [] come = tt
   come-behind m given (k ∷ keys) come =
-      let late : Key = record { count = n + k.count; byte = k.byte } in
-      (
+      let late : Key = record { count = n + k.count; byte = k.byte } in (
         let at = come.0 in omega (arith, at),
         runs_on system early n console list start saved by same given k.count ∙ come.1,
         subst (λ (ks : List Key). HaveComeAfter system start (n + m) ks (later_keys n keys))
-        (ap (λ (ks : List Key). early ++ ks) (later-more n given k) ∙ sym (append_assoc early (later_keys n given) (late ∷ [])))
-        (come-behind m (given ++ k ∷ []) keys come.2),
+            (ap (λ (ks : List Key). early ++ ks) (later-more n given k) ∙ sym (append_assoc early (later_keys n given) (late ∷ [])))
+            (come-behind m (given ++ k ∷ []) keys come.2),
       )
 
 -- ---- one session
@@ -115,8 +114,8 @@ module _ (system : Disk) (start : MachineState) (i : SettledSession) (s t : Sess
   taken =
       take-both s.pressed t.pressed i.keys
       ∙ ap (λ (ks : List Key). take s.pressed i.keys ++ ks)
-        (sym (keys_back s.done s.done (take t.pressed (drop s.pressed i.keys)) (omega arith) (order-take s.done t.pressed (drop s.pressed i.keys) there.later))
-        ∙ ap (later_keys s.done) (sym (take-map (sooner s.done) t.pressed (drop s.pressed i.keys))))
+      (sym (keys_back s.done s.done (take t.pressed (drop s.pressed i.keys)) (omega arith) (order-take s.done t.pressed (drop s.pressed i.keys) there.later))
+      ∙ ap (later_keys s.done) (sym (take-map (sooner s.done) t.pressed (drop s.pressed i.keys))))
 
   left : drop (s.pressed + t.pressed) i.keys ≡ later_keys s.done (drop t.pressed (keys_left s.pressed s.done i.keys))
   left =
@@ -148,8 +147,8 @@ module _ (system : Disk) (start : MachineState) (i : SettledSession) (s t : Sess
     saving =
         rest.saving
         ∙ ap (saving_with (system_digest system))
-          (sym (left_on system (take s.pressed i.keys) s.done s.console s.list start s.saving.state there.early (begun system start i s there) (take t.pressed (keys_left s.pressed s.done i.keys)) t.done)
-          ∙ ap (λ (ks : List Key). state_left system ks (s.done + t.done) start) (sym taken));
+        (sym (left_on system (take s.pressed i.keys) s.done s.console s.list start s.saving.state there.early (begun system start i s there) (take t.pressed (keys_left s.pressed s.done i.keys)) t.done)
+        ∙ ap (λ (ks : List Key). state_left system ks (s.done + t.done) start) (sym taken));
   }
 
 -- ---- all sessions

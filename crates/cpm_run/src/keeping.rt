@@ -24,11 +24,7 @@ fn saved_machine(alloc: Global, bytes: &[u8]) -> Result<SavedMachine, AllocError
 }
 
 /// What is kept of a session that is played in a host.
-fn keep_slot(
-    alloc: Global,
-    host: &mut Host,
-    slot: &ScriptedSlot,
-) -> Result<KeptSession, AllocError>
+fn keep_slot(alloc: Global, host: &mut Host, slot: &ScriptedSlot) -> Result<KeptSession, AllocError>
     ensures kept { IfOk result (λ k. Some (kept_view k) ≡ standing_of_player host.old.host (Playing slot.now)) }
     ensures host { host.new ≡ host.old }
 {
