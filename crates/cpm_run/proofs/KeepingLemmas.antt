@@ -27,7 +27,7 @@ use Rattle.cpm_play.proofs.PlaceLemmas.{same-at}
 use Rattle.cpm_play.proofs.PlayerLemmas.{given-at, parent-of, same-playing, waiting-given}
 use Rattle.cpm_play.proofs.RunLemmas.{bare, quiet-bare}
 use Rattle.cpm_run.proofs.PlayLemmas.{all_ready, keys_are, start_is, steps_are}
-use Rattle.cpm_run.specs.Kept.{standing_of, standing_of_player}
+use Rattle.cpm_run.specs.Kept.{standing_of, standing_of_player, standing_of_slot}
 use Rattle.cpm_run.specs.Laws.{KeptIsTrue}
 use Rattle.cpm_run.specs.Playing.{ArePressable, HasPlayer, HasPlayerBy, HavePlayers, IsForkFor}
 use Rattle.cpm_run.specs.Run.{start_of}
@@ -106,10 +106,6 @@ fork-start slots (Opens cpu quota drives) i fork h = absurd h
 fork-start slots (Forks parent at) i fork h = (ap₂ (λ (a b : ℕ). Forks a b) (sym h.parent) (sym h.at), h.keys, h.steps)
 fork-start slots (Restores x) i fork h = absurd h
 
--- where a session stands whose slot has this state
-abbrev standing : Host → ScriptedSlot → MachineState → SessionStanding
-standing h slot s = record { pressed = slot.pace.pressed; done = slot.pace.done; console = slot.console.items; list = slot.list.items; saving = saving_of h s }
-
 -- one that has a standing of its own
 true-own : (system : Disk) (inputs : List SettledSession) (all : RunStanding) (own : Option SessionStanding) (i : SettledSession) (s : SessionStanding) → own ≡ Some s → StandsThere system (start_of inputs i) i s
     → IsTrueOf system inputs all own i
@@ -150,8 +146,8 @@ module _ (inputs : List SettledSession) (old h : Host) (ps now : List Player) (p
       let there = stands-by i (script_keys slot) (player_steps p) going.start s slot.pace slot.console.items slot.list.items (going.keys ∙ keys_are old.system old.slots h.slots inputs ps all i.start i p has)
       (steps_are old.system old.slots h.slots inputs ps all i.start i p has) (start_is old.system old.slots h.slots inputs ps all i.start i p going.start has going.started)
       going.resting.playing.on going.resting.quiet in
-      true-own old.system inputs (standing_of h now) (standing_at (standing_of h now) place) i (standing h slot s)
-      (standing-there h now place (Playing slot) at ∙ ap (option_map (standing h slot)) going.resting.playing.stands) there
+      true-own old.system inputs (standing_of h now) (standing_at (standing_of h now) place) i (standing_of_slot h slot s)
+      (standing-there h now place (Playing slot) at ∙ ap (option_map (standing_of_slot h slot)) going.resting.playing.stands) there
 
   waiting-true : (place : ℕ) (i : SettledSession) (fork : Fork) → HasPlayer old.slots i (Waiting fork) → slice_get now place ≡ Some (Waiting fork) →
       IsTrueOf old.system inputs (standing_of h now) (standing_at (standing_of h now) place) i
@@ -167,8 +163,8 @@ module _ (inputs : List SettledSession) (old h : Host) (ps now : List Player) (p
       source.order going.resting.playing.on in
       let there = stands-by i (keys_before fork.at (script_keys slot) ++ source.own) fork.steps going.start s (forked_pace slot.pace fork.steps) slot.console.items slot.list.items (sym source.keys ∙ begins.1) begins.2
       (start_is old.system old.slots h.slots inputs ps all i.start i (Waiting fork) going.start has (ap (player_slot old.slots) source.given_so ∙ going.started)) on going.resting.quiet in
-      true-fork old.system inputs (standing_of h now) (standing_at (standing_of h now) place) i (standing h slot s) fork.parent fork.at (standing-there h now place (Waiting fork) at) begins.0
-      (standing-there h now fork.parent (Playing slot) wait.plays ∙ ap (option_map (standing h slot)) going.resting.playing.stands) wait.done there
+      true-fork old.system inputs (standing_of h now) (standing_at (standing_of h now) place) i (standing_of_slot h slot s) fork.parent fork.at (standing-there h now place (Waiting fork) at) begins.0
+      (standing-there h now fork.parent (Playing slot) wait.plays ∙ ap (option_map (standing_of_slot h slot)) going.resting.playing.stands) wait.done there
 
   each-true : (place : ℕ) (i : SettledSession) (p q : Player) → slice_get now place ≡ Some q → HasPlayer old.slots i p → StandsAs old.slots ps now h p q →
       IsTrueOf old.system inputs (standing_of h now) (standing_at (standing_of h now) place) i

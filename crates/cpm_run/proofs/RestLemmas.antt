@@ -1,6 +1,7 @@
 -- The rest of a run in the code, and what is put in front of what it leaves.
-use Rattle.std.proofs.Common.{◌≡◌, ◌∙◌, ◌+◌, ◌<◌, ◌≤◌, ◌++◌, ℕ, zero, suc, List, [], ◌∷◌, Option, None, Some, refl, sym, ap, ap₂, arith, append-nil, append_assoc, drop, get_or, length, map, slice_get}
-use Rattle.std.specs.Prelude.{option_map}
+use Rattle.std.proofs.Common.{◌≡◌, ◌∙◌, ◌+◌, ◌<◌, ◌≤◌, ◌⊎◌, inl, inr, ◌++◌, ℕ, zero, suc, List, [], ◌∷◌, Option, None, Some, refl, sym, ap, ap₂, subst, arith, append-nil, append_assoc, drop, get_or, length, map, slice_get}
+use Rattle.std.specs.Prelude.{IfSome, option_map}
+use Rattle.std.proofs.lemmas.Bool.{cases_lt}
 use Rattle.std.proofs.lemmas.List.{at_drop_all, drop_more, length-map, length_push, map-append}
 use Rattle.std.proofs.lemmas.Option.{slice_get-get_or, slice_get-map}
 use Rattle.cpm_batch.specs.Outputs.{SessionOutput, left_by}
@@ -156,3 +157,33 @@ files-none rs (f ∷ fs) none same = absurd (bad (ap (map (λ (x : SessionReport
   where
     bad : [] ≡ map (λ (x : SessionFiles). length x.console.items) (f ∷ fs) → ⊥
     bad is = cc
+
+-- ---- the system drive
+
+abbrev pub IsOver : List ℕ → RunStanding → ℕ → Type 0
+IsOver digest ss place = IfSome (standing_at ss place) (λ s. s.saving.system_digest ≡ digest)
+
+pub over-more : (digest : List ℕ) (ss : RunStanding) (n : ℕ) (o : Option SessionStanding) → o ≡ standing_at ss n → IfSome o (λ s. s.saving.system_digest ≡ digest) → ((place : ℕ) → place < n → IsOver digest ss place)
+    → (place : ℕ) → place < n + 1 → IsOver digest ss place
+over-more digest ss n o at here before place below = by_place (cases_lt place n)
+  where
+    by_place : (place < n) ⊎ (n ≤ place) → IsOver digest ss place
+    by_place (inl less) = before place less
+    by_place (inr most) =
+        let low : n ≤ place = most in
+        let same : n ≡ place = omega arith in
+        subst (IsOver digest ss) same (subst (λ (x : Option SessionStanding). IfSome x (λ s. s.saving.system_digest ≡ digest)) at here)
+
+none-past : (kept : List (Option KeptSession)) (place : ℕ) → length kept ≤ place → standing_at (standing_view kept) place ≡ None
+none-past [] place past = refl
+none-past (k ∷ kept) zero past = absurd (omega arith)
+none-past (k ∷ kept) (suc place) past = none-past kept place (omega arith)
+
+pub over-all : (digest system : List ℕ) (kept : List (Option KeptSession)) (n : ℕ) → digest ≡ system → length kept ≤ n → ((place : ℕ) → place < n → IsOver digest (standing_view kept) place)
+    → (place : ℕ) → IsOver system (standing_view kept) place
+over-all digest system kept n is past before place = by_place (cases_lt place n)
+  where
+    by_place : (place < n) ⊎ (n ≤ place) → IsOver system (standing_view kept) place
+    by_place (inl less) = subst (λ (d : List ℕ). IsOver d (standing_view kept) place) is (before place less)
+    by_place (inr most) =
+        subst (λ (o : Option SessionStanding). IfSome o (λ s. s.saving.system_digest ≡ system)) (sym (none-past kept place (let low : n ≤ place = most in let end : length kept ≤ n = past in omega arith))) tt

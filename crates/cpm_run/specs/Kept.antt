@@ -3,6 +3,8 @@ use Rattle.std.specs.Prelude.{List, map, Option, None, option_map}
 use Rattle.cpm_batch.specs.Savings.{saving_view}
 use Rattle.cpm_play.specs.declared.player.Player.{Player}
 use Rattle.cpm_play.specs.declared.player.Player.TheVariants.{Playing, Waiting}
+use Rattle.cpm_play.specs.declared.scripted_slot.ScriptedSlot.{ScriptedSlot}
+use Rattle.cpm_machine.specs.MachineState.{MachineState}
 use Rattle.cpm_run.specs.Standing.{RunStanding, SessionStanding}
 use Rattle.cpm_run.specs.declared.standing.KeptSession.{KeptSession}
 use Rattle.cpm_slots.specs.Host.{Host, saving_of, slot_at}
@@ -14,12 +16,19 @@ kept_view k = record { pressed = k.pressed; done = k.done; console = k.console.i
 abbrev pub standing_view : List (Option KeptSession) → RunStanding
 standing_view kept = map (λ k. option_map kept_view k) kept
 
--- where the session of a player stands that is played in a host, with its output taken: by its pace, by what it has shown, and by the state of its slot. One that
--- is still to be forked has no standing of its own
+-- where a session stands whose slot has this state, from which its output was taken: by its pace and by what it has shown
+abbrev pub standing_of_slot : Host → ScriptedSlot → MachineState → SessionStanding
+standing_of_slot h slot s = record {
+  pressed = slot.pace.pressed;
+  done = slot.pace.done;
+  console = slot.console.items;
+  list = slot.list.items;
+  saving = saving_of h s;
+}
+
+-- where that of a player stands. One that is still to be forked has no standing of its own
 abbrev pub standing_of_player : Host → Player → Option SessionStanding
-standing_of_player h (Playing slot) =
-    option_map (λ s. record { pressed = slot.pace.pressed; done = slot.pace.done; console = slot.console.items; list = slot.list.items; saving = saving_of h s })
-    (slot_at slot.id.0 h.slots)
+standing_of_player h (Playing slot) = option_map (standing_of_slot h slot) (slot_at slot.id.0 h.slots)
 standing_of_player h (Waiting fork) = None
 
 -- and so those of a run

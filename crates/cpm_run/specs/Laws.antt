@@ -92,5 +92,6 @@ KeptIsTrue = (inputs : List SettledSession) (old h : Host) (players now : List P
 
 -- Where the rest of a run stands truly, from where the run had stood, the run stands truly by both.
 abbrev pub StandingsJoin : Type 0
-StandingsJoin = (system : Disk) (inputs : List SettledSession) (standing rest : RunStanding) → ArePressable system inputs → IsTrueStanding system inputs standing →
-    IsTrueStanding system (rest_of inputs standing) rest → IsTrueStanding system inputs (join_standings inputs standing rest)
+StandingsJoin = (system : Disk) (inputs : List SettledSession) (standing rest : RunStanding) → ArePressable system inputs →
+    IsTrueStanding system inputs standing → IsTrueStanding system (rest_of inputs standing) rest →
+    IsTrueStanding system inputs (join_standings inputs standing rest)

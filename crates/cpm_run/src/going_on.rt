@@ -1,6 +1,7 @@
 //! A run that goes on from where it stood: its rest is played, and what was shown before is put in front.
-ghost use Rattle.std.specs.Prelude.{◌≡◌, ◌≤◌, ◌++◌, ◌⊎◌, IfErr, IfOk, length, map, option_map};
+ghost use Rattle.std.specs.Prelude.{◌≡◌, ◌≤◌, ◌++◌, ◌⊎◌, ℕ, IfErr, IfOk, IfSome, length, map, option_map, true};
 ghost use Rattle.cpm_batch.specs.Outputs.{left_by};
+ghost use Rattle.cpm_machine.specs.SystemDigest.{system_digest};
 ghost use Rattle.cpm_run.specs.Kept.{kept_view, standing_view};
 ghost use Rattle.cpm_run.specs.Playing.{ArePressable, IsSlotRefusal};
 ghost use Rattle.cpm_run.specs.Run.{files_left, report_view, reports_of};
@@ -14,13 +15,38 @@ use crate::pressable::are_pressable;
 use crate::report::SessionReport;
 use crate::rest::rest_inputs;
 use crate::settled::SettledInput;
-use crate::standing::{KeptSession, kept_by};
+use crate::standing::{KeptSession, kept_at, kept_by};
 use cpm_batch::SessionFiles;
 use cpm_config::Config;
 use cpm_geom::Image;
+use cpm_machine::{SystemDigest, digest_of};
 use cpm_play::Watcher;
 use cpm_slots::{LEAST_FRAMES, MOST_FRAMES};
 use std::alloc::{AllocError, Global};
+
+/// Whether what is kept of a session, if anything is, was saved with a system drive of this digest.
+fn is_over(digest: &SystemDigest, session: Option<&KeptSession>) -> bool
+    ensures { result ≡ true → IfSome (option_map (λ k. kept_view k.now) session.entry) (λ s. s.saving.system_digest ≡ digest.now) }
+{
+    match session {
+        Some(session) => session.saved.digest == *digest,
+        None => true,
+    }
+}
+
+/// Whether all that is kept was saved with this system drive.
+fn are_over(system: &Image, kept: &[Option<KeptSession>]) -> bool
+    ensures { result ≡ true → (place : ℕ)
+        → IfSome (standing_at (standing_view kept.now) place) (λ s. s.saving.system_digest ≡ system_digest system.now) }
+{
+    let digest = digest_of(system);
+    for place in 0..kept.len() {
+        if !is_over(&digest, kept_at(kept, place)) {
+            return false;
+        }
+    }
+    true
+}
 
 /// Bytes with others in front.
 fn behind(alloc: Global, front: &[u8], mut bytes: Vec<u8>) -> Result<Vec<u8>, AllocError>
@@ -169,11 +195,13 @@ pub(crate) fn play_from<'a, T: Watcher>(
         ⊎ IsSlotRefusal config.entry.now.sessions.items (new_host system config.entry.now.frames)
         (starts_of (rest_of (map settled_view inputs.entry.items) (standing_view kept.now))) e) }
 {
+    if !are_over(&system, kept) {
+        return play_all(alloc, config, system, inputs, watcher);
+    }
     let sessions = inputs.as_slice();
     let rest = rest_inputs(alloc, sessions, kept)?;
-    if are_pressable(alloc, rest.as_slice())? {
-        play_rest(alloc, config, system, sessions, rest, kept, watcher)
-    } else {
-        play_all(alloc, config, system, inputs, watcher)
+    if !are_pressable(alloc, rest.as_slice())? {
+        return play_all(alloc, config, system, inputs, watcher);
     }
+    play_rest(alloc, config, system, sessions, rest, kept, watcher)
 }
