@@ -18,7 +18,8 @@ use Rattle.cpm_run.specs.Laws.{StandingsJoin, later_keys}
 use Rattle.cpm_run.specs.Playing.{ArePressable, IsForkPressable, IsPressableBy}
 use Rattle.cpm_run.specs.Run.{start_of}
 use Rattle.cpm_run.specs.Settled.{SettledSession, start_by, starts_of}
-use Rattle.cpm_run.specs.Standing.{IsBeforeFork, IsTrueOf, IsTrueStanding, RunStanding, SessionStanding, StandsThere, join_all, join_standings, joined, joined_if, keys_left, rest_from, rest_of, rest_of_session, rest_start, rests, standing_at, stands_by}
+use Rattle.cpm_run.specs.Rest.{RunStanding, SessionStanding, keys_left, rest_from, rest_of, rest_of_session, rest_start, rests, standing_at, stands_by}
+use Rattle.cpm_run.specs.Standing.{IsBeforeFork, IsTrueOf, IsTrueStanding, StandsThere, join_all, join_standings, joined, joined_if}
 use Rattle.cpm_script.specs.declared.script.Key.{Key}
 
 -- ---- keys

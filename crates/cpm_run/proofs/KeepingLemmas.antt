@@ -32,7 +32,8 @@ use Rattle.cpm_run.specs.Laws.{KeptIsTrue}
 use Rattle.cpm_run.specs.Playing.{ArePressable, HasPlayer, HasPlayerBy, HavePlayers, IsForkFor}
 use Rattle.cpm_run.specs.Run.{start_of}
 use Rattle.cpm_run.specs.Settled.{SettledSession, start_by, starts_of}
-use Rattle.cpm_run.specs.Standing.{IsBeforeFork, IsTrueOf, IsTrueStanding, RunStanding, SessionStanding, StandsThere, standing_at, stands_by}
+use Rattle.cpm_run.specs.Rest.{RunStanding, SessionStanding, standing_at, stands_by}
+use Rattle.cpm_run.specs.Standing.{IsBeforeFork, IsTrueOf, IsTrueStanding, StandsThere}
 use Rattle.cpm_script.specs.Fork.{keys_before}
 use Rattle.cpm_script.specs.declared.script.Key.{Key}
 use Rattle.cpm_slots.specs.Host.{Host, SlotState, saving_of, slot_at}

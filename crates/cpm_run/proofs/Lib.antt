@@ -1,3 +1,4 @@
+pub mod CheckpointLemmas
 pub mod ComingLemmas
 pub mod EndingLemmas
 pub mod FinishLemmas

@@ -9,9 +9,9 @@ use Rattle.cpm_batch.specs.declared.output.SessionFiles.{SessionFiles}
 use Rattle.cpm_config.specs.declared.config.SessionConfig.{SessionConfig}
 use Rattle.cpm_geom.specs.Disk.{Disk}
 use Rattle.cpm_run.specs.Kept.{kept_view, standing_view}
-use Rattle.cpm_run.specs.Run.{ReportEntry, files_left, left_of, report_view, reported_of, reports_of, run_of, session_output}
+use Rattle.cpm_run.specs.Run.{IsLeftFrom, ReportEntry, files_from, files_left, left_of, report_behind, report_view, reported_of, reports_behind, reports_from, reports_of, run_of, session_output}
 use Rattle.cpm_run.specs.Settled.{SettledSession, settled_view}
-use Rattle.cpm_run.specs.Standing.{RunStanding, SessionStanding, output_behind, outputs_behind, report_behind, reports_behind, rest_from, rest_of, rest_of_session, rest_start, rests, standing_at, stands_all, stands_by}
+use Rattle.cpm_run.specs.Rest.{RunStanding, SessionStanding, output_behind, outputs_behind, rest_from, rest_of, rest_of_session, rest_start, rests, standing_at, stands_all, stands_by}
 use Rattle.cpm_run.specs.declared.report.SessionReport.{SessionReport}
 use Rattle.cpm_run.specs.declared.settled.SettledInput.{SettledInput}
 use Rattle.cpm_run.specs.declared.standing.KeptSession.{KeptSession}
@@ -187,3 +187,13 @@ over-all digest system kept n is past before place = by_place (cases_lt place n)
     by_place (inl less) = subst (λ (d : List ℕ). IsOver d (standing_view kept) place) is (before place less)
     by_place (inr most) =
         subst (λ (o : Option SessionStanding). IfSome o (λ s. s.saving.system_digest ≡ system)) (sym (none-past kept place (let low : n ≤ place = most in let end : length kept ≤ n = past in omega arith))) tt
+
+-- what the rest of a run leaves that was played over a copy of the system drive
+pub left_by_rest : (system drive : Disk) (inputs sessions : List SettledSession) (s : RunStanding) (reports : List ReportEntry) (files : List SessionOutput) → drive ≡ system → sessions ≡ inputs
+    → reports ≡ reports_from drive sessions (Some s) → files ≡ files_from drive sessions (Some s) → IsLeftFrom system inputs s reports files
+left_by_rest system drive inputs sessions s reports files same are reported left = record {
+  from = Some s;
+  either = refl;
+  reported = reported ∙ (λ i. reports_from (same i) (are i) (Some s));
+  files = left ∙ (λ i. files_from (same i) (are i) (Some s));
+}

@@ -27,6 +27,7 @@ use Rattle.cpm_store.specs.declared.writes.Output.{Output}
 use Rattle.cpm_run.specs.Playing.{ArePressable, AreUnforked, IsPressableBy, IsRefusedAmong, IsRefusedByName, IsSlotRefusal}
 use Rattle.cpm_run.specs.Refusals.{run_error_of_reading}
 use Rattle.cpm_run.specs.Refusing.{FailsAtInput, IsOutputAt, IsPlaceRefusal, IsRunRefusal, IsRunnable, IsSettleRefusal, IsWriteRefusal, StopsAfterReading, StopsWriting}
+use Rattle.cpm_run.specs.Rest.{IsKeptBy, RunStanding}
 use Rattle.cpm_run.specs.Run.{AllAccepted, AreParts, GivesItsKeysAgain, HasForkRoom, HasReadInputs, HasWrittenOutputs, IsOpening, RunParts, StoreActs, config_fault, outputs_by, restoring_fault, starts_read}
 use Rattle.cpm_run.specs.Settled.{AreSettled, AreUntouched, SettledSession, Streams, TypedSession, starts_of}
 use Rattle.cpm_run.specs.Settling.{AreBelow80h, AreSettledBy, AreSound}
@@ -197,15 +198,17 @@ play_settled config options io system inputs settled e h r =
 -- ---- what was played
 
 -- what comes together in a run that was settled so
-abbrev pub parts_by : (config : Config) (options : RunOptions) (io : Streams) (system : Disk) (inputs : List SessionInput) (settled : List SettledSession) → AreSettledBy config options io system inputs settled → RunParts
-parts_by config options io system inputs settled h = record { system = system; inputs = inputs; typed = h.typed; settled = settled }
+abbrev pub parts_by : (config : Config) (options : RunOptions) (io : Streams) (system : Disk) (inputs : List SessionInput) (settled : List SettledSession) → AreSettledBy config options io system inputs settled
+    → Option RunStanding → RunParts
+parts_by config options io system inputs settled h from = record { system = system; inputs = inputs; typed = h.typed; settled = settled; from = from }
 
 pub are_parts : (config : Config) (options : RunOptions) (io : Streams) (system : Disk) (inputs : List SessionInput) (settled : List SettledSession) (h : AreSettledBy config options io system inputs settled)
-    → AreParts config options io (parts_by config options io system inputs settled h)
-are_parts config options io system inputs settled h = record {
+    (from : Option RunStanding) → IsKeptBy (option_map (λ c. c.now) options.kept) from → AreParts config options io (parts_by config options io system inputs settled h from)
+are_parts config options io system inputs settled h from kept = record {
   accepted = h.accepted;
   heard = h.heard;
   keys = h.keys;
+  kept = kept;
 }
 
 -- all that is written, by the parts of the run

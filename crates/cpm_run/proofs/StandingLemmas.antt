@@ -20,9 +20,10 @@ use Rattle.cpm_run.proofs.GoingOnLemmas.{both_in_one}
 use Rattle.cpm_run.proofs.LaterLemmas.{goes_on}
 use Rattle.cpm_run.specs.Ending.{ending_of}
 use Rattle.cpm_run.specs.Laws.{IsBothInOne, RestIsWhole, later_keys}
-use Rattle.cpm_run.specs.Run.{ReportEntry, left_of, reported_of, run_of, saving_over, session_output, start_of}
+use Rattle.cpm_run.specs.Run.{ReportEntry, left_of, report_behind, reported_of, reports_behind, run_of, saving_over, session_output, start_of}
 use Rattle.cpm_run.specs.Settled.{SettledSession, opening_at, opening_of, start_by, starts_of}
-use Rattle.cpm_run.specs.Standing.{IsTrueOf, IsTrueStanding, RunStanding, SessionStanding, StandsThere, keys_left, output_behind, outputs_behind, report_behind, reports_behind, rest_from, rest_of, rest_of_session, rest_start, rests, standing_at, stands_all, stands_by}
+use Rattle.cpm_run.specs.Rest.{RunStanding, SessionStanding, keys_left, output_behind, outputs_behind, rest_from, rest_of, rest_of_session, rest_start, rests, standing_at, stands_all, stands_by}
+use Rattle.cpm_run.specs.Standing.{IsTrueOf, IsTrueStanding, StandsThere}
 use Rattle.cpm_script.specs.declared.script.Key.{Key}
 
 -- ---- one session

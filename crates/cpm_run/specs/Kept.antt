@@ -5,7 +5,7 @@ use Rattle.cpm_play.specs.declared.player.Player.{Player}
 use Rattle.cpm_play.specs.declared.player.Player.TheVariants.{Playing, Waiting}
 use Rattle.cpm_play.specs.declared.scripted_slot.ScriptedSlot.{ScriptedSlot}
 use Rattle.cpm_machine.specs.MachineState.{MachineState}
-use Rattle.cpm_run.specs.Standing.{RunStanding, SessionStanding}
+use Rattle.cpm_run.specs.Rest.{RunStanding, SessionStanding}
 use Rattle.cpm_run.specs.declared.standing.KeptSession.{KeptSession}
 use Rattle.cpm_slots.specs.Host.{Host, saving_of, slot_at}
 

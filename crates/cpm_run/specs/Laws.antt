@@ -15,9 +15,10 @@ use Rattle.cpm_play.specs.declared.player.Player.{Player}
 use Rattle.cpm_run.specs.Ending.{ending_of}
 use Rattle.cpm_run.specs.Kept.{standing_of}
 use Rattle.cpm_run.specs.Playing.{ArePressable, HavePlayers}
-use Rattle.cpm_run.specs.Run.{files_left, left_of, reports_of, run_of, saving_over, start_of}
+use Rattle.cpm_run.specs.Run.{files_left, left_of, reports_behind, reports_of, run_of, saving_over, start_of}
 use Rattle.cpm_run.specs.Settled.{SettledSession}
-use Rattle.cpm_run.specs.Standing.{IsTrueStanding, RunStanding, join_standings, outputs_behind, reports_behind, rest_of, stands_all}
+use Rattle.cpm_run.specs.Rest.{RunStanding, outputs_behind, rest_of, stands_all}
+use Rattle.cpm_run.specs.Standing.{IsTrueStanding, join_standings}
 use Rattle.cpm_script.specs.declared.script.Key.{Key}
 use Rattle.cpm_slots.specs.Host.{Host}
 

@@ -5,6 +5,7 @@ pub mod Openings
 pub mod Playing
 pub mod Refusals
 pub mod Refusing
+pub mod Rest
 pub mod Run
 pub mod Settled
 pub mod Settling

@@ -1,10 +1,11 @@
 -- What running the sessions of a configuration writes and reports, and when it is refused. All of it is own.
-use Rattle.std.specs.Prelude.{◌≡◌, ◌≤◌, ◌⊎◌, ◌+◌, ℕ, sum_by, ◌==◌, ◌&&◌, not, nat_le, List, [], ◌∷◌, ◌++◌, length, drop, take}
+use Rattle.std.specs.Prelude.{⊤, ◌≡◌, ◌≤◌, ◌⊎◌, ◌+◌, ℕ, sum_by, ◌==◌, ◌&&◌, not, nat_le, List, [], ◌∷◌, ◌++◌, length, drop, take}
 use Rattle.std.specs.Prelude.{map, slice_get, Option, Some, None, option_map, string_bytes, chars, Ok, if◌then◌else◌}
 use Rattle.std.specs.List.{All}
 use Rattle.cpm_batch.specs.Inputs.{AreInputs, Forks, Opens, Restores, SessionInput, StartInput}
 use Rattle.cpm_batch.specs.Outputs.{SessionOutput, files_of_all}
 use Rattle.cpm_batch.specs.Reads.{AreRead}
+use Rattle.cpm_checkpoint.specs.declared.checkpoint.Checkpoint.{Checkpoint}
 use Rattle.cpm_command_line.specs.Shown.{shown_of}
 use Rattle.cpm_config.specs.Rules.{config_view, fault_or, forks_fault}
 use Rattle.cpm_config.specs.declared.config.Config.{Config}
@@ -42,6 +43,7 @@ use Rattle.cpm_run.specs.declared.report.SessionStop.{SessionStop}
 use Rattle.cpm_script.specs.Recording.{recorded, recording}
 use Rattle.cpm_script.specs.Script.{script, most_keys}
 use Rattle.cpm_script.specs.declared.script.Key.{Key}
+use Rattle.cpm_run.specs.Rest.{RunStanding, SessionStanding, outputs_behind, rest_of, stands_all, standing_at, IsKeptBy}
 use Rattle.cpm_run.specs.Settled.{AreSettled, IsTypedIfAny, SettledSession, Streams, TypedSession, opening_at, start_by, starts_of}
 
 -- ---- a session
@@ -93,6 +95,49 @@ reports_of system inputs = map (λ i. reported_of i.session (run_of system input
 abbrev pub files_left : Disk → List SettledSession → List SessionOutput
 files_left system inputs = map (λ i. session_output system i.session (run_of system inputs i) (left_of system inputs i)) inputs
 
+-- ---- a run that goes on from where it stood
+
+-- what is reported of a session, where this is of its rest
+abbrev pub report_behind : Option SessionStanding → ReportEntry → ReportEntry
+report_behind None r = r
+report_behind (Some s) r = record r { bytes = length s.console + r.bytes }
+
+-- of some sessions, the first of which stands as the first of these
+abbrev pub reports_behind : RunStanding → List ReportEntry → List ReportEntry
+reports_behind ss [] = []
+reports_behind ss (r ∷ rs) = report_behind (standing_at ss 0) r ∷ reports_behind (drop 1 ss) rs
+
+-- what is reported and left of all sessions, where they are played from their beginnings; or from where they stood: then what was shown before is in front
+abbrev pub reports_from : Disk → List SettledSession → Option RunStanding → List ReportEntry
+reports_from system inputs None = reports_of system inputs
+reports_from system inputs (Some s) = reports_behind (stands_all s inputs s) (reports_of system (rest_of inputs s))
+
+abbrev pub files_from : Disk → List SettledSession → Option RunStanding → List SessionOutput
+files_from system inputs None = files_left system inputs
+files_from system inputs (Some s) = outputs_behind (stands_all s inputs s) (files_left system (rest_of inputs s))
+
+-- from where they stood, or where that can't be gone on with, from their beginnings
+abbrev pub IsEither : RunStanding → Option RunStanding → Type 0
+IsEither standing None = ⊤
+IsEither standing (Some s) = s ≡ standing
+
+pub record IsLeftFrom (system : Disk) (inputs : List SettledSession) (standing : RunStanding) (reports : List ReportEntry) (left : List SessionOutput)
+    : Type 0 where
+  pub from : Option RunStanding
+  pub either : IsEither standing from
+  pub reported : reports ≡ reports_from system inputs from
+  pub files : left ≡ files_from system inputs from
+
+-- so it is where this was given of where they stood
+pub record IsLeftBy (system : Disk) (given : Option Checkpoint) (inputs : List SettledSession) (reports : List ReportEntry) (left : List SessionOutput)
+    : Type 0 where
+  pub from : Option RunStanding
+  pub kept : IsKeptBy given from
+  pub reported : reports ≡ reports_from system inputs from
+  pub files : left ≡ files_from system inputs from
+
+-- ---- records
+
 -- a session's own keys: those that come after the keys that the session that it is forked from had before
 abbrev pub own_keys : SettledSession → List Key
 own_keys s = drop s.before s.keys
@@ -113,8 +158,8 @@ record_outputs (r ∷ rs) [] = []
 record_outputs (r ∷ rs) (s ∷ ss) = record_of r (own_keys s) ++ record_outputs rs ss
 
 -- all that is written, in order: what the sessions leave, and then the records of their keys
-abbrev pub outputs_of : Disk → List RecordFile → List SettledSession → List NamedBytes
-outputs_of system records inputs = files_of_all (files_left system inputs) ++ record_outputs records inputs
+abbrev pub outputs_of : Disk → List RecordFile → List SettledSession → Option RunStanding → List NamedBytes
+outputs_of system records inputs from = files_of_all (files_from system inputs from) ++ record_outputs records inputs
 
 -- a number that no host can have, or no turn
 abbrev pub top_fault : Config → Option Field
@@ -177,12 +222,14 @@ starts_read inputs = map (λ i. i.start) inputs
 
 -- ---- a run
 
--- what comes together in a run: the system drive, what was read for each session, what was typed at one, and what they are played by
+-- what comes together in a run: the system drive, what was read for each session, what was typed at one, what they are played by, and where they stood where
+-- it goes on from there
 pub record RunParts : Type 0 where
   pub system : Disk
   pub inputs : List SessionInput
   pub typed : Option TypedSession
   pub settled : List SettledSession
+  pub from : Option RunStanding
 
 -- each opening is accepted and there is room for all forks, before a key is typed; the session at which one types has its keys by that, and each one the keys
 -- of its script, or those that come by it
@@ -190,18 +237,26 @@ pub record AreParts (config : Config) (options : RunOptions) (io : Streams) (r :
   pub accepted : AllAccepted (starts_read r.inputs) (new_host r.system config.frames) (starts_read r.inputs)
   pub heard : IsTypedIfAny r.system config.sessions.items (option_map (λ n. n.now) options.typed) r.inputs io r.typed
   pub keys : AreSettled r.system options.stops_idle r.typed config.sessions.items [] r.inputs r.settled
+  pub kept : IsKeptBy (option_map (λ c. c.now) options.kept) r.from
 
 abbrev pub outputs_by : RunOptions → RunParts → List NamedBytes
-outputs_by options r = outputs_of r.system options.records.now r.settled
+outputs_by options r = outputs_of r.system options.records.now r.settled r.from
 
 -- whether a session was played by itself and stopped where it waits for a key, and why no more was typed at it, where one typed
 abbrev pub stop_of : SettledSession → SessionStop
 stop_of s = record { is_idle = s.is_idle; typing = s.typing }
 
 -- each session is reported; and of each it is told how it stopped where it was played by itself
-pub record AreReportedOf (system : Disk) (settled : List SettledSession) (report : Report) : Type 0 where
-  pub sessions : map report_view report.sessions.items ≡ reports_of system settled
+pub record AreReportedOf (system : Disk) (settled : List SettledSession) (from : Option RunStanding) (report : Report) : Type 0 where
+  pub sessions : map report_view report.sessions.items ≡ reports_from system settled from
   pub stops : report.stops.items ≡ map stop_of settled
+
+-- what is reported of sessions, and what is written after them, where they go on from where they stood if that was given, or from their beginnings
+pub record HasPlayedAll (system : Disk) (options : RunOptions) (settled : List SettledSession) (report : Report) (outputs : List NamedBytes) : Type 0 where
+  pub from : Option RunStanding
+  pub kept : IsKeptBy (option_map (λ c. c.now) options.kept) from
+  pub reported : AreReportedOf system settled from report
+  pub written : outputs ≡ outputs_of system options.records.now settled from
 
 -- What a store does by its calls, and what its files hold, where it tells that.
 pub record StoreActs (S : Type 0) : Type 1 where
@@ -221,7 +276,7 @@ pub record HasWrittenOutputs {S : Type 0} (acts : StoreActs S) (outputs : List N
   pub calls : LogLeadsBy acts.does (AreWrites outputs) old new
 
 -- Of any store: with what its files gave, the sessions were run alone. Then the files that they name were written, and the records, and nothing else;
--- and each session is reported.
+-- and each session is reported. Where they went on from where they stood, their rests were run alone, and what they had shown before stands in front.
 pub record HasRun {S : Type 0} (acts : StoreActs S) (config : Config) (options : RunOptions) (report : Report) (io : Streams) (old new : S) : Type 0 where
   pub parts : RunParts
   pub between : S
@@ -232,7 +287,7 @@ pub record HasRun {S : Type 0} (acts : StoreActs S) (config : Config) (options :
   -- the record of each session is a script of its own keys
   pub replays : All GivesItsKeysAgain parts.settled
   pub wrote : HasWrittenOutputs acts (outputs_by options parts) between new
-  pub reported : AreReportedOf parts.system parts.settled report
+  pub reported : AreReportedOf parts.system parts.settled parts.from report
 
 -- ---- refusals
 

@@ -1,42 +1,16 @@
--- Where a run stands on its way, and what is left of it to play. All of it is own.
-use Rattle.std.specs.Prelude.{⊤, ◌≡◌, ◌≤◌, ◌+◌, ◌-◌, ℕ, List, [], ◌∷◌, ◌++◌, length, map, take, drop, slice_get, Option, Some, None, IfSome, option_and_then}
+-- Where a run stands truly on its way. All of it is own.
+use Rattle.std.specs.Prelude.{⊤, ◌≡◌, ◌≤◌, ◌+◌, ℕ, List, [], ◌∷◌, ◌++◌, length, take, drop, slice_get, Option, Some, None, IfSome}
 use Rattle.cpm_batch.specs.Inputs.{Forks, Opens, Restores, StartInput}
-use Rattle.cpm_batch.specs.Outputs.{SessionOutput}
 use Rattle.cpm_geom.specs.Disk.{Disk}
 use Rattle.cpm_machine.specs.MachineState.{MachineState}
-use Rattle.cpm_machine.specs.Saving.{Saving, saving_with}
+use Rattle.cpm_machine.specs.Saving.{saving_with}
 use Rattle.cpm_machine.specs.SystemDigest.{system_digest}
 use Rattle.cpm_play.specs.Live.{AreBy}
 use Rattle.cpm_play.specs.Pacing.{HaveComeAfter}
 use Rattle.cpm_play.specs.Playing.{IsInOrder, alone_by, state_left}
-use Rattle.cpm_run.specs.Run.{ReportEntry, start_of}
+use Rattle.cpm_run.specs.Rest.{RunStanding, SessionStanding, standing_at, stands_by}
+use Rattle.cpm_run.specs.Run.{start_of}
 use Rattle.cpm_run.specs.Settled.{SettledSession}
-use Rattle.cpm_script.specs.declared.script.Key.{Key}
-
--- ---- where sessions stand
-
--- how many of its keys a session has got, and how many of its steps it has executed; what it has shown so far on its console and its list device; and the
--- saving of its machine, whose output was taken
-pub record SessionStanding : Type 0 where
-  pub pressed : ℕ
-  pub done : ℕ
-  pub console : List ℕ
-  pub list : List ℕ
-  pub saving : Saving
-
--- where the sessions of a run stand, each at its place; none where one has not begun, or is still to be forked
-abbrev pub RunStanding : Type 0
-RunStanding = List (Option SessionStanding)
-
-abbrev pub standing_at : RunStanding → (place : ℕ) → Option SessionStanding
-standing_at all place = option_and_then (λ s. s) (slice_get all place)
-
--- where a session stands that begins so: as it does itself; or where it is still to be forked, as the one does that it is forked from
-abbrev pub stands_by : (all : RunStanding) → (own : Option SessionStanding) → StartInput → Option SessionStanding
-stands_by all (Some s) start = Some s
-stands_by all None (Opens cpu quota drives) = None
-stands_by all None (Forks parent at) = standing_at all parent
-stands_by all None (Restores x) = None
 
 -- ---- a standing that is true
 
@@ -68,67 +42,6 @@ pub record IsTrueOf (system : Disk) (inputs : List SettledSession) (all : RunSta
 pub record IsTrueStanding (system : Disk) (inputs : List SettledSession) (standing : RunStanding) : Type 0 where
   pub long : length standing ≡ length inputs
   pub each : (place : ℕ) → IfSome (slice_get inputs place) (IsTrueOf system inputs standing (standing_at standing place))
-
--- ---- the rest of a run
-
--- the keys after so many, whose counts begin at this one
-abbrev pub keys_left : (pressed done : ℕ) → List Key → List Key
-keys_left pressed done keys = map (λ k. record { count = k.count - done; byte = k.byte }) (drop pressed keys)
-
--- how the rest of a session begins: from its saving. One that is still to be forked is forked so many steps sooner as the other one has executed
-abbrev pub rest_start : (own from : Option SessionStanding) → StartInput → StartInput
-rest_start (Some s) from start = Restores s.saving
-rest_start None None start = start
-rest_start None (Some s) (Opens cpu quota drives) = Opens cpu quota drives
-rest_start None (Some s) (Forks parent at) = Forks parent (at - s.done)
-rest_start None (Some s) (Restores x) = Restores x
-
--- what is left to play of a session that stands so, where its rest begins with this; all of one that has not begun
-abbrev pub rest_from : Option SessionStanding → StartInput → SettledSession → SettledSession
-rest_from None start i = i
-rest_from (Some s) start i = record i {
-  start = start;
-  keys = keys_left s.pressed s.done i.keys;
-  before = i.before - s.pressed;
-  steps = i.steps - s.done;
-}
-
-abbrev pub rest_of_session : (all : RunStanding) → (own : Option SessionStanding) → SettledSession → SettledSession
-rest_of_session all own i = let from = stands_by all own i.start in rest_from from (rest_start own from i.start) i
-
--- of some sessions, the first of which has the first of these standings
-abbrev pub rests : (all : RunStanding) → List SettledSession → RunStanding → List SettledSession
-rests all [] ss = []
-rests all (i ∷ is) ss = rest_of_session all (standing_at ss 0) i ∷ rests all is (drop 1 ss)
-
--- of a run that stands there
-abbrev pub rest_of : List SettledSession → RunStanding → List SettledSession
-rest_of inputs standing = rests standing inputs standing
-
--- ---- what the whole run leaves
-
--- where each session stands, or the one that it is still to be forked from
-abbrev pub stands_all : (all : RunStanding) → List SettledSession → RunStanding → RunStanding
-stands_all all [] ss = []
-stands_all all (i ∷ is) ss = stands_by all (standing_at ss 0) i.start ∷ stands_all all is (drop 1 ss)
-
--- what a session's rest leaves, with what it had shown before in front
-abbrev pub output_behind : Option SessionStanding → SessionOutput → SessionOutput
-output_behind None o = o
-output_behind (Some s) o = record o { console = s.console ++ o.console; list = s.list ++ o.list }
-
-abbrev pub report_behind : Option SessionStanding → ReportEntry → ReportEntry
-report_behind None r = r
-report_behind (Some s) r = record r { bytes = length s.console + r.bytes }
-
--- of some sessions, the first of which stands as the first of these
-abbrev pub outputs_behind : RunStanding → List SessionOutput → List SessionOutput
-outputs_behind ss [] = []
-outputs_behind ss (o ∷ os) = output_behind (standing_at ss 0) o ∷ outputs_behind (drop 1 ss) os
-
-abbrev pub reports_behind : RunStanding → List ReportEntry → List ReportEntry
-reports_behind ss [] = []
-reports_behind ss (r ∷ rs) = report_behind (standing_at ss 0) r ∷ reports_behind (drop 1 ss) rs
 
 -- ---- the rest of a run on its way
 

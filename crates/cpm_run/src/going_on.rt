@@ -1,26 +1,28 @@
 //! A run that goes on from where it stood: its rest is played, and what was shown before is put in front.
-ghost use Rattle.std.specs.Prelude.{◌≡◌, ◌≤◌, ◌++◌, ◌⊎◌, ℕ, IfErr, IfOk, IfSome, length, map, option_map, true};
+ghost use Rattle.std.specs.Prelude.{◌≡◌, ◌≤◌, ◌++◌, ℕ, IfErr, IfOk, IfSome, Some, length, map, option_map, true};
 ghost use Rattle.cpm_batch.specs.Outputs.{left_by};
 ghost use Rattle.cpm_machine.specs.SystemDigest.{system_digest};
 ghost use Rattle.cpm_run.specs.Kept.{kept_view, standing_view};
 ghost use Rattle.cpm_run.specs.Playing.{ArePressable, IsSlotRefusal};
-ghost use Rattle.cpm_run.specs.Run.{files_left, report_view, reports_of};
+ghost use Rattle.cpm_run.specs.Run.{IsLeftFrom, files_from, files_left, report_behind, report_view, reports_behind, reports_from, reports_of};
 ghost use Rattle.cpm_run.specs.Settled.{settled_view, starts_of};
-ghost use Rattle.cpm_run.specs.Standing.{IsTrueStanding, output_behind, outputs_behind, report_behind, reports_behind, rest_of, stands_all, standing_at};
+ghost use Rattle.cpm_run.specs.Rest.{output_behind, outputs_behind, rest_of, stands_all, standing_at};
 ghost use Rattle.cpm_slots.specs.Host.{new_host};
 
+use crate::beginning::RunBeginning;
 use crate::error::RunError;
+use crate::keeper::{Keeper, parents_of};
 use crate::play::play_all;
 use crate::pressable::are_pressable;
 use crate::report::SessionReport;
 use crate::rest::rest_inputs;
 use crate::settled::SettledInput;
 use crate::standing::{KeptSession, kept_at, kept_by};
+use crate::watcher::RunWatcher;
 use cpm_batch::SessionFiles;
 use cpm_config::Config;
 use cpm_geom::Image;
 use cpm_machine::{SystemDigest, digest_of};
-use cpm_play::Watcher;
 use cpm_slots::{LEAST_FRAMES, MOST_FRAMES};
 use std::alloc::{AllocError, Global};
 
@@ -143,42 +145,51 @@ fn whole_sessions<'a>(
     Ok((whole_reports, whole_files))
 }
 
-/// Plays the rest of a run from where it stands, and gives what the whole of it leaves.
-fn play_rest<'a, T: Watcher>(
+/// Plays the rest of a run from where it stands, and gives what is left of all of it; nothing where a host refuses the rest.
+fn play_rest<'a, T: RunWatcher>(
     alloc: Global,
     config: &'a Config,
     system: Image,
     inputs: &[SettledInput<'_>],
     rest: Vec<SettledInput<'_>>,
     kept: &[Option<KeptSession>],
+    beginning: RunBeginning,
     watcher: &mut T,
-) -> Result<(Vec<SessionReport>, Vec<SessionFiles<'a>>), RunError>
+) -> Result<Option<(Vec<SessionReport>, Vec<SessionFiles<'a>>)>, AllocError>
     requires least { LEAST_FRAMES ≤ config.now.frames }
     requires most { config.now.frames ≤ MOST_FRAMES }
     requires quantum { 1 ≤ config.now.quantum }
     requires rest { map settled_view rest.items ≡ rest_of (map settled_view inputs.now) (standing_view kept.now) }
     requires keys { ArePressable system (map settled_view rest.items) }
     requires sessions { map (λ i. i.session) (map settled_view inputs.now) ≡ config.now.sessions.items }
-    ensures reports { IsTrueStanding system (map settled_view inputs.now) (standing_view kept.now)
-        → IfOk result (λ p. map report_view p.0.items ≡ reports_of system (map settled_view inputs.now)) }
-    ensures files { IsTrueStanding system (map settled_view inputs.now) (standing_view kept.now)
-        → IfOk result (λ p. map left_by p.1.items ≡ files_left system (map settled_view inputs.now)) }
-    ensures refusal { IfErr result (IsSlotRefusal config.entry.now.sessions.items (new_host system config.entry.now.frames)
-        (starts_of (rest_of (map settled_view inputs.now) (standing_view kept.now)))) }
+    ensures reports { IfOk result (λ left. IfSome left (λ p. map report_view p.0.items
+        ≡ reports_from system (map settled_view inputs.now) (Some (standing_view kept.now)))) }
+    ensures files { IfOk result (λ left. IfSome left (λ p. map left_by p.1.items
+        ≡ files_from system (map settled_view inputs.now) (Some (standing_view kept.now)))) }
 {
-    let (reports, files) = play_all(alloc, config, system, rest, watcher)?;
-    let whole = whole_sessions(alloc, inputs, kept, reports, files)?;
-    Ok(whole)
+    let mut keeper = Keeper {
+        alloc,
+        watcher,
+        beginning,
+        before: kept,
+        parents: parents_of(alloc, inputs)?,
+    };
+    let played = match play_all(alloc, config, system, rest, &mut keeper) {
+        Ok(played) => played,
+        Err(RunError::OutOfMemory) => return Err(AllocError),
+        Err(_) => return Ok(None),
+    };
+    let whole = whole_sessions(alloc, inputs, kept, played.0, played.1)?;
+    Ok(Some(whole))
 }
 
-/// Plays the sessions of a configuration from where they stood by what was kept of them, and gives what is left of them. Where their rests can't be played,
-/// which may be so if what was kept isn't theirs, they are played from their beginnings.
-pub(crate) fn play_from<'a, T: Watcher>(
+/// Plays the sessions of a run from their beginnings, and keeps where they stand.
+pub(crate) fn play_kept<'a, T: RunWatcher>(
     alloc: Global,
     config: &'a Config,
     system: Image,
     inputs: Vec<SettledInput<'_>>,
-    kept: &[Option<KeptSession>],
+    beginning: RunBeginning,
     watcher: &mut T,
 ) -> Result<(Vec<SessionReport>, Vec<SessionFiles<'a>>), RunError>
     requires least { LEAST_FRAMES ≤ config.now.frames }
@@ -186,22 +197,53 @@ pub(crate) fn play_from<'a, T: Watcher>(
     requires quantum { 1 ≤ config.now.quantum }
     requires keys { ArePressable system (map settled_view inputs.items) }
     requires sessions { map (λ i. i.session) (map settled_view inputs.items) ≡ config.now.sessions.items }
-    ensures reports { IsTrueStanding system (map settled_view inputs.entry.items) (standing_view kept.now)
-        → IfOk result (λ p. map report_view p.0.items ≡ reports_of system (map settled_view inputs.entry.items)) }
-    ensures files { IsTrueStanding system (map settled_view inputs.entry.items) (standing_view kept.now)
-        → IfOk result (λ p. map left_by p.1.items ≡ files_left system (map settled_view inputs.entry.items)) }
-    ensures refusal { IfErr result (λ e. IsSlotRefusal config.entry.now.sessions.items (new_host system config.entry.now.frames)
-        (starts_of (map settled_view inputs.entry.items)) e
-        ⊎ IsSlotRefusal config.entry.now.sessions.items (new_host system config.entry.now.frames)
-        (starts_of (rest_of (map settled_view inputs.entry.items) (standing_view kept.now))) e) }
+    ensures reports { IfOk result (λ p. map report_view p.0.items ≡ reports_of system (map settled_view inputs.entry.items)) }
+    ensures files { IfOk result (λ p. map left_by p.1.items ≡ files_left system (map settled_view inputs.entry.items)) }
+    ensures refusal { IfErr result (IsSlotRefusal config.entry.now.sessions.items (new_host system config.entry.now.frames)
+        (starts_of (map settled_view inputs.entry.items))) }
 {
-    if !are_over(&system, kept) {
-        return play_all(alloc, config, system, inputs, watcher);
-    }
+    let mut keeper = Keeper {
+        alloc,
+        watcher,
+        beginning,
+        before: &[],
+        parents: Vec::new(alloc),
+    };
+    play_all(alloc, config, system, inputs, &mut keeper)
+}
+
+/// Plays the sessions of a run from where they stood by what was kept of them, and gives what is left of them. Where their rests can't be played, which may
+/// be so if what was kept isn't theirs, they are played from their beginnings.
+pub(crate) fn play_from<'a, T: RunWatcher>(
+    alloc: Global,
+    config: &'a Config,
+    system: Image,
+    inputs: Vec<SettledInput<'_>>,
+    kept: &[Option<KeptSession>],
+    beginning: RunBeginning,
+    watcher: &mut T,
+) -> Result<(Vec<SessionReport>, Vec<SessionFiles<'a>>), RunError>
+    requires least { LEAST_FRAMES ≤ config.now.frames }
+    requires most { config.now.frames ≤ MOST_FRAMES }
+    requires quantum { 1 ≤ config.now.quantum }
+    requires keys { ArePressable system (map settled_view inputs.items) }
+    requires sessions { map (λ i. i.session) (map settled_view inputs.items) ≡ config.now.sessions.items }
+    ensures left { IfOk result (λ p. IsLeftFrom system (map settled_view inputs.entry.items) (standing_view kept.now)
+        (map report_view p.0.items) (map left_by p.1.items)) }
+    ensures refusal { IfErr result (IsSlotRefusal config.entry.now.sessions.items (new_host system config.entry.now.frames)
+        (starts_of (map settled_view inputs.entry.items))) }
+{
     let sessions = inputs.as_slice();
     let rest = rest_inputs(alloc, sessions, kept)?;
-    if !are_pressable(alloc, rest.as_slice())? {
-        return play_all(alloc, config, system, inputs, watcher);
+    if !are_over(&system, kept) || !are_pressable(alloc, rest.as_slice())? {
+        return play_kept(alloc, config, system, inputs, beginning, watcher);
     }
-    play_rest(alloc, config, system, sessions, rest, kept, watcher)
+    let drive = system.copy(alloc)?;
+    let left = play_rest(
+        alloc, config, drive, sessions, rest, kept, beginning, watcher,
+    )?;
+    match left {
+        Some(left) => Ok(left),
+        None => play_kept(alloc, config, system, inputs, beginning, watcher),
+    }
 }

@@ -3,11 +3,14 @@
 #![tactic(auto)]
 
 mod alone;
+mod beginning;
+mod checkpoint;
 mod digits;
 mod ending;
 mod error;
 mod finish;
 mod going_on;
+mod keeper;
 mod keeping;
 pub mod laws;
 mod openings;

@@ -3,6 +3,7 @@
 ghost use Rattle.std.specs.Prelude.{◌≡◌, [], false, true};
 
 use cpm_batch::Replay;
+use cpm_checkpoint::Checkpoint;
 
 /// The file for the keys of a session, as a script by which it does the same again.
 #[derive(Clone, Copy)]
@@ -23,6 +24,8 @@ pub struct RunOptions<'a> {
     pub records: &'a [RecordFile<'a>],
     /// The sessions that are played by recordings, each in place of its script. Of several for one session the first counts.
     pub replays: &'a [Replay<'a>],
+    /// Where its sessions stood, as that was kept of it, if it is to go on from there.
+    pub kept: Option<&'a Checkpoint>,
 }
 
 /// Whether a session may be played by a recording.

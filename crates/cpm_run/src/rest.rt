@@ -4,7 +4,7 @@ ghost use Rattle.cpm_batch.specs.Inputs.{start_view};
 ghost use Rattle.cpm_batch.specs.Savings.{saving_view};
 ghost use Rattle.cpm_run.specs.Kept.{kept_view, standing_view};
 ghost use Rattle.cpm_run.specs.Settled.{settled_view};
-ghost use Rattle.cpm_run.specs.Standing.{keys_left, rest_from, rest_of, rest_of_session, rest_start, standing_at};
+ghost use Rattle.cpm_run.specs.Rest.{keys_left, rest_from, rest_of, rest_of_session, rest_start, standing_at};
 
 use crate::alone::copies_of;
 use crate::settle::keys_after;

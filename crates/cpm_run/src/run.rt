@@ -1,25 +1,29 @@
 //! A run of the sessions of a configuration: it is read, settled, played and written.
-ghost use Rattle.std.specs.Prelude.{◌≡◌, ◌<◌, ◌≤◌, ℕ, IfErr, IfOk, OnOk, map};
+ghost use Rattle.std.specs.Prelude.{◌≡◌, ◌<◌, ◌≤◌, ℕ, IfErr, IfOk, OnOk, map, option_map};
 ghost use Rattle.cpm_slots.specs.Host.{new_host};
 ghost use Rattle.cpm_store.specs.Files.{CountsFailure, WhereTold};
 ghost use Rattle.cpm_store.specs.Log.{LogLeadsBy, StopsAfter};
 ghost use Rattle.cpm_store.specs.Writes.{StopsAt, named_output};
-ghost use Rattle.cpm_run.specs.Playing.{IsSlotRefusal};
+ghost use Rattle.cpm_batch.specs.Outputs.{left_by};
+ghost use Rattle.cpm_run.specs.Playing.{ArePressable, IsSlotRefusal};
 ghost use Rattle.cpm_run.specs.Refusing.{IsDeviceFault, IsRunRefusal, IsWriteRefusal};
-ghost use Rattle.cpm_run.specs.Run.{AreReportedOf, HasRun, HasWrittenOutputs, config_fault, outputs_of, top_fault};
+ghost use Rattle.cpm_run.specs.Run.{HasPlayedAll, HasRun, HasWrittenOutputs, IsLeftBy, config_fault, report_view, top_fault};
 ghost use Rattle.cpm_run.specs.Settled.{settled_view, starts_of, streams};
 ghost use Rattle.cpm_run.specs.Settling.{AreSound};
 
+use crate::beginning::beginning_of;
+use crate::checkpoint::kept_of;
 use crate::error::RunError;
+use crate::going_on::{play_from, play_kept};
 use crate::options::RunOptions;
 use crate::play::play_all;
 use crate::records::{records_of, stops_of};
-use crate::report::Report;
+use crate::report::{Report, SessionReport};
 use crate::settled::SettledInput;
 use crate::stages::settle_inputs;
 use crate::typed::typed_place;
 use crate::watcher::{RunStage, RunWatcher};
-use cpm_batch::{outputs_of, read_inputs};
+use cpm_batch::{SessionFiles, outputs_of, read_inputs};
 use cpm_command_line::shown;
 use cpm_config::{Config, ConfigError, ConfigKey, Field};
 use cpm_geom::Image;
@@ -73,6 +77,44 @@ fn write_files<S: Store>(outputs: &[Output<'_>], store: &mut S) -> Result<(), Ru
     }
 }
 
+/// Plays the sessions of a configuration from where they stood if that was kept, or else from their beginnings, and gives what is left of them. Where the
+/// watcher keeps checkpoints, it gets them on the way.
+fn play_sessions<'a, T: RunWatcher>(
+    alloc: Global,
+    config: &'a Config,
+    options: RunOptions<'_>,
+    system: Image,
+    inputs: Vec<SettledInput<'_>>,
+    watcher: &mut T,
+) -> Result<(Vec<SessionReport>, Vec<SessionFiles<'a>>), RunError>
+    requires least { LEAST_FRAMES ≤ config.now.frames }
+    requires most { config.now.frames ≤ MOST_FRAMES }
+    requires quantum { 1 ≤ config.now.quantum }
+    requires keys { ArePressable system (map settled_view inputs.items) }
+    requires sessions { map (λ i. i.session) (map settled_view inputs.items) ≡ config.now.sessions.items }
+    ensures left { IfOk result (λ p. IsLeftBy system (option_map (λ c. c.now) options.entry.kept) (map settled_view inputs.entry.items)
+        (map report_view p.0.items) (map left_by p.1.items)) }
+    ensures refusal { IfErr result (IsSlotRefusal config.entry.now.sessions.items (new_host system config.entry.now.frames)
+        (starts_of (map settled_view inputs.entry.items))) }
+{
+    if !watcher.keeps_checkpoints() {
+        return play_all(alloc, config, system, inputs, watcher);
+    }
+    let beginning = beginning_of(alloc, &system, inputs.as_slice())?;
+    match kept_of(alloc, options.kept, &beginning)? {
+        Some(kept) => play_from(
+            alloc,
+            config,
+            system,
+            inputs,
+            kept.as_slice(),
+            beginning,
+            watcher,
+        ),
+        None => play_kept(alloc, config, system, inputs, beginning, watcher),
+    }
+}
+
 /// Plays the sessions of a configuration, and gives what is reported of them and what is written after them.
 fn play_inputs<'a, T: RunWatcher>(
     alloc: Global,
@@ -87,16 +129,14 @@ fn play_inputs<'a, T: RunWatcher>(
     requires quantum { 1 ≤ config.now.quantum }
     requires sound { AreSound system (map settled_view inputs.items) }
     requires sessions { map (λ i. i.session) (map settled_view inputs.items) ≡ config.now.sessions.items }
-    ensures reports { IfOk result (λ p. AreReportedOf system (map settled_view inputs.entry.items) p.0) }
-    ensures outputs { IfOk result (λ p. map named_output p.1.items
-        ≡ outputs_of system options.entry.records.now (map settled_view inputs.entry.items)) }
+    ensures played { IfOk result (λ p. HasPlayedAll system options.entry (map settled_view inputs.entry.items) p.0 (map named_output p.1.items)) }
     ensures refusal { IfErr result (IsSlotRefusal config.entry.now.sessions.items (new_host system config.entry.now.frames)
         (starts_of (map settled_view inputs.entry.items))) }
 {
     watcher.begin(RunStage::All);
     let stops = stops_of(alloc, inputs.as_slice())?;
     let mut records = records_of(alloc, options.records, inputs.as_slice())?;
-    let (reports, files) = play_all(alloc, config, system, inputs, watcher)?;
+    let (reports, files) = play_sessions(alloc, config, options, system, inputs, watcher)?;
     let mut outputs = outputs_of(alloc, files)?;
     outputs.append(&mut records)?;
     let report = Report {

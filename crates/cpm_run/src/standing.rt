@@ -2,7 +2,7 @@
 ghost use Rattle.std.specs.Prelude.{◌≡◌, option_map};
 ghost use Rattle.cpm_batch.specs.Inputs.{start_view};
 ghost use Rattle.cpm_run.specs.Kept.{kept_view, standing_view};
-ghost use Rattle.cpm_run.specs.Standing.{standing_at, stands_by};
+ghost use Rattle.cpm_run.specs.Rest.{standing_at, stands_by};
 
 use cpm_batch::{SavedMachine, Start};
 

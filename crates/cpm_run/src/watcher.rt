@@ -16,6 +16,19 @@ pub enum RunStage {
 /// Who is told how far sessions have come, and before which of them it is told.
 pub trait RunWatcher: Watcher {
     fn begin(&mut self, stage: RunStage);
+
+    /// Whether it keeps where the sessions stand on the way, as checkpoints.
+    fn keeps_checkpoints(&self) -> bool {
+        false
+    }
+
+    /// Whether it wants one now, now that all sessions had a turn.
+    fn wants_checkpoint(&self) -> bool {
+        false
+    }
+
+    /// Keeps the bytes of one.
+    fn keep_checkpoint(&mut self, _bytes: &[u8]) {}
 }
 
 impl RunWatcher for NoWatcher {

@@ -4,9 +4,9 @@ use Rattle.std.proofs.lemmas.List.{length_push, nil_from_length}
 use Rattle.cpm_batch.specs.Outputs.{left_by}
 use Rattle.cpm_batch.specs.declared.output.SessionFiles.{SessionFiles}
 use Rattle.cpm_run.specs.Kept.{standing_view}
-use Rattle.cpm_run.specs.Run.{report_view}
+use Rattle.cpm_run.specs.Run.{report_behind, report_view, reports_behind}
 use Rattle.cpm_run.specs.Settled.{settled_view}
-use Rattle.cpm_run.specs.Standing.{RunStanding, SessionStanding, output_behind, outputs_behind, report_behind, reports_behind, stands_all}
+use Rattle.cpm_run.specs.Rest.{RunStanding, SessionStanding, output_behind, outputs_behind, stands_all}
 use Rattle.cpm_run.specs.declared.report.SessionReport.{SessionReport}
 use Rattle.cpm_run.proofs.RestLemmas.{bytes-next, files-more, files-none, reports-more}
 use Rattle.cpm_run.proofs.going_on.whole_sessions.Goals as goal

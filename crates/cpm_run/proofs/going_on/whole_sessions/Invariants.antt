@@ -2,9 +2,9 @@ use Rattle.std.proofs.Common.{◌≡◌, ◌++◌, drop, length, map}
 use Rattle.std.specs.Vec.Iter.{into_iter_items, into_iter_len}
 use Rattle.cpm_batch.specs.Outputs.{left_by}
 use Rattle.cpm_run.specs.Kept.{standing_view}
-use Rattle.cpm_run.specs.Run.{report_view}
+use Rattle.cpm_run.specs.Run.{report_view, reports_behind}
 use Rattle.cpm_run.specs.Settled.{settled_view}
-use Rattle.cpm_run.specs.Standing.{outputs_behind, reports_behind, stands_all}
+use Rattle.cpm_run.specs.Rest.{outputs_behind, stands_all}
 use Rattle.cpm_run.proofs.going_on.whole_sessions.Given as goal
 
 abbrev pub invariant-loop-report : goal.invariant-loop-report

@@ -1,7 +1,7 @@
 use Rattle.std.proofs.Common.{◌≡◌, ◌++◌, drop, map}
 use Rattle.cpm_run.specs.Kept.{standing_view}
 use Rattle.cpm_run.specs.Settled.{settled_view}
-use Rattle.cpm_run.specs.Standing.{rest_of, rests}
+use Rattle.cpm_run.specs.Rest.{rest_of, rests}
 use Rattle.cpm_run.proofs.rest.rest_inputs.Given as goal
 
 abbrev pub invariant-loop-place : goal.invariant-loop-place

@@ -63,19 +63,20 @@ returns-in_err-report-clause-refusal g c =
 
 pub returns-in_err-write_files-clause-refusal : goal.returns-in_err-write_files-clause-refusal
 returns-in_err-write_files-clause-refusal g c =
-    let p = err_from_is_err_and c.from_residual-in_err-write_files.result c.from_residual-in_err-write_files.ensures.1 in
+    let e = err_from_is_err_and c.from_residual-in_err-write_files.result c.from_residual-in_err-write_files.ensures.1 in
     let config = c.args.config.now in
     let system = c.in_ok-system.system in
     let inputs = map given c.in_ok-system.inputs.items in
     let settled = map settled_view c.in_ok-settled.settled.items in
     let h = c.in_ok-settled.ensures.settled in
-    let are = ap (map named_output) c.as_slice.ensures.value ∙ c.in_ok-report.ensures.outputs in
+    let p = c.in_ok-report.ensures.played in
+    let are = ap (map named_output) c.as_slice.ensures.value ∙ p.written in
     let r = c.in_err-write_files.ensures.refusal in
     let runnable : IsRunnable config c.args.options = record { faultless = sym c.in_default.ensures; place = c.in_ok-typed.typed; typable = c.in_ok-typed.ensures.place } in
-    rw (p.1, p.2) (write_refused (record { does = g.S.Store.does; files = g.S.Store.files }) config c.args.options _ (parts_by config c.args.options _ system inputs settled h) c.args.store.now c.read_inputs.new.store c.write_files.new.store
+    rw (e.1, e.2) (write_refused (record { does = g.S.Store.does; files = g.S.Store.files }) config c.args.options _ (parts_by config c.args.options _ system inputs settled h p.from) c.args.store.now c.read_inputs.new.store c.write_files.new.store
     (map named_output c.as_slice.result.now) r.0 c.in_err-write_files.field-0.0 runnable
     (record { held = c.in_ok-system.ensures.read; same = c.read_inputs.ensures.store.same; calls = c.in_ok-system.ensures.log })
-    (are_parts config c.args.options _ system inputs settled h) are r.1 r.2 r.3)
+    (are_parts config c.args.options _ system inputs settled h p.from p.kept) are r.1 r.2 r.3)
 
 pub returns-clause-run : goal.returns-clause-run
 returns-clause-run g c =
@@ -84,14 +85,15 @@ returns-clause-run g c =
     let inputs = map given c.in_ok-system.inputs.items in
     let settled = map settled_view c.in_ok-settled.settled.items in
     let h = c.in_ok-settled.ensures.settled in
-    let are = ap (map named_output) c.as_slice.ensures.value ∙ c.in_ok-report.ensures.outputs in
+    let p = c.in_ok-report.ensures.played in
+    let are = ap (map named_output) c.as_slice.ensures.value ∙ p.written in
     record {
-      parts = parts_by config c.args.options _ system inputs settled h;
+      parts = parts_by config c.args.options _ system inputs settled h p.from;
       between = c.read_inputs.new.store;
       faultless = sym c.in_default.ensures;
       read = record { held = c.in_ok-system.ensures.read; same = c.read_inputs.ensures.store.same; calls = c.in_ok-system.ensures.log };
-      played = are_parts config c.args.options _ system inputs settled h;
+      played = are_parts config c.args.options _ system inputs settled h p.from p.kept;
       replays = all_give system settled c.in_ok-settled.ensures.sound;
       wrote = written_as _ _ _ _ _ are c.in_ok-write_files.ensures.written;
-      reported = c.in_ok-report.ensures.reports;
+      reported = p.reported;
     }
