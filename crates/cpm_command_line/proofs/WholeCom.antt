@@ -197,7 +197,7 @@ check_whole words e =
 
 run_plain : IsPlain run_built.rules
 run_plain = plain_by_ids run_built.rules refl
-    (operand_word _ _, (value_word _, (value_word _, (flag_word _, (flag_word _, (value_word _, (flag_word _, (repeated_words _, (flag_word _, (count_word _, (repeated_words _, (help_word, tt))))))))))))
+    (operand_word _ _, (value_word _, (value_word _, (flag_word _, (flag_word _, (value_word _, (flag_word _, (repeated_words _, (flag_word _, (count_word _, (repeated_words _, (count_word _, (help_word, tt)))))))))))))
 
 run_shorts : HasHelpShorts run_built.rules
 run_shorts x a is = help_found x a is
@@ -223,6 +223,9 @@ run_whole words e =
       pace = count_of (codes "pace") rows
           (text_or_none run_built run_plain run_shorts words e (count_rule (codes "pace"))
           (inr (inr (inr (inr (inr (inr (inr (inr (inr (inl refl)))))))))));
+      checkpoint = count_of (codes "checkpoint") rows
+          (text_or_none run_built run_plain run_shorts words e (count_rule (codes "checkpoint"))
+          (inr (inr (inr (inr (inr (inr (inr (inr (inr (inr (inr (inl refl)))))))))))));
     }
 
 debug_plain : IsPlain debug_built.rules

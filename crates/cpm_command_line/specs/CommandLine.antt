@@ -90,12 +90,14 @@ abbrev pub check_app : App
 check_app = with_rule (new_app (codes "check")) (operand (codes "image"))
 
 -- own: `run CONFIG [--keyboard NAME] [--record SCRIPT] [--progress] [--stop-idle] [--record-all FOLDER] [--raw]
--- [--within FOLDER].. [--outputs-here] [--pace N] [--replay NAME=FILE]..`
+-- [--within FOLDER].. [--outputs-here] [--pace N] [--replay NAME=FILE].. [--checkpoint N]`
 abbrev pub run_app : App
-run_app = with_rule (with_rule (with_rule (with_rule (with_rule (with_rule (with_rule (with_rule (with_rule (with_rule (with_rule (new_app (codes "run"))
+run_app = with_rule (with_rule (with_rule (with_rule (with_rule (with_rule
+    (with_rule (with_rule (with_rule (with_rule (with_rule (with_rule (new_app (codes "run"))
     (operand (codes "config"))) (value_option (codes "keyboard"))) (value_option (codes "record"))) (flag (codes "progress")))
     (flag (codes "stop-idle"))) (value_option (codes "record-all"))) (flag (codes "raw"))) (repeated_option (codes "within")))
-    (flag (codes "outputs-here"))) (count_option (codes "pace"))) (repeated_option (codes "replay"))
+    (flag (codes "outputs-here"))) (count_option (codes "pace"))) (repeated_option (codes "replay")))
+    (count_option (codes "checkpoint"))
 
 -- own: `debug [FILE] [--z80] [--list FILE] [--from FILE] [--system IMAGE]`
 abbrev pub debug_app : App
@@ -215,6 +217,7 @@ HasEntriesOf given (Run task) =
     × (one_of (codes "outputs-here") given.1 ≡ Some (bool_text task.has_outputs_here))
     × ReadsCountIfAny (one_of (codes "pace") given.1) task.pace
     × ReadsWordsIfAny (all_of (codes "replay") given.1) task.replays.items
+    × ReadsCountIfAny (one_of (codes "checkpoint") given.1) task.checkpoint
 HasEntriesOf given (Debug task) =
     (given.0 ≡ codes "debug") × (first_of (codes "file") given.1 ≡ option_map (λ t. t.now) task.file)
     × (one_of (codes "z80") given.1 ≡ Some (flag_text task.cpu))
@@ -284,6 +287,7 @@ pub record IsWholeRun (rows : List Row) : Type 0 where
   pub raw : IsFlag (one_of (codes "raw") rows)
   pub here : IsFlag (one_of (codes "outputs-here") rows)
   pub pace : IsCountIfAny (one_of (codes "pace") rows)
+  pub checkpoint : IsCountIfAny (one_of (codes "checkpoint") rows)
 
 -- the entries of `debug` are whole
 pub record IsWholeDebug (rows : List Row) : Type 0 where

@@ -4,7 +4,7 @@ use Rattle.cpm_flags.specs.declared.regs.Cpu.{Cpu}
 use Rattle.cpm_flags.specs.declared.regs.Cpu.TheVariants.{I8080, Z80}
 use Rattle.cpm_command_line.specs.declared.fault.UsageFault.{UsageFault}
 use Rattle.cpm_command_line.specs.declared.fault.UsageFault.TheVariants.{FolderWithoutDisk, FolderWithoutDrive, FromWithPlace, FromWithProgram, FromWithStart}
-use Rattle.cpm_command_line.specs.declared.fault.UsageFault.TheVariants.{NoProgram, OutWithoutDisk, OutWithoutDrive}
+use Rattle.cpm_command_line.specs.declared.fault.UsageFault.TheVariants.{CheckpointZero, NoProgram, OutWithoutDisk, OutWithoutDrive}
 use Rattle.cpm_command_line.specs.declared.fault.UsageFault.TheVariants.{PaceUntyped, PaceZero, PartialWithoutOut}
 use Rattle.cpm_command_line.specs.declared.fault.UsageFault.TheVariants.{ProgressAtKeyboard, ProgressAtPrompt, RecordAlone, RecordUntyped}
 use Rattle.cpm_command_line.specs.declared.fault.UsageFault.TheVariants.{SystemWithoutFrom, TooManyDisks, TooManyPlaces, TwoScripts}
@@ -14,10 +14,10 @@ use Rattle.cpm_command_line.specs.declared.task.RunTask.{RunTask}
 use Rattle.cpm_command_line.specs.declared.task.Task.{Task}
 use Rattle.cpm_command_line.specs.declared.task.Task.TheVariants.{Boot, Com, Debug, Run}
 
--- own: a pace of no steps in a second
-abbrev pub is_zero_pace : Option ℕ → Bool
-is_zero_pace None = false
-is_zero_pace (Some n) = n == 0
+-- own: a number was given, and is 0
+abbrev pub is_zero_count : Option ℕ → Bool
+is_zero_count None = false
+is_zero_count (Some n) = n == 0
 
 -- own: the processor is the Z80
 abbrev pub is_z80 : Cpu → Bool
@@ -37,7 +37,7 @@ abbrev pub fault_of_play : UsageFault → PlayTask → Option UsageFault
 fault_of_play progress task =
     if task.is_partial && ((length task.outs.items == 0) && (length task.out_folders.items == 0)) then Some PartialWithoutOut
     else (if task.has_progress && task.is_live then Some progress
-    else (if is_zero_pace task.pace then Some PaceZero
+    else (if is_zero_count task.pace then Some PaceZero
     else None))
 
 -- own: what is wrong with too many of `--out-disk` and of `--out-folder` in `com`: each wants a `--disk`, unless it goes on from a saved machine
@@ -78,9 +78,10 @@ abbrev pub fault_of_run : RunTask → Option UsageFault
 fault_of_run task =
     if is_some task.«record» && not (is_some task.keyboard) then Some RecordUntyped
     else (if task.has_progress && is_some task.keyboard then Some ProgressAtKeyboard
-    else (if is_zero_pace task.pace then Some PaceZero
+    else (if is_zero_count task.pace then Some PaceZero
     else (if is_some task.pace && not (is_some task.keyboard) then Some PaceUntyped
-    else None)))
+    else (if is_zero_count task.checkpoint then Some CheckpointZero
+    else None))))
 
 -- own: what is wrong first with the words and the options of `debug`. It has a program, or a saved machine, which has a program and a processor
 -- of its own; and only a saved machine has another system drive than a blank one

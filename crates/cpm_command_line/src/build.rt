@@ -118,6 +118,7 @@ const HOST_COMMANDS: [NamedCommand; 8] = [
             Argument::Flag("outputs-here"),
             Argument::Count("pace"),
             Argument::Values("replay", "NAME=FILE"),
+            Argument::Count("checkpoint"),
         ],
     ),
     (

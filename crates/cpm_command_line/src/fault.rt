@@ -45,6 +45,9 @@ pub enum UsageFault {
     /// The value of `--pace` is no number of 64 bits.
     #[error("invalid value '{0}' for '--pace': a number from 1 to 18446744073709551615 is wanted")]
     NotAPace(ShownWord),
+    /// The value of `--checkpoint` is no number of 64 bits.
+    #[error("invalid value '{0}' for '--checkpoint': a number from 1 to 18446744073709551615 is wanted")]
+    NotACheckpoint(ShownWord),
     /// The value of `--user` is no number of a user.
     #[error("invalid value '{0}' for '--user': a number from 0 to 15 is wanted")]
     NotAUser(ShownWord),
@@ -108,6 +111,9 @@ pub enum UsageFault {
     /// A pace is given to a run where nobody types.
     #[error("'--pace' needs '--keyboard'")]
     PaceUntyped,
+    /// Where the sessions stand is to be kept after no steps.
+    #[error("'--checkpoint' needs a number from 1")]
+    CheckpointZero,
     /// Anything else, in the words of the reader of command lines.
     #[error("{0}")]
     Other(ShownWord),
@@ -271,23 +277,27 @@ fn missing_command(is_disk: bool) -> UsageFault
     }
 }
 
-/// Whether an error of `clap` on a value names `--pace` behind it.
-fn names_pace(text: &str) -> bool {
+/// Whether an error of `clap` on a value names this option behind it.
+fn names_option(text: &str, option: &str) -> bool {
     match text.rsplit_once("' for '") {
-        Some((_, option)) => option.starts_with("--pace"),
+        Some((_, named)) => named.starts_with(option),
         None => false,
     }
 }
 
-/// What is wrong where a number is none: in a line of `disk` a user's, and in another a pace or a number of steps.
-fn wrong_number(word: ShownWord, is_disk: bool, is_pace: bool) -> UsageFault
+/// What is wrong where a number is none: in a line of `disk` a user's, and in another a pace, the steps between two
+/// checkpoints, or a number of steps.
+fn wrong_number(word: ShownWord, is_disk: bool, is_pace: bool, is_checkpoint: bool) -> UsageFault
     ensures { result ≡ (if is_disk then UsageFault.NotAUser word
-        else (if is_pace then UsageFault.NotAPace word else UsageFault.NotANumber word)) }
+        else (if is_pace then UsageFault.NotAPace word
+        else (if is_checkpoint then UsageFault.NotACheckpoint word else UsageFault.NotANumber word))) }
 {
     if is_disk {
         UsageFault::NotAUser(word)
     } else if is_pace {
         UsageFault::NotAPace(word)
+    } else if is_checkpoint {
+        UsageFault::NotACheckpoint(word)
     } else {
         UsageFault::NotANumber(word)
     }
@@ -314,7 +324,9 @@ fn fault_of_kind(kind: ErrorKind, text: &str, is_disk: bool) -> Option<UsageFaul
         ErrorKind::InvalidValue => Some(UsageFault::MissingValue(quoted(message, "' but"))),
         ErrorKind::ValueValidation => {
             let word = quoted(message, "' for '");
-            Some(wrong_number(word, is_disk, names_pace(text)))
+            let is_pace = names_option(text, "--pace");
+            let is_checkpoint = names_option(text, "--checkpoint");
+            Some(wrong_number(word, is_disk, is_pace, is_checkpoint))
         }
         ErrorKind::ArgumentConflict => Some(UsageFault::GivenTwice(quoted(message, "' cannot"))),
         ErrorKind::NoEquals

@@ -2,7 +2,7 @@
 ghost use Rattle.std.specs.Prelude.{◌≡◌};
 ghost use Rattle.cpm_command_line.specs.Options.{fault_of_boot, fault_of_com, fault_of_debug, fault_of_play, fault_of_run};
 ghost use Rattle.cpm_command_line.specs.Options.{fault_of_folders, fault_of_outs};
-ghost use Rattle.cpm_command_line.specs.Options.{has_start, is_z80, is_zero_pace, task_fault, written_at_most};
+ghost use Rattle.cpm_command_line.specs.Options.{has_start, is_z80, is_zero_count, task_fault, written_at_most};
 
 use crate::fault::UsageFault;
 use crate::task::{DebugTask, PlayTask, RunTask, Task};
@@ -11,11 +11,11 @@ use cpm_flags::Cpu;
 /// How many drives can have an image: A to D.
 const DRIVES: usize = 4;
 
-/// Whether a pace was given, of no steps in a second.
-fn is_zero_pace(pace: Option<u64>) -> bool
-    ensures { result ≡ is_zero_pace pace }
+/// Whether a number was given, and is 0.
+fn is_zero_count(count: Option<u64>) -> bool
+    ensures { result ≡ is_zero_count count }
 {
-    match pace {
+    match count {
         Some(n) => n == 0,
         None => false,
     }
@@ -75,7 +75,7 @@ fn play_fault(task: &PlayTask<'_>, progress: UsageFault) -> Option<UsageFault>
         Some(UsageFault::PartialWithoutOut)
     } else if task.has_progress && task.is_live {
         Some(progress)
-    } else if is_zero_pace(task.pace) {
+    } else if is_zero_count(task.pace) {
         Some(UsageFault::PaceZero)
     } else {
         None
@@ -135,10 +135,12 @@ fn run_fault(task: &RunTask<'_>) -> Option<UsageFault>
         Some(UsageFault::RecordUntyped)
     } else if task.has_progress && task.keyboard.is_some() {
         Some(UsageFault::ProgressAtKeyboard)
-    } else if is_zero_pace(task.pace) {
+    } else if is_zero_count(task.pace) {
         Some(UsageFault::PaceZero)
     } else if task.pace.is_some() && task.keyboard.is_none() {
         Some(UsageFault::PaceUntyped)
+    } else if is_zero_count(task.checkpoint) {
+        Some(UsageFault::CheckpointZero)
     } else {
         None
     }

@@ -182,7 +182,7 @@ Examples:
 pub const RUN_PAGE: &str = "\
 Usage: cpmhost run CONFIG [--keyboard NAME] [--record SCRIPT] [--progress]
        [--stop-idle] [--record-all FOLDER] [--raw] [--within FOLDER]..
-       [--outputs-here] [--pace N] [--replay NAME=FILE]..
+       [--outputs-here] [--pace N] [--replay NAME=FILE].. [--checkpoint N]
 
 Run the sessions of the configuration in CONFIG by turns, write their files,
 and print how each session ended.
@@ -213,6 +213,10 @@ Options:
   --replay NAME=FILE
               press the keys of the recording FILE in the session NAME, in place
               of its script; given again, in other sessions
+  --checkpoint N
+              keep where the sessions stand every N steps in CONFIG.checkpoint,
+              from which the same command goes on if it was ended; N is a
+              number from 1 to 18446744073709551615
   -h, --help  print this page
 
 Examples:

@@ -155,6 +155,7 @@ fn run_task<'a>(alloc: Global, matches: &ArgMatches<'a>) -> Result<Task<'a>, All
         has_outputs_here: flag_of(matches, "outputs-here"),
         pace: count_if_any(matches, "pace"),
         replays,
+        checkpoint: count_if_any(matches, "checkpoint"),
     }))
 }
 

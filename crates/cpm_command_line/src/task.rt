@@ -106,8 +106,8 @@ pub struct PlayTask<'a> {
 }
 
 /// `run CONFIG [--keyboard NAME] [--record SCRIPT] [--progress] [--stop-idle] [--record-all FOLDER] [--raw]
-/// [--within FOLDER].. [--outputs-here] [--pace N] [--replay NAME=FILE]..`: run the sessions of the
-/// configuration in CONFIG.
+/// [--within FOLDER].. [--outputs-here] [--pace N] [--replay NAME=FILE].. [--checkpoint N]`: run the sessions
+/// of the configuration in CONFIG.
 #[derive(Drop)]
 pub struct RunTask<'a> {
     /// The file of the configuration.
@@ -132,6 +132,8 @@ pub struct RunTask<'a> {
     pub pace: Option<u64>,
     /// The recordings whose keys are pressed in place of the scripts of sessions, each as NAME=FILE.
     pub replays: Vec<&'a str>,
+    /// After how many steps where the sessions stand is kept, again and again, from 1 on, where that was given.
+    pub checkpoint: Option<u64>,
 }
 
 /// A machine that is debugged: one that begins a program, or one that was saved.

@@ -169,7 +169,8 @@ fn add_sessions(alloc: Global, out: &mut String, task: &RunTask<'_>) -> Result<(
     add_texts(alloc, out, " folders", task.folders.as_slice())?;
     add_flag(out, " has_outputs_here", task.has_outputs_here)?;
     add_count(alloc, out, " pace", task.pace)?;
-    add_texts(alloc, out, " replays", task.replays.as_slice())
+    add_texts(alloc, out, " replays", task.replays.as_slice())?;
+    add_count(alloc, out, " checkpoint", task.checkpoint)
 }
 
 /// Adds a command of `disk`.
