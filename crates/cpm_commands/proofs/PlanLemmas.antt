@@ -9,6 +9,7 @@ use Rattle.cpm_batch.specs.Sources.{NoSource, RecordingFile, ScriptFile, SourceO
 use Rattle.cpm_batch.specs.declared.source.Replay.{Replay}
 use Rattle.cpm_batch.specs.Outputs.{SessionOutput, files_of, files_of_all, image_at, image_outputs, named_bytes, named_image, named_images, named_saving}
 use Rattle.cpm_batch.specs.Reads.{AreImagesRead, AreInputsRead, AreRead, IsForkedSaidRead, IsInputReadOf, IsSaidRead}
+use Rattle.cpm_checkpoint.specs.declared.checkpoint.Checkpoint.{Checkpoint}
 use Rattle.cpm_command_line.specs.declared.task.RunTask.{RunTask}
 use Rattle.cpm_config.specs.Files.{NamedFile, all_named, all_named_if_any, named_if_any, output_files}
 use Rattle.cpm_config.specs.Rules.{texts_of_strings}
@@ -267,9 +268,9 @@ module _ (plan : Plan) where
 
 -- ---- a run
 
-run_calls : {F : Type 0} (store : StoreActs F) (tells_name : F → StoreName → Bool → Type 0) (task : RunTask) (config : Config) (replays : List Replay) (scripts : List (String Global)) (report : Report) (io : Streams) (old new : F)
-    → HasRunAll store tells_name task config replays scripts report io old new → LogLeadsBy store.does (All (IsAsPlanned (plan_by task config replays scripts))) old new
-run_calls store tells_name task config replays scripts report io old new h =
+run_calls : {F : Type 0} (store : StoreActs F) (tells_name : F → StoreName → Bool → Type 0) (stood : Option Checkpoint) (task : RunTask) (config : Config) (replays : List Replay) (scripts : List (String Global)) (report : Report) (io : Streams) (old new : F)
+    → HasRunAll store tells_name stood task config replays scripts report io old new → LogLeadsBy store.does (All (IsAsPlanned (plan_by task config replays scripts))) old new
+run_calls store tells_name stood task config replays scripts report io old new h =
     let plan = plan_by task config replays scripts in
     let I = IsPlanned plan.inputs in
     let O = IsPlanned plan.outputs in
@@ -294,9 +295,9 @@ run_calls store tells_name task config replays scripts report io old new h =
     (reading.0 ++ writing.0, joined plan (reading.0 ++ writing.0) reading.0 writing.0 refl read written, ran_more store.does reading.0 writing.0 old h.ran.between new reading.2 writing.2)
 
 pub runs_follow : {F : Type 0} (store : StoreActs F) (sees_to : F → Plan → Option HostError → F → Type 0) (gives_names : F → Option HostError → F → Type 0)
-    (tells_name : F → StoreName → Bool → Type 0) (ended : Option HostError → Type 0) (told : List SessionReport → Type 0)
-    → RunsFollowPlans store sees_to gives_names tells_name ended told
-runs_follow store sees_to gives_names tells_name ended told task old new unread left before printed unrecorded record_now h = (
+    (tells_name : F → StoreName → Bool → Type 0) (stood : Option Checkpoint) (ended : Option HostError → Type 0) (told : List SessionReport → Type 0)
+    → RunsFollowPlans store sees_to gives_names tells_name stood ended told
+runs_follow store sees_to gives_names tells_name stood ended told task old new unread left before printed unrecorded record_now h = (
   h.config,
   h.replays,
   h.scripts,
@@ -308,7 +309,7 @@ runs_follow store sees_to gives_names tells_name ended told task old new unread 
     seen = h.seen;
     ended = h.ran;
     sees = h.prepared.sees;
-    calls = run_calls store tells_name task h.config h.replays h.scripts h.report (streams unread left before h.shown unrecorded record_now) h.seen h.ran h.played;
+    calls = run_calls store tells_name stood task h.config h.replays h.scripts h.report (streams unread left before h.shown unrecorded record_now) h.seen h.ran h.played;
     named = h.named;
   },
 )

@@ -2,6 +2,7 @@
 use Rattle.std.specs.Prelude.{All, Contains, ℕ, Bool, true, false, List, map, Option, None, String}
 use Rattle.std.specs.declared.alloc.Global.{Global}
 use Rattle.cpm_batch.specs.declared.source.Replay.{Replay}
+use Rattle.cpm_checkpoint.specs.declared.checkpoint.Checkpoint.{Checkpoint}
 use Rattle.cpm_command_line.specs.declared.task.PlayTask.{PlayTask}
 use Rattle.cpm_command_line.specs.declared.task.RunTask.{RunTask}
 use Rattle.cpm_config.specs.declared.config.Config.{Config}
@@ -45,10 +46,10 @@ pub record FollowsPlan {F : Type 0} (does : F → StoreAccess → F → Type 0) 
 
 -- once a run has read its configuration, it follows its plan
 abbrev pub RunsFollowPlans : {F : Type 0} → StoreActs F → (F → Plan → Option HostError → F → Type 0) → (F → Option HostError → F → Type 0)
-    → (F → StoreName → Bool → Type 0) → (Option HostError → Type 0) → (List SessionReport → Type 0) → Type 0
-RunsFollowPlans {F} store sees_to gives_names tells_name ended told =
+    → (F → StoreName → Bool → Type 0) → Option Checkpoint → (Option HostError → Type 0) → (List SessionReport → Type 0) → Type 0
+RunsFollowPlans {F} store sees_to gives_names tells_name stood ended told =
     (task : RunTask) (old new : F) (unread left : TypingState) (before printed unrecorded record_now : Option (List ℕ))
-    → HasRunSessions store sees_to gives_names tells_name ended told task old new unread left before printed unrecorded record_now
+    → HasRunSessions store sees_to gives_names tells_name stood ended told task old new unread left before printed unrecorded record_now
     → (config : Config) × (replays : List Replay) × (scripts : List (String Global)) × (known : F) × IsConfigRead store.does task.config.now old known config
     × ArePlayedBack task config replays × AreScripts task config scripts
     × FollowsPlan store.does sees_to gives_names (plan_by task config replays scripts) known new

@@ -4,6 +4,7 @@ use Rattle.std.specs.Prelude.{Option, Some, None, Ok, Err, String, Vec}
 use Rattle.std.specs.declared.alloc.Global.{Global}
 use Rattle.cpm_batch.specs.Sources.{key_file, key_source}
 use Rattle.cpm_batch.specs.declared.source.Replay.{Replay}
+use Rattle.cpm_checkpoint.specs.declared.checkpoint.Checkpoint.{Checkpoint}
 use Rattle.cpm_command_line.specs.declared.task.RunTask.{RunTask}
 use Rattle.cpm_config.specs.Files.{NamedFile, output_files}
 use Rattle.cpm_config.specs.Rules.{IsRead, session_view}
@@ -106,12 +107,13 @@ record_mark r = (r.name.now, r.needs_key)
 abbrev pub record_marks : (is_kept : Bool) → Option StoreName → List (SessionConfig × String Global) → List (StoreName × Bool)
 record_marks is_kept typed sessions = map (λ p. (string_bytes p.1, is_typed_at typed p.0 && is_kept)) sessions
 
--- the options of a run are those of the command line
-pub record IsAsked (tells_name : StoreName → Bool → Type 0) (task : RunTask) (sessions : List SessionConfig) (replays : List Replay)
+-- the options of a run are those of the command line; and where its sessions stood, if it is to go on from there
+pub record IsAsked (tells_name : StoreName → Bool → Type 0) (stood : Option Checkpoint) (task : RunTask) (sessions : List SessionConfig) (replays : List Replay)
     (scripts : List (String Global)) (options : RunOptions) : Type 0 where
   pub typed : option_map (λ n. n.now) options.typed ≡ option_map (λ n. n.now) task.keyboard
   pub idle : options.stops_idle ≡ task.stops_idle
   pub played_back : options.replays.now ≡ replays
+  pub goes_on : option_map (λ c. c.now) options.kept ≡ stood
   -- the script of the session that is typed at, if something has its name
   pub kept : Option StoreName
   pub kept_is : IsScriptKept tells_name (typed_script (option_map (λ n. n.now) task.keyboard) (zip sessions scripts)) kept
@@ -120,26 +122,26 @@ pub record IsAsked (tells_name : StoreName → Bool → Type 0) (task : RunTask)
 -- ---- the run
 
 -- its sessions ran so
-pub record HasRunAll {F : Type 0} (store : StoreActs F) (tells_name : F → StoreName → Bool → Type 0) (task : RunTask) (config : Config)
+pub record HasRunAll {F : Type 0} (store : StoreActs F) (tells_name : F → StoreName → Bool → Type 0) (stood : Option Checkpoint) (task : RunTask) (config : Config)
     (replays : List Replay) (scripts : List (String Global)) (report : Report) (io : Streams) (old new : F) : Type 0 where
   pub options : RunOptions
-  pub asked : IsAsked (tells_name old) task config.sessions.items replays scripts options
+  pub asked : IsAsked (tells_name old) stood task config.sessions.items replays scripts options
   pub ran : HasRun store config options report io old new
 
 -- the run was refused, and has come so far
-pub record IsRunRefused {F : Type 0} (store : StoreActs F) (tells_name : F → StoreName → Bool → Type 0) (task : RunTask) (config : Config)
+pub record IsRunRefused {F : Type 0} (store : StoreActs F) (tells_name : F → StoreName → Bool → Type 0) (stood : Option Checkpoint) (task : RunTask) (config : Config)
     (replays : List Replay) (scripts : List (String Global)) (io : Streams) (old new : F) (e : HostError) : Type 0 where
   pub options : RunOptions
-  pub asked : IsAsked (tells_name old) task config.sessions.items replays scripts options
+  pub asked : IsAsked (tells_name old) stood task config.sessions.items replays scripts options
   pub error : RunError
   pub told : e ≡ host_error_of_run error
   pub stopped : IsRunRefusal store config options io old new error
 
 -- or memory was refused before it, and nothing was read or written
-abbrev pub IsRunAllStopped : {F : Type 0} → StoreActs F → (F → StoreName → Bool → Type 0) → RunTask → Config → List Replay → List (String Global) → Streams
+abbrev pub IsRunAllStopped : {F : Type 0} → StoreActs F → (F → StoreName → Bool → Type 0) → Option Checkpoint → RunTask → Config → List Replay → List (String Global) → Streams
     → F → F → HostError → Type 0
-IsRunAllStopped {F} store tells_name task config replays scripts io old new e =
-    ((e ≡ OutOfMemory) × (new ≡ old) × AreUntouched io) ⊎ IsRunRefused store tells_name task config replays scripts io old new e
+IsRunAllStopped {F} store tells_name stood task config replays scripts io old new e =
+    ((e ≡ OutOfMemory) × (new ≡ old) × AreUntouched io) ⊎ IsRunRefused store tells_name stood task config replays scripts io old new e
 
 -- what was written can't have its names; or it has them, but what is told of it can't be printed
 abbrev pub IsEndStopped : {F : Type 0} → (F → Option HostError → F → Type 0) → F → F → HostError → Type 0
@@ -174,7 +176,7 @@ pub record IsRunPrepared {F : Type 0} (does : F → StoreAccess → F → Type 0
 -- And then its sessions ran, what they left got its names, and each is reported; the bytes at which one ended that are no instruction were told; and the
 -- record of what was typed was ended.
 pub record HasRunSessions {F : Type 0} (store : StoreActs F) (sees_to : F → Plan → Option HostError → F → Type 0)
-    (gives_names : F → Option HostError → F → Type 0) (tells_name : F → StoreName → Bool → Type 0) (ended : Option HostError → Type 0)
+    (gives_names : F → Option HostError → F → Type 0) (tells_name : F → StoreName → Bool → Type 0) (stood : Option Checkpoint) (ended : Option HostError → Type 0)
     (told : List SessionReport → Type 0) (task : RunTask) (old new : F) (unread left : TypingState)
     (before printed unrecorded record_now : Option (List ℕ)) : Type 0 where
   pub config : Config
@@ -185,7 +187,7 @@ pub record HasRunSessions {F : Type 0} (store : StoreActs F) (sees_to : F → Pl
   pub report : Report
   pub shown : Option (List ℕ)
   pub prepared : IsRunPrepared store.does sees_to task old seen config replays scripts None
-  pub played : HasRunAll store tells_name task config replays scripts report (streams unread left before shown unrecorded record_now) seen ran
+  pub played : HasRunAll store tells_name stood task config replays scripts report (streams unread left before shown unrecorded record_now) seen ran
   pub named : gives_names ran None new
   pub printed_so : IsReported shown printed (report_text (zip report.sessions.items report.stops.items))
   pub tells : told report.sessions.items
@@ -193,42 +195,42 @@ pub record HasRunSessions {F : Type 0} (store : StoreActs F) (sees_to : F → Pl
 
 -- How far it came that was refused. Before its sessions ran no stream was read or written. Once they ran the record of what was typed was ended.
 pub data IsRunStopped {F : Type 0} (store : StoreActs F) (sees_to : F → Plan → Option HostError → F → Type 0)
-    (gives_names : F → Option HostError → F → Type 0) (tells_name : F → StoreName → Bool → Type 0) (ended : Option HostError → Type 0)
+    (gives_names : F → Option HostError → F → Type 0) (tells_name : F → StoreName → Bool → Type 0) (stood : Option Checkpoint) (ended : Option HostError → Type 0)
     (told : List SessionReport → Type 0) (task : RunTask) (old new : F) (unread left : TypingState)
     (before printed unrecorded record_now : Option (List ℕ)) (e : HostError) : Type 0 where
   -- it has no configuration
   NoConfig : IsConfigRefused store.does task.config.now old new e → AreUntouched (streams unread left before printed unrecorded record_now)
-      → IsRunStopped store sees_to gives_names tells_name ended told task old new unread left before printed unrecorded record_now e
+      → IsRunStopped store sees_to gives_names tells_name stood ended told task old new unread left before printed unrecorded record_now e
   -- memory was refused before its files were seen to
   NotBegun : (config : Config) → IsConfigRead store.does task.config.now old new config → e ≡ OutOfMemory
       → AreUntouched (streams unread left before printed unrecorded record_now)
-      → IsRunStopped store sees_to gives_names tells_name ended told task old new unread left before printed unrecorded record_now e
+      → IsRunStopped store sees_to gives_names tells_name stood ended told task old new unread left before printed unrecorded record_now e
   -- a recording is named wrongly
   NoReplays : (config : Config) → IsConfigRead store.does task.config.now old new config
       → IsReplayRefusal config.sessions.items (map (λ w. w.now) task.replays.items) e
       → AreUntouched (streams unread left before printed unrecorded record_now)
-      → IsRunStopped store sees_to gives_names tells_name ended told task old new unread left before printed unrecorded record_now e
+      → IsRunStopped store sees_to gives_names tells_name stood ended told task old new unread left before printed unrecorded record_now e
   -- its files can't be what they are to be
   NotSeen : (config : Config) (replays : List Replay) (scripts : List (String Global))
       → IsRunPrepared store.does sees_to task old new config replays scripts (Some e)
       → AreUntouched (streams unread left before printed unrecorded record_now)
-      → IsRunStopped store sees_to gives_names tells_name ended told task old new unread left before printed unrecorded record_now e
+      → IsRunStopped store sees_to gives_names tells_name stood ended told task old new unread left before printed unrecorded record_now e
   -- its sessions can't run, or can't be written
   NotRun : (config : Config) (replays : List Replay) (scripts : List (String Global)) (seen : F)
       → IsRunPrepared store.does sees_to task old seen config replays scripts None
-      → IsRunAllStopped store tells_name task config replays scripts (streams unread left before printed unrecorded record_now) seen new e
-      → IsRunStopped store sees_to gives_names tells_name ended told task old new unread left before printed unrecorded record_now e
+      → IsRunAllStopped store tells_name stood task config replays scripts (streams unread left before printed unrecorded record_now) seen new e
+      → IsRunStopped store sees_to gives_names tells_name stood ended told task old new unread left before printed unrecorded record_now e
   -- what they left can't have its names, or can't be told
   NotEnded : (config : Config) (replays : List Replay) (scripts : List (String Global)) (seen ran : F) (report : Report) (shown : Option (List ℕ))
       (fault : Option HostError)
       → IsRunPrepared store.does sees_to task old seen config replays scripts None
-      → HasRunAll store tells_name task config replays scripts report (streams unread left before shown unrecorded record_now) seen ran
+      → HasRunAll store tells_name stood task config replays scripts report (streams unread left before shown unrecorded record_now) seen ran
       → IsEndStopped gives_names ran new e → told report.sessions.items → ended fault
-      → IsRunStopped store sees_to gives_names tells_name ended told task old new unread left before printed unrecorded record_now e
+      → IsRunStopped store sees_to gives_names tells_name stood ended told task old new unread left before printed unrecorded record_now e
   -- it has its names and is told, but the record of what was typed can't have its own
   NotRecorded : (config : Config) (replays : List Replay) (scripts : List (String Global)) (seen ran : F) (report : Report) (shown : Option (List ℕ))
       → IsRunPrepared store.does sees_to task old seen config replays scripts None
-      → HasRunAll store tells_name task config replays scripts report (streams unread left before shown unrecorded record_now) seen ran
+      → HasRunAll store tells_name stood task config replays scripts report (streams unread left before shown unrecorded record_now) seen ran
       → gives_names ran None new → IsReported shown printed (report_text (zip report.sessions.items report.stops.items)) → told report.sessions.items
       → ended (Some e) → IsUnrecorded e
-      → IsRunStopped store sees_to gives_names tells_name ended told task old new unread left before printed unrecorded record_now e
+      → IsRunStopped store sees_to gives_names tells_name stood ended told task old new unread left before printed unrecorded record_now e

@@ -1,6 +1,7 @@
 -- What is done of what a command line asks for. All of it is own.
 use Rattle.std.specs.Prelude.{◌≡◌, ℕ, Bool, true, false, List, [], map, option_map, Option, Result, Ok, Err}
 use Rattle.std.specs.Io.KnownBytes.{Appends}
+use Rattle.cpm_checkpoint.specs.declared.checkpoint.Checkpoint.{Checkpoint}
 use Rattle.cpm_command_line.specs.HelpWords.{text_of_page}
 use Rattle.cpm_command_line.specs.declared.task.DiskTask.{DiskTask}
 use Rattle.cpm_command_line.specs.declared.task.DiskTask.TheVariants.{New, List as Listing, Put, Get, Remove, Rename}
@@ -43,8 +44,9 @@ pub record FileActs (F : Type 0) : Type 1 where
   pub lists : F → StoreName → List StoreName → Type 0
   pub unlists : F → StoreName → HostError → Type 0
 
--- how the record of what is typed ended, and what was told: of files that are left out of drives, and at last of a program, and of sessions
+-- where the sessions of a run stood, how the record of what is typed ended, and what was told: of files that are left out of drives, and at last of a program, and of sessions
 pub record ToldActs : Type 1 where
+  pub stood : Option Checkpoint
   pub ended : Option HostError → Type 0
   pub told_left_out : List DrivePlace → Type 0
   pub told_end : PlayTask → List (List ℕ × NamedFile) → Ending → (waits : Bool) → Option PlayEnd → (dropped : Bool) → Type 0
@@ -112,7 +114,7 @@ IsPlainTaskDone {F} {W} acts told p (Asm source out list) =
 IsPlainTaskDone {F} {W} acts told p (Lines file cpu) = HasListed acts.does file.now cpu p.old p.new p.io.before.console p.io.written.console
 IsPlainTaskDone {F} {W} acts told p (Check image) = HasChecked acts.does image.now p.old p.new p.io.before.console p.io.written.console
 IsPlainTaskDone {F} {W} acts told p (Run task) =
-    HasRunSessions (store_acts acts) acts.sees_to acts.gives_names acts.tells_name told.ended told.told_illegal task p.old p.new
+    HasRunSessions (store_acts acts) acts.sees_to acts.gives_names acts.tells_name told.stood told.ended told.told_illegal task p.old p.new
     p.io.unread p.io.left p.io.before.console p.io.written.console p.io.unrecorded p.io.record_now
 IsPlainTaskDone {F} {W} acts told p (Debug task) = IsDebugTaskDone acts.does task p.old p.new p.unread p.io.before.console p.io.written.console
 IsPlainTaskDone {F} {W} acts told p (Saved file) = HasToldSaved acts.does file.now p.old p.new p.io.before.console p.io.written.console
@@ -169,7 +171,7 @@ IsTaskRefused {F} {W} acts told p (Asm source out list) e =
 IsTaskRefused {F} {W} acts told p (Lines file cpu) e = IsListRefused acts.does file.now p.old p.new p.out p.out_now e
 IsTaskRefused {F} {W} acts told p (Check image) e = IsCheckRefused acts.does image.now p.old p.new p.out p.out_now e
 IsTaskRefused {F} {W} acts told p (Run task) e =
-    IsRunStopped (store_acts acts) acts.sees_to acts.gives_names acts.tells_name told.ended told.told_illegal task p.old p.new
+    IsRunStopped (store_acts acts) acts.sees_to acts.gives_names acts.tells_name told.stood told.ended told.told_illegal task p.old p.new
     p.io.unread p.io.left p.io.before.console p.io.written.console p.io.unrecorded p.io.record_now e
 IsTaskRefused {F} {W} acts told p (Debug task) e =
     IsDebugTaskRefused acts.does task p.old p.new p.unread p.io.before.console p.io.written.console p.out p.out_now e

@@ -3,6 +3,8 @@ ghost use Rattle.cpm_commands.specs.Drives.{HasToldLeftOut};
 ghost use Rattle.cpm_commands.specs.Laws.{ProgramsFollowPlans, RunsFollowPlans};
 ghost use Rattle.cpm_commands.specs.Messages.{HasToldEnd, HasToldIllegal};
 ghost use Rattle.cpm_commands.specs.Record.{HasEndedRecord};
+ghost use Rattle.std.specs.Prelude.{Option};
+ghost use Rattle.cpm_checkpoint.specs.declared.checkpoint.Checkpoint.{Checkpoint};
 ghost use Rattle.cpm_command_line.specs.declared.task.PlayTask.{PlayTask};
 
 use crate::files::CommandFiles;
@@ -11,7 +13,8 @@ use crate::record::KeyRecord;
 
 /// A run that has read its configuration sees to the files of its plan; then it reads none but its inputs, and writes none but its outputs.
 pub fn runs_follow_plans<F: CommandFiles, R: KeyRecord, T: Messages>()
-    ensures { (typed : R) → (told : T) → RunsFollowPlans (record { does = F.does; files = F.files }) F.sees_to F.gives_names F.tells_name
+    ensures { (stood : Option Checkpoint) → (typed : R) → (told : T)
+        → RunsFollowPlans (record { does = F.does; files = F.files }) F.sees_to F.gives_names F.tells_name stood
         (HasEndedRecord R.ends R.contents (R.contents typed) typed) (λ sessions. HasToldIllegal T.tells sessions told) }
 {}
 

@@ -21,6 +21,7 @@ use crate::replays::replays_of;
 use crate::report::{LineWriter, print_report};
 use crate::typed::is_typed_at;
 use cpm_batch::{Replay, key_file};
+use cpm_checkpoint::Checkpoint;
 use cpm_config::Field;
 use cpm_host::{
     Config, HostError, Origin, RecordFile, Report, RunOptions, RunTask, RunWatcher, SessionConfig,
@@ -293,17 +294,18 @@ fn run_asked<'a, F: CommandFiles, P: Typist, W: Write, R: KeyRecord, T: Sessions
     config: &Config,
     replays: &'a [Replay<'a>],
     scripts: &'a [String],
+    stood: Option<&'a Checkpoint>,
     files: &mut F,
     typist: &mut P,
     out: &mut W,
     record: &mut R,
     watcher: &mut T,
 ) -> Result<Report, HostError>
-    ensures ran { IfOk result (λ report. HasRunAll (record { does = F.does; files = F.files }) F.tells_name task.now config.now
+    ensures ran { IfOk result (λ report. HasRunAll (record { does = F.does; files = F.files }) F.tells_name (option_map (λ c. c.now) stood.entry) task.now config.now
         replays.entry.now scripts.entry.now report
         (streams (P.typing typist.old) (P.typing typist.new) (W.contents out.old) (W.contents out.new) (R.contents «record».old) (R.contents «record».new))
         files.old files.new) }
-    ensures refusal { IfErr result (IsRunAllStopped (record { does = F.does; files = F.files }) F.tells_name task.now config.now
+    ensures refusal { IfErr result (IsRunAllStopped (record { does = F.does; files = F.files }) F.tells_name (option_map (λ c. c.now) stood.entry) task.now config.now
         replays.entry.now scripts.entry.now
         (streams (P.typing typist.old) (P.typing typist.new) (W.contents out.old) (W.contents out.new) (R.contents «record».old) (R.contents «record».new))
         files.old files.new) }
@@ -315,6 +317,7 @@ fn run_asked<'a, F: CommandFiles, P: Typist, W: Write, R: KeyRecord, T: Sessions
         stops_idle: task.stops_idle,
         records: records.as_slice(),
         replays,
+        kept: stood,
     };
     watcher.meet(config);
     let report = run_host(alloc, config, options, files, typist, out, record, watcher)?;
@@ -329,26 +332,29 @@ fn run_all<F: CommandFiles, P: Typist, W: Write, R: KeyRecord, T: SessionsWatche
     config: &Config,
     replays: &[Replay<'_>],
     scripts: &[String],
+    stood: Option<&Checkpoint>,
     files: &mut F,
     typist: &mut P,
     out: &mut W,
     record: &mut R,
     watcher: &mut T,
 ) -> Result<Report, HostError>
-    ensures ran { IfOk result (λ report. HasRunAll (record { does = F.does; files = F.files }) F.tells_name task.now config.now replays.now scripts.now report
+    ensures ran { IfOk result (λ report. HasRunAll (record { does = F.does; files = F.files }) F.tells_name (option_map (λ c. c.now) stood.entry) task.now config.now
+        replays.now scripts.now report
         (streams (P.typing typist.old) (P.typing typist.new) (W.contents out.old) (W.contents out.new) (R.contents «record».old) (R.contents «record».new))
         files.old files.new) }
-    ensures refusal { IfErr result (IsRunAllStopped (record { does = F.does; files = F.files }) F.tells_name task.now config.now replays.now scripts.now
+    ensures refusal { IfErr result (IsRunAllStopped (record { does = F.does; files = F.files }) F.tells_name (option_map (λ c. c.now) stood.entry) task.now config.now
+        replays.now scripts.now
         (streams (P.typing typist.old) (P.typing typist.new) (W.contents out.old) (W.contents out.new) (R.contents «record».old) (R.contents «record».new))
         files.old files.new) }
 {
     run_asked(
-        alloc, task, config, replays, scripts, files, typist, out, record, watcher,
+        alloc, task, config, replays, scripts, stood, files, typist, out, record, watcher,
     )
 }
 
 /// Runs the sessions of the configuration in a file, some of them by recordings in place of their scripts, and one by the keys that are typed, as that is
-/// asked; gives what they leave its names, and prints how each ended.
+/// asked; gives what they leave its names, and prints how each ended. Where it is given where they stood, they go on from there.
 pub fn run_sessions<
     F: CommandFiles,
     P: Typist,
@@ -358,6 +364,7 @@ pub fn run_sessions<
 >(
     alloc: Global,
     task: &RunTask<'_>,
+    stood: Option<&Checkpoint>,
     files: &mut F,
     typist: &mut P,
     out: &mut W,
@@ -365,11 +372,11 @@ pub fn run_sessions<
     watcher: &mut T,
 ) -> Result<(), HostError>
     ensures ran { OnOk result (HasRunSessions (record { does = F.does; files = F.files }) F.sees_to F.gives_names F.tells_name
-        (HasEndedRecord R.ends R.contents (R.contents «record».new) «record».new) (λ sessions. HasToldIllegal T.tells sessions watcher.new)
+        (option_map (λ c. c.now) stood.entry) (HasEndedRecord R.ends R.contents (R.contents «record».new) «record».new) (λ sessions. HasToldIllegal T.tells sessions watcher.new)
         task.now files.old files.new (P.typing typist.old) (P.typing typist.new) (W.contents out.old) (W.contents out.new)
         (R.contents «record».old) (R.contents «record».new)) }
     ensures refusal { IfErr result (IsRunStopped (record { does = F.does; files = F.files }) F.sees_to F.gives_names F.tells_name
-        (HasEndedRecord R.ends R.contents (R.contents «record».new) «record».new) (λ sessions. HasToldIllegal T.tells sessions watcher.new)
+        (option_map (λ c. c.now) stood.entry) (HasEndedRecord R.ends R.contents (R.contents «record».new) «record».new) (λ sessions. HasToldIllegal T.tells sessions watcher.new)
         task.now files.old files.new (P.typing typist.old) (P.typing typist.new) (W.contents out.old) (W.contents out.new)
         (R.contents «record».old) (R.contents «record».new)) }
 {
@@ -378,7 +385,7 @@ pub fn run_sessions<
     let scripts = script_names(alloc, &config, task.scripts)?;
     see_to_run(alloc, task, &config, &replays, &scripts, files)?;
     let report = run_all(
-        alloc, task, &config, &replays, &scripts, files, typist, out, record, watcher,
+        alloc, task, &config, &replays, &scripts, stood, files, typist, out, record, watcher,
     )?;
     let ended = end_run(alloc, &report, files, out, watcher);
     // (what was typed is recorded also where what was played can't be written)

@@ -1,5 +1,5 @@
 //! What a command line asks for, done.
-ghost use Rattle.std.specs.Prelude.{◌≡◌, false, IfErr, IfOk, None, OnOk};
+ghost use Rattle.std.specs.Prelude.{◌≡◌, false, IfErr, IfOk, None, OnOk, option_map};
 ghost use Rattle.std.specs.Io.KnownBytes.{Appends};
 ghost use Rattle.cpm_command_line.specs.DiskLine.{HasUser};
 ghost use Rattle.cpm_command_line.specs.Line.{HasUsers};
@@ -25,6 +25,7 @@ use crate::record::KeyRecord;
 use crate::report::{LineWriter, print_text};
 use crate::run::{SessionsWatcher, run_sessions};
 use crate::saved::tell_saved;
+use cpm_checkpoint::Checkpoint;
 use cpm_command_line::{Page, page_text};
 use cpm_host::{DiskTask, HostError, Task, Typist};
 use std::alloc::Global;
@@ -142,7 +143,8 @@ fn plain(done: Result<(), HostError>) -> Result<u8, HostError>
     }
 }
 
-/// Does what a command line asks for, over these files and streams, and gives the exit status. Refusals and their order are each command's own.
+/// Does what a command line asks for, over these files and streams, and gives the exit status. Refusals and their order are each command's own. A run goes on
+/// from where its sessions stood, where that is given.
 pub fn do_task<
     F: CommandFiles,
     I: BufRead,
@@ -153,6 +155,7 @@ pub fn do_task<
 >(
     alloc: Global,
     task: &Task<'_>,
+    stood: Option<&Checkpoint>,
     files: &mut F,
     input: &mut I,
     typist: &mut P,
@@ -173,6 +176,7 @@ pub fn do_task<
           unlists = F.unlists;
         })
         (record {
+          stood = option_map (λ c. c.now) stood.entry;
           ended = HasEndedRecord R.ends R.contents (R.contents «record».new) «record».new;
           told_left_out = λ places. HasToldLeftOut T.tells watcher.old places;
           told_end = λ task unwritten ending waits end dropped. HasToldEnd T.tells T.is_read task unwritten ending waits end dropped watcher.new;
@@ -199,6 +203,7 @@ pub fn do_task<
           unlists = F.unlists;
         })
         (record {
+          stood = option_map (λ c. c.now) stood.entry;
           ended = HasEndedRecord R.ends R.contents (R.contents «record».new) «record».new;
           told_left_out = λ places. HasToldLeftOut T.tells watcher.old places;
           told_end = λ task unwritten ending waits end dropped. HasToldEnd T.tells T.is_read task unwritten ending waits end dropped watcher.new;
@@ -227,7 +232,9 @@ pub fn do_task<
         } => plain(assemble_file(alloc, source, image, *list, files)),
         Task::List { file, cpu } => plain(list_program(alloc, file, *cpu, files, out)),
         Task::Check { image } => plain(check_image(alloc, image, files, out)),
-        Task::Run(task) => plain(run_sessions(alloc, task, files, typist, out, record, watcher)),
+        Task::Run(task) => plain(run_sessions(
+            alloc, task, stood, files, typist, out, record, watcher,
+        )),
         Task::Debug(task) => plain(do_debug_task(alloc, task, files, input, out)),
         Task::Saved { file } => plain(tell_saved(alloc, file, files, out)),
         Task::Disk(task) => plain(do_disk(alloc, task, files, out)),

@@ -101,7 +101,11 @@ fn play_sessions<'a, T: RunWatcher>(
         return play_all(alloc, config, system, inputs, watcher);
     }
     let beginning = beginning_of(alloc, &system, inputs.as_slice())?;
-    match kept_of(alloc, options.kept, &beginning)? {
+    let kept = kept_of(alloc, options.kept, &beginning)?;
+    if options.kept.is_some() {
+        watcher.tell_kept(kept.is_some());
+    }
+    match kept {
         Some(kept) => play_from(
             alloc,
             config,

@@ -22,6 +22,9 @@ pub trait RunWatcher: Watcher {
         false
     }
 
+    /// Tells whether the run goes on from the checkpoint that it was given, which may be another's.
+    fn tell_kept(&mut self, _goes_on: bool) {}
+
     /// Whether it wants one now, now that all sessions had a turn.
     fn wants_checkpoint(&self) -> bool {
         false

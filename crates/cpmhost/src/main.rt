@@ -10,6 +10,7 @@ mod bounds;
 mod files;
 mod folder;
 mod held;
+mod kept;
 mod marks;
 mod output;
 mod paced;

@@ -3,6 +3,7 @@
 ghost use Rattle.std.specs.Prelude.{⊤};
 
 use crate::held::LockableFiles;
+use crate::kept::CheckpointFile;
 use crate::patient::{PatientError, PatientOutput};
 use crate::refused::PathLine;
 use crate::tempo::{Tempo, micros};
@@ -76,6 +77,8 @@ pub struct Teller<'a, R: LockableFiles> {
     is_at_line_start: &'a Cell<bool>,
     /// How many keys were typed.
     keys: &'a Cell<usize>,
+    /// Where the sessions stand is kept there, if it is.
+    checkpoints: Option<CheckpointFile>,
 }
 
 impl<'a, R: LockableFiles> Teller<'a, R> {
@@ -87,6 +90,7 @@ impl<'a, R: LockableFiles> Teller<'a, R> {
         is_at_line_start: &'a Cell<bool>,
         keys: &'a Cell<usize>,
         pace: Option<u64>,
+        checkpoints: Option<CheckpointFile>,
     ) -> Teller<'a, R> {
         Teller {
             rt,
@@ -100,6 +104,7 @@ impl<'a, R: LockableFiles> Teller<'a, R> {
             is_typing: false,
             is_at_line_start,
             keys,
+            checkpoints,
         }
     }
 
@@ -151,6 +156,13 @@ impl<'a, R: LockableFiles> Teller<'a, R> {
             self.tell(
                 &"hint: its disks are dropped; --out-disk IMAGE or --out-folder FOLDER keeps them",
             );
+        }
+    }
+
+    /// Ends the checkpoints of a run that has ended: they are needed no more.
+    pub fn end_checkpoints(&mut self) {
+        if let Some(checkpoints) = &self.checkpoints {
+            checkpoints.remove(self.rt);
         }
     }
 
@@ -276,7 +288,8 @@ impl<'a, R: LockableFiles> Teller<'a, R> {
 
 impl<R: LockableFiles> Watcher for Teller<'_, R> {
     fn is_watching(&self) -> bool {
-        self.form != Form::Silent || self.tempo.is_kept() || self.hints()
+        let is_told = self.form != Form::Silent || self.hints();
+        is_told || self.tempo.is_kept() || self.checkpoints.is_some()
     }
 
     fn most_steps(&self) -> u64 {
@@ -285,6 +298,9 @@ impl<R: LockableFiles> Watcher for Teller<'_, R> {
 
     fn see(&mut self, progress: Progress) {
         self.tempo.hold(self.rt, progress.done);
+        if let Some(checkpoints) = &mut self.checkpoints {
+            checkpoints.see(progress.done);
+        }
         if progress.all == u64::MAX && progress.done < progress.all {
             self.see_unlimited(progress.done);
         } else {
@@ -298,6 +314,9 @@ impl<R: LockableFiles> RunWatcher for Teller<'_, R> {
         self.end_stage();
         self.told = 0;
         self.begun = micros(self.rt);
+        if let Some(checkpoints) = &mut self.checkpoints {
+            checkpoints.begin();
+        }
         self.whom = match stage {
             RunStage::Typing => {
                 self.is_typing = true;
@@ -307,6 +326,45 @@ impl<R: LockableFiles> RunWatcher for Teller<'_, R> {
             RunStage::Alone(place) => Audience::Alone(place),
             RunStage::All => Audience::All,
         };
+    }
+
+    fn keeps_checkpoints(&self) -> bool {
+        self.checkpoints.is_some()
+    }
+
+    fn tell_kept(&mut self, goes_on: bool) {
+        self.end_stage();
+        let Some(checkpoints) = &self.checkpoints else {
+            return;
+        };
+        let path = PathLine(checkpoints.name());
+        let _ = if goes_on {
+            eprintln!(PatientError::new(self.rt); "cpmhost: goes on from '{path}'")
+        } else {
+            eprintln!(PatientError::new(self.rt);
+                "cpmhost: '{path}' is of another run, so this one begins anew"
+            )
+        };
+    }
+
+    fn wants_checkpoint(&self) -> bool {
+        match &self.checkpoints {
+            Some(checkpoints) => checkpoints.is_due(),
+            None => false,
+        }
+    }
+
+    fn keep_checkpoint(&mut self, bytes: &[u8]) {
+        let Some(checkpoints) = &mut self.checkpoints else {
+            return;
+        };
+        let Err(reason) = checkpoints.write(self.rt, bytes) else {
+            return;
+        };
+        let path = PathLine(checkpoints.name());
+        let _ = eprintln!(PatientError::new(self.rt);
+            "cpmhost: can't keep where the sessions stand in '{path}': {reason}"
+        );
     }
 }
 

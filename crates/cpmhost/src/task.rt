@@ -6,6 +6,7 @@ use crate::batch::Batch;
 use crate::bounds::FileRules;
 use crate::files::MachineFiles;
 use crate::held::LockableFiles;
+use crate::kept::CheckpointFile;
 use crate::output::Outputs;
 use crate::paced::PacedTypist;
 use crate::patient::{PatientInput, PatientOutput, StandardInput};
@@ -33,8 +34,17 @@ pub fn do_task(
     let mut files = files_of(rt, outputs, task);
     let mut record = Record::new(rt, outputs, record_of(task), &keys);
     let done = match terminals.end {
-        Some(end) => do_at_terminal(rt, task, terminals, end, &mut files, &mut record, &keys),
-        None => do_by_reads(rt, task, terminals, &mut files, &mut record, &keys),
+        Some(end) => do_at_terminal(
+            rt,
+            outputs,
+            task,
+            terminals,
+            end,
+            &mut files,
+            &mut record,
+            &keys,
+        ),
+        None => do_by_reads(rt, outputs, task, terminals, &mut files, &mut record, &keys),
     };
     record.finish(files.end(done))
 }
@@ -44,6 +54,7 @@ pub fn do_task(
 #[inline(never)]
 fn do_at_terminal<'a, R: LockableFiles + StandardInput>(
     rt: &'a R,
+    outputs: Outputs,
     task: &Task<'_>,
     terminals: Terminals<'_>,
     end: &str,
@@ -57,6 +68,7 @@ fn do_at_terminal<'a, R: LockableFiles + StandardInput>(
     let mut typist = TerminalTypist::new(rt, end, &lost, pace_of(task));
     let done = do_over(
         rt,
+        outputs,
         task,
         terminals,
         Some(&lost),
@@ -76,6 +88,7 @@ fn do_at_terminal<'a, R: LockableFiles + StandardInput>(
 #[inline(never)]
 fn do_by_reads<'a, R: LockableFiles + StandardInput>(
     rt: &'a R,
+    outputs: Outputs,
     task: &Task<'_>,
     terminals: Terminals<'_>,
     files: &mut MachineFiles<'a, R>,
@@ -86,13 +99,24 @@ fn do_by_reads<'a, R: LockableFiles + StandardInput>(
 {
     let reader = KeyReader::new(PatientInput::new(rt));
     let mut typist = PacedTypist::new(rt, reader, pace_of(task));
-    do_over(rt, task, terminals, None, files, record, keys, &mut typist)
+    do_over(
+        rt,
+        outputs,
+        task,
+        terminals,
+        None,
+        files,
+        record,
+        keys,
+        &mut typist,
+    )
 }
 
 /// Does it over these files, with the standard streams, and by the keys of this typist. Where standard output may be lost, it is noted there why.
 #[inline(never)]
 fn do_over<'a, R: LockableFiles + StandardInput, P: Typist>(
     rt: &'a R,
+    outputs: Outputs,
     task: &Task<'_>,
     terminals: Terminals<'_>,
     lost: Option<&Cell<Option<io::Error>>>,
@@ -117,13 +141,27 @@ fn do_over<'a, R: LockableFiles + StandardInput, P: Typist>(
     let mut lines = Lines::new(screen, &is_at_line_start);
     let form = Form::of(has_progress(task), terminals.is_error_terminal);
     let pace = pace_of_program(task);
-    let mut teller = Teller::new(rt, form, terminals, &is_at_line_start, keys, pace);
+    let mut checkpoints = CheckpointFile::of(rt, outputs, task)?;
+    let stood = match &mut checkpoints {
+        Some(file) => file.load(rt)?,
+        None => None,
+    };
+    let mut teller = Teller::new(
+        rt,
+        form,
+        terminals,
+        &is_at_line_start,
+        keys,
+        pace,
+        checkpoints,
+    );
     let Ok(mut input) = BufReader::new(rt.alloc(), PatientInput::new(rt)) else {
         return Err(HostError::OutOfMemory);
     };
     let done = cpm_commands::do_task(
         rt.alloc(),
         task,
+        stood.as_ref(),
         files,
         &mut input,
         typist,
@@ -137,6 +175,9 @@ fn do_over<'a, R: LockableFiles + StandardInput, P: Typist>(
     }
     if done.is_ok() && drops_disks(task) {
         teller.tell_dropped_disks();
+    }
+    if done.is_ok() {
+        teller.end_checkpoints();
     }
     done
 }

@@ -182,6 +182,7 @@ fn run_over(alloc: Global, config: &Config, store: &mut MemoryStore, blank: &[u8
         stops_idle: false,
         records: &[],
         replays: &[],
+        kept: None,
     };
     let nothing: &[u8] = &[];
     let mut out = Counter { count: 0 };

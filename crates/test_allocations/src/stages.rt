@@ -112,6 +112,7 @@ fn run_over(alloc: Global, config: &Config, store: &mut MemoryStore, blank: &[u8
         stops_idle: true,
         records: &RECORDS,
         replays: &[],
+        kept: None,
     };
     let mut typed = KeyReader::new(KEYS);
     let mut out = Counter { count: 0 };

@@ -108,7 +108,13 @@ fn each_length_that_lies_is_refused(rt: HostRuntime) {
 /// A length that is one too small or too great moves what is behind it.
 #[test]
 fn lengths_beside_the_right_ones_are_refused(rt: HostRuntime) {
-    for (place, byte, at) in [(60, 1, 77), (60, 3, 79), (70, 1, 87), (78, 0, 86), (78, 2, 86)] {
+    for (place, byte, at) in [
+        (60, 1, 77),
+        (60, 3, 79),
+        (70, 1, 87),
+        (78, 0, 86),
+        (78, 2, 86),
+    ] {
         is_damaged(&rt, rt.alloc(), place, &with_byte(place, byte), at);
     }
 }
@@ -116,7 +122,15 @@ fn lengths_beside_the_right_ones_are_refused(rt: HostRuntime) {
 /// Other bytes at the places where just some may stand.
 #[test]
 fn other_marks_are_refused(rt: HostRuntime) {
-    for (place, byte) in [(42, 2), (43, 2), (43, 0xff), (41, 65), (41, 0xff), (8, 0), (8, 2)] {
+    for (place, byte) in [
+        (42, 2),
+        (43, 2),
+        (43, 0xff),
+        (41, 65),
+        (41, 0xff),
+        (8, 0),
+        (8, 2),
+    ] {
         is_damaged(&rt, rt.alloc(), place, &with_byte(place, byte), place);
     }
     is_damaged(&rt, rt.alloc(), 3, &with_byte(3, 0x68), 0);

@@ -104,6 +104,7 @@ pub(crate) fn typed_at<'a>(
         stops_idle: false,
         records,
         replays,
+        kept: None,
     }
 }
 

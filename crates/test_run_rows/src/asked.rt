@@ -162,6 +162,7 @@ impl Asked {
             stops_idle,
             records,
             replays,
+            kept: None,
         }
     }
 }

@@ -11,7 +11,7 @@ returns-in_err-report-clause-refusal g c =
     let p = err_from_is_err_and c.from_residual-in_err-report.result c.from_residual-in_err-report.ensures.1 in
     rw (p.1, p.2) (inr (record {
       options = _;
-      asked = record { typed = refl; idle = refl; played_back = refl; kept = _; kept_is = c.kept_script-kept.ensures; records = ap (map record_mark) c.as_slice.ensures.value ∙ c.in_ok-records.ensures ∙ ap (λ (b : Bool). record_marks b (option_map (λ n. n.now) c.args.task.now.keyboard) (zip c.args.config.now.sessions.items c.args.scripts.now)) (c.is_some.ensures ∙ sym (is_some_map (λ (n : Bor (List ℕ)). n.now) c.kept_script-kept.result)) };
+      asked = record { typed = refl; idle = refl; played_back = refl; goes_on = refl; kept = _; kept_is = c.kept_script-kept.ensures; records = ap (map record_mark) c.as_slice.ensures.value ∙ c.in_ok-records.ensures ∙ ap (λ (b : Bool). record_marks b (option_map (λ n. n.now) c.args.task.now.keyboard) (zip c.args.config.now.sessions.items c.args.scripts.now)) (c.is_some.ensures ∙ sym (is_some_map (λ (n : Bor (List ℕ)). n.now) c.kept_script-kept.result)) };
       error = c.in_err-report.field-0.0;
       told = refl;
       stopped = c.in_err-report.ensures.refusal;
@@ -20,6 +20,6 @@ returns-in_err-report-clause-refusal g c =
 pub returns-clause-ran : goal.returns-clause-ran
 returns-clause-ran g c = record {
   options = _;
-  asked = record { typed = refl; idle = refl; played_back = refl; kept = _; kept_is = c.kept_script-kept.ensures; records = ap (map record_mark) c.as_slice.ensures.value ∙ c.in_ok-records.ensures ∙ ap (λ (b : Bool). record_marks b (option_map (λ n. n.now) c.args.task.now.keyboard) (zip c.args.config.now.sessions.items c.args.scripts.now)) (c.is_some.ensures ∙ sym (is_some_map (λ (n : Bor (List ℕ)). n.now) c.kept_script-kept.result)) };
+  asked = record { typed = refl; idle = refl; played_back = refl; goes_on = refl; kept = _; kept_is = c.kept_script-kept.ensures; records = ap (map record_mark) c.as_slice.ensures.value ∙ c.in_ok-records.ensures ∙ ap (λ (b : Bool). record_marks b (option_map (λ n. n.now) c.args.task.now.keyboard) (zip c.args.config.now.sessions.items c.args.scripts.now)) (c.is_some.ensures ∙ sym (is_some_map (λ (n : Bor (List ℕ)). n.now) c.kept_script-kept.result)) };
   ran = c.in_ok-report.ensures.run;
 }

@@ -1,4 +1,4 @@
-use Rattle.std.proofs.Common.{None, refl}
+use Rattle.std.proofs.Common.{None, option_map, refl}
 use Rattle.std.proofs.lemmas.Result.{err_from_is_err_and}
 use Rattle.cpm_run.specs.Settled.{streams}
 use Rattle.cpm_commands.specs.Record.{HasEndedRecord}
@@ -14,7 +14,7 @@ returns-in_err-replays-clause-refusal g c =
 pub returns-in_err-see_to_run-clause-refusal : goal.returns-in_err-see_to_run-clause-refusal
 returns-in_err-see_to_run-clause-refusal g c =
     let p = err_from_is_err_and c.from_residual-in_err-see_to_run.result c.from_residual-in_err-see_to_run.ensures.1 in
-    rw (p.1, p.2) (unseen (record { does = g.F.Store.does; files = g.F.Store.files }) g.F.CommandFiles.sees_to g.F.CommandFiles.gives_names g.F.CommandFiles.tells_name _ _ c.args.task.now c.args.files.now c.read_config.new.files c.see_to_run.new.files
+    rw (p.1, p.2) (unseen (record { does = g.F.Store.does; files = g.F.Store.files }) g.F.CommandFiles.sees_to g.F.CommandFiles.gives_names g.F.CommandFiles.tells_name (option_map (λ c. c.now) c.args.stood) _ _ c.args.task.now c.args.files.now c.read_config.new.files c.see_to_run.new.files
     c.in_ok-config.config c.deref.result.now c.in_ok-replays.replays.items c.deref-2.result.now c.in_ok-scripts.scripts.items _ _ _ _ _ _ _ c.in_ok-config.ensures.read c.in_ok-replays.ensures.replays
     c.in_ok-scripts.ensures c.deref.ensures.value c.deref-2.ensures.value
     c.in_err-see_to_run.ensures.refusal (record { unread = refl; unwritten = refl; unrecorded = refl }))
@@ -32,7 +32,7 @@ returns-in_err-report-clause-refusal g c =
     (g.R.Write.contents c.args.record.now) (g.R.Write.contents c.run_all.new.record) in
     let e = c.in_err-report.field-0.0 in
     rw (p.1, p.2) (NotRun config replays scripts c.see_to_run.new.files ready
-    (all_stopped (record { does = g.F.Store.does; files = g.F.Store.files }) g.F.CommandFiles.tells_name task config c.deref-3.result.now replays c.deref-4.result.now scripts io c.see_to_run.new.files c.run_all.new.files e
+    (all_stopped (record { does = g.F.Store.does; files = g.F.Store.files }) g.F.CommandFiles.tells_name (option_map (λ c. c.now) c.args.stood) task config c.deref-3.result.now replays c.deref-4.result.now scripts io c.see_to_run.new.files c.run_all.new.files e
     c.deref-3.ensures.value c.deref-4.ensures.value c.in_err-report.ensures.refusal))
 
 pub returns-in_err-ended-clause-refusal : goal.returns-in_err-ended-clause-refusal
@@ -46,7 +46,7 @@ returns-in_err-ended-clause-refusal g c =
     c.in_ok-config.ensures.read c.in_ok-replays.ensures.replays c.in_ok-scripts.ensures c.deref.ensures.value c.deref-2.ensures.value c.in_ok-see_to_run.ensures.seen in
     let report = c.in_ok-report.report in
     let shown = g.W.Write.contents c.run_all.new.out in
-    let all = played (record { does = g.F.Store.does; files = g.F.Store.files }) g.F.CommandFiles.tells_name task config c.deref-3.result.now replays c.deref-4.result.now scripts report (g.P.Typist.typing c.args.typist.now) (g.P.Typist.typing c.run_all.new.typist) (g.W.Write.contents c.args.out.now) shown
+    let all = played (record { does = g.F.Store.does; files = g.F.Store.files }) g.F.CommandFiles.tells_name (option_map (λ c. c.now) c.args.stood) task config c.deref-3.result.now replays c.deref-4.result.now scripts report (g.P.Typist.typing c.args.typist.now) (g.P.Typist.typing c.run_all.new.typist) (g.W.Write.contents c.args.out.now) shown
     (g.R.Write.contents c.args.record.now) (g.R.Write.contents c.run_all.new.record) (g.R.Write.contents c.end_record-recorded.new.record) c.see_to_run.new.files c.run_all.new.files c.deref-3.ensures.value
     c.deref-4.ensures.value c.end_record-recorded.ensures.same c.in_ok-report.ensures.ran in
     let ended = ended_so c.end_record-recorded.result (HasEndedRecord g.R.KeyRecord.ends g.R.Write.contents (g.R.Write.contents c.end_record-recorded.new.record) c.end_record-recorded.new.record) c.end_record-recorded.ensures.ended c.end_record-recorded.ensures.refused in
@@ -62,7 +62,7 @@ returns-clause-ran g c =
     c.in_ok-config.ensures.read c.in_ok-replays.ensures.replays c.in_ok-scripts.ensures c.deref.ensures.value c.deref-2.ensures.value c.in_ok-see_to_run.ensures.seen in
     let report = c.in_ok-report.report in
     let shown = g.W.Write.contents c.run_all.new.out in
-    let all = played (record { does = g.F.Store.does; files = g.F.Store.files }) g.F.CommandFiles.tells_name task config c.deref-3.result.now replays c.deref-4.result.now scripts report (g.P.Typist.typing c.args.typist.now) (g.P.Typist.typing c.run_all.new.typist) (g.W.Write.contents c.args.out.now) shown
+    let all = played (record { does = g.F.Store.does; files = g.F.Store.files }) g.F.CommandFiles.tells_name (option_map (λ c. c.now) c.args.stood) task config c.deref-3.result.now replays c.deref-4.result.now scripts report (g.P.Typist.typing c.args.typist.now) (g.P.Typist.typing c.run_all.new.typist) (g.W.Write.contents c.args.out.now) shown
     (g.R.Write.contents c.args.record.now) (g.R.Write.contents c.run_all.new.record) (g.R.Write.contents c.end_record-recorded.new.record) c.see_to_run.new.files c.run_all.new.files c.deref-3.ensures.value
     c.deref-4.ensures.value c.end_record-recorded.ensures.same c.in_ok-report.ensures.ran in
     done c.end_record-recorded.result _ _ (λ ended. record {
@@ -91,7 +91,7 @@ returns-clause-refusal g c =
     c.in_ok-config.ensures.read c.in_ok-replays.ensures.replays c.in_ok-scripts.ensures c.deref.ensures.value c.deref-2.ensures.value c.in_ok-see_to_run.ensures.seen in
     let report = c.in_ok-report.report in
     let shown = g.W.Write.contents c.run_all.new.out in
-    let all = played (record { does = g.F.Store.does; files = g.F.Store.files }) g.F.CommandFiles.tells_name task config c.deref-3.result.now replays c.deref-4.result.now scripts report (g.P.Typist.typing c.args.typist.now) (g.P.Typist.typing c.run_all.new.typist) (g.W.Write.contents c.args.out.now) shown
+    let all = played (record { does = g.F.Store.does; files = g.F.Store.files }) g.F.CommandFiles.tells_name (option_map (λ c. c.now) c.args.stood) task config c.deref-3.result.now replays c.deref-4.result.now scripts report (g.P.Typist.typing c.args.typist.now) (g.P.Typist.typing c.run_all.new.typist) (g.W.Write.contents c.args.out.now) shown
     (g.R.Write.contents c.args.record.now) (g.R.Write.contents c.run_all.new.record) (g.R.Write.contents c.end_record-recorded.new.record) c.see_to_run.new.files c.run_all.new.files c.deref-3.ensures.value
     c.deref-4.ensures.value c.end_record-recorded.ensures.same c.in_ok-report.ensures.ran in
     both c.end_record-recorded.result _ _ _ (λ e ended unrecorded. NotRecorded config replays scripts c.see_to_run.new.files c.run_all.new.files report shown ready all
