@@ -61,6 +61,7 @@ pub stands-on : (system : Disk) (i : SettledSession) (start now : MachineState) 
     → StandsThere system start i (record { pressed = pace.pressed; done = pace.done; console = console; list = list; saving = saving_with (system_digest system) now })
 stands-on system i start now pace console list on quiet = record {
   within = let low = on.all.within in let most = on.all.most in omega (arith, low, most);
+  few = on.within;
   early = by-none pace.done (take pace.pressed i.keys) on.came;
   come = on.coming;
   later = on.later;

@@ -1,5 +1,5 @@
 -- What is kept of the sessions of a run on its way, as where they stand. All of it is own.
-use Rattle.std.specs.Prelude.{List, map, Option, None, option_map}
+use Rattle.std.specs.Prelude.{⊤, ◌+◌, ◌<◌, ◌^◌, List, map, Option, None, Some, option_map}
 use Rattle.cpm_batch.specs.Savings.{saving_view}
 use Rattle.cpm_play.specs.declared.player.Player.{Player}
 use Rattle.cpm_play.specs.declared.player.Player.TheVariants.{Playing, Waiting}
@@ -34,3 +34,12 @@ standing_of_player h (Waiting fork) = None
 -- and so those of a run
 abbrev pub standing_of : Host → List Player → RunStanding
 standing_of h players = map (standing_of_player h) players
+
+-- the numbers of a session's rest go together with those of where it had stood
+abbrev pub FitTogether : SessionStanding → SessionStanding → Type 0
+FitTogether s rest = (s.pressed + rest.pressed < 2 ^ 64) × (s.done + rest.done < 2 ^ 64)
+
+abbrev pub FitIfAny : Option SessionStanding → Option SessionStanding → Type 0
+FitIfAny None rest = ⊤
+FitIfAny (Some s) None = ⊤
+FitIfAny (Some s) (Some rest) = FitTogether s rest

@@ -44,6 +44,7 @@ stands_by all None (Restores x) = None
 -- session begins, and that machine is saved. Its other keys come there or later.
 pub record StandsThere (system : Disk) (start : MachineState) (i : SettledSession) (s : SessionStanding) : Type 0 where
   pub within : s.done ≤ i.steps
+  pub few : s.pressed ≤ length i.keys
   pub early : AreBy s.done (take s.pressed i.keys)
   pub come : HaveComeAfter system start i.steps [] (take s.pressed i.keys)
   pub later : IsInOrder s.done (drop s.pressed i.keys)

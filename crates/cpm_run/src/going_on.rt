@@ -49,7 +49,7 @@ fn are_over(system: &Image, kept: &[Option<KeptSession>]) -> bool
 }
 
 /// Bytes with others in front.
-fn behind(alloc: Global, front: &[u8], mut bytes: Vec<u8>) -> Result<Vec<u8>, AllocError>
+pub(crate) fn behind(alloc: Global, front: &[u8], mut bytes: Vec<u8>) -> Result<Vec<u8>, AllocError>
     ensures { IfOk result (λ v. v.items ≡ front.now ++ bytes.items) }
 {
     let mut all = Vec::new(alloc);
@@ -59,7 +59,7 @@ fn behind(alloc: Global, front: &[u8], mut bytes: Vec<u8>) -> Result<Vec<u8>, Al
 }
 
 /// What is kept of the session at a place, or of the one that it is still to be forked from.
-fn kept_for<'k>(
+pub(crate) fn kept_for<'k>(
     inputs: &[SettledInput<'_>],
     kept: &'k [Option<KeptSession>],
     place: usize,

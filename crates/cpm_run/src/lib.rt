@@ -8,6 +8,7 @@ mod ending;
 mod error;
 mod finish;
 mod going_on;
+mod joining;
 mod keeping;
 pub mod laws;
 mod openings;
