@@ -330,8 +330,8 @@ join-more all ss ts is n x k r so_far more others within at one pushed h =
     ∙ ap (λ (ys : RunStanding). ys ++ rest) (map-append (option_map kept_view) so_far (k ∷ []))
     ∙ append_assoc (standing_view so_far) (option_map kept_view k ∷ []) rest
     ∙ ap₂ (λ (y : Option SessionStanding) (ys : RunStanding). standing_view so_far ++ (y ∷ ys))
-      (one ∙ ap (λ (o : Option SessionStanding). joined_if (stands_by all o (settled_view x).start) o (option_map kept_view r)) (sym (first-left ss n)))
-      (ap (λ (zs : RunStanding). join_all all (map settled_view (drop (n + 1) is)) zs (standing_view others)) (sym (one-more-left ss n)))
+    (one ∙ ap (λ (o : Option SessionStanding). joined_if (stands_by all o (settled_view x).start) o (option_map kept_view r)) (sym (first-left ss n)))
+    (ap (λ (zs : RunStanding). join_all all (map settled_view (drop (n + 1) is)) zs (standing_view others)) (sym (one-more-left ss n)))
     ∙ ap (λ (ys : List SettledInput). standing_view so_far ++ join_all all (map settled_view ys) (drop n ss) (standing_view (r ∷ others))) (sym here)
     ∙ h
 

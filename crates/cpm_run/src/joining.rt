@@ -12,11 +12,7 @@ use crate::standing::{KeptSession, kept_at};
 use std::alloc::{AllocError, Global};
 
 /// What is kept of a session whose rest, from where it had stood, stands so.
-fn joined(
-    alloc: Global,
-    before: &KeptSession,
-    rest: KeptSession,
-) -> Result<KeptSession, AllocError>
+fn joined(alloc: Global, before: &KeptSession, rest: KeptSession) -> Result<KeptSession, AllocError>
     ensures { FitTogether (kept_view before.now) (kept_view rest) → IfOk result (λ k. kept_view k ≡ joined (kept_view before.now) (kept_view rest)) }
 {
     let KeptSession {
