@@ -13,13 +13,12 @@ use Rattle.cpm_machine.specs.Saving.{Saving, restored, saving_with}
 use Rattle.cpm_saved.specs.declared.part.SavingDamage.{SavingDamage}
 use Rattle.cpm_machine.specs.SystemDigest.{system_digest}
 use Rattle.cpm_play.specs.Live.{AreBy}
-use Rattle.cpm_play.specs.Playing.{EndsAs, IsInOrder, alone_by, coming_keys, state_left}
+use Rattle.cpm_play.specs.Playing.{IsInOrder, alone_by, coming_keys, state_left}
 use Rattle.cpm_play.proofs.AloneLemmas.{keyless}
 use Rattle.cpm_play.proofs.RunLemmas.{bare, behind-bare}
 use Rattle.cpm_run.proofs.ComingLemmas.{coming_by, coming_enough}
 use Rattle.cpm_run.proofs.EndingLemmas.{ending_same}
 use Rattle.cpm_run.proofs.LaterLemmas.{goes_on}
-use Rattle.cpm_run.specs.Ending.{ending_of}
 use Rattle.cpm_run.specs.Laws.{GoesOnAlone, GoesOnBehind, GoesOnFrom, IsBothInOne, SavedFileGoesOn, SavedRunGoesOn, later_keys}
 use Rattle.cpm_run.specs.Run.{files_left, left_of, run_of, saving_over, session_output, start_of}
 use Rattle.cpm_run.specs.Settled.{SettledSession, start_by, starts_of}

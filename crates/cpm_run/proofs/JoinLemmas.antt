@@ -1,5 +1,5 @@
 -- The rest of a run on its way, as the whole run on its way.
-use Rattle.std.proofs.Common.{◌≡◌, ◌∙◌, ◌+◌, ◌-◌, ◌^◌, ◌<◌, ◌≤◌, ◌++◌, ℕ, zero, suc, Bool, true, false, List, [], ◌∷◌, Option, None, Some, refl, sym, ap, ap₂, subst, arith, append-nil, append_assoc, length, map, take, drop, get_or, length-drop, slice_get}
+use Rattle.std.proofs.Common.{◌≡◌, ◌∙◌, ◌+◌, ◌-◌, ◌^◌, ◌<◌, ◌≤◌, ◌++◌, ℕ, zero, suc, List, [], ◌∷◌, Option, None, Some, refl, sym, ap, ap₂, subst, arith, append-nil, append_assoc, length, map, take, drop, get_or, length-drop, slice_get}
 use Rattle.std.specs.Prelude.{IfSome, option_map}
 use Rattle.std.proofs.lemmas.List.{at_drop_all, drop_more, length-map, map-append}
 use Rattle.std.proofs.lemmas.Option.{none-some, same_Some}
@@ -7,11 +7,11 @@ use Rattle.cpm_batch.specs.Inputs.{Forks, IsOpened, Opens, Restores, StartInput}
 use Rattle.cpm_geom.specs.Disk.{Disk}
 use Rattle.cpm_machine.specs.Calls.{state_behind}
 use Rattle.cpm_machine.specs.MachineState.{MachineState}
-use Rattle.cpm_machine.specs.Saving.{Saving, saving_with}
+use Rattle.cpm_machine.specs.Saving.{saving_with}
 use Rattle.cpm_machine.specs.SystemDigest.{system_digest}
 use Rattle.cpm_play.specs.Live.{AreBy}
 use Rattle.cpm_play.specs.Pacing.{HaveComeAfter}
-use Rattle.cpm_play.specs.Playing.{IsInOrder, alone_by, runs_at, state_left}
+use Rattle.cpm_play.specs.Playing.{IsInOrder, alone_by, state_left}
 use Rattle.cpm_run.proofs.ComingLemmas.{later-more}
 use Rattle.cpm_run.proofs.LaterLemmas.{goes_on, left_on, runs_on}
 use Rattle.cpm_run.proofs.StandingLemmas.{begins_with, begun, keys_back, next-standing, rest-at, starts-there}
@@ -20,7 +20,7 @@ use Rattle.cpm_run.specs.Kept.{FitIfAny, FitTogether, kept_view, standing_view}
 use Rattle.cpm_run.specs.Laws.{StandingsJoin, later_keys}
 use Rattle.cpm_run.specs.Playing.{ArePressable, IsForkPressable, IsPressableBy}
 use Rattle.cpm_run.specs.Run.{start_of}
-use Rattle.cpm_run.specs.Settled.{SettledSession, settled_view, start_by, starts_of}
+use Rattle.cpm_run.specs.Settled.{SettledSession, settled_view}
 use Rattle.cpm_run.specs.declared.settled.SettledInput.{SettledInput}
 use Rattle.cpm_run.specs.declared.standing.KeptSession.{KeptSession}
 use Rattle.cpm_run.specs.Standing.{IsBeforeFork, IsTrueOf, IsTrueStanding, RunStanding, SessionStanding, StandsThere, join_all, join_standings, joined, joined_if, keys_left, rest_from, rest_of, rest_of_session, rest_start, rests, standing_at, stands_by}

@@ -1,5 +1,5 @@
 -- Sessions that are kept on the way of a run stand there truly.
-use Rattle.std.proofs.Common.{◌≡◌, ◌∙◌, ◌<◌, ◌≤◌, ◌==◌, ◌⊎◌, inl, inr, ◌++◌, ℕ, zero, suc, Bool, true, false, List, [], ◌∷◌, Option, None, Some, refl, sym, ap, ap₂, subst, arith, append-nil, length, map, take, drop, slice_get, if◌then◌else◌}
+use Rattle.std.proofs.Common.{◌≡◌, ◌∙◌, ◌<◌, ◌≤◌, ◌==◌, ◌⊎◌, inl, inr, ◌++◌, ℕ, zero, suc, Bool, true, false, List, [], ◌∷◌, Option, None, Some, refl, sym, ap, ap₂, subst, arith, append-nil, length, take, slice_get, if◌then◌else◌}
 use Rattle.std.specs.Prelude.{IfSome, option_and_then, option_map}
 use Rattle.std.proofs.lemmas.Bool.{cases_lt}
 use Rattle.std.proofs.lemmas.Bool.Decides.{nat_tests}
@@ -8,14 +8,13 @@ use Rattle.std.proofs.lemmas.Option.{none-some, same_Some, slice_get-map}
 use Rattle.cpm_batch.specs.Inputs.{Forks, Opens, Restores, StartInput}
 use Rattle.cpm_geom.specs.Disk.{Disk}
 use Rattle.cpm_machine.specs.Alone.{due}
-use Rattle.cpm_machine.specs.Calls.{state_behind}
 use Rattle.cpm_machine.specs.MachineState.{MachineState}
-use Rattle.cpm_machine.specs.Saving.{Saving, saving_with}
+use Rattle.cpm_machine.specs.Saving.{saving_with}
 use Rattle.cpm_machine.specs.SystemDigest.{system_digest}
 use Rattle.cpm_play.specs.Live.{AreBy}
 use Rattle.cpm_play.specs.Pacing.{IsOn, forked_pace}
 use Rattle.cpm_play.specs.Players.{AllReady, HaveBecome, IsPlayerGoing, StandsAs, player_slot, player_steps}
-use Rattle.cpm_play.specs.Playing.{IsInOrder, IsQuiet, alone_by, presses_of, state_left}
+use Rattle.cpm_play.specs.Playing.{IsQuiet, presses_of}
 use Rattle.cpm_play.specs.ScriptedSlots.{script_keys}
 use Rattle.cpm_play.specs.declared.pace.Pace.{Pace}
 use Rattle.cpm_play.specs.declared.player.Fork.{Fork}
@@ -23,19 +22,18 @@ use Rattle.cpm_play.specs.declared.player.Player.{Player}
 use Rattle.cpm_play.specs.declared.player.Player.TheVariants.{Playing, Waiting}
 use Rattle.cpm_play.specs.declared.scripted_slot.ScriptedSlot.{ScriptedSlot}
 use Rattle.cpm_play.proofs.ForkLemmas.{on-fork}
-use Rattle.cpm_play.proofs.PlaceLemmas.{same-at}
-use Rattle.cpm_play.proofs.PlayerLemmas.{given-at, parent-of, same-playing, waiting-given}
+use Rattle.cpm_play.proofs.PlayerLemmas.{parent-of, waiting-given}
 use Rattle.cpm_play.proofs.RunLemmas.{bare, quiet-bare}
 use Rattle.cpm_run.proofs.PlayLemmas.{all_ready, keys_are, start_is, steps_are}
 use Rattle.cpm_run.specs.Kept.{standing_of, standing_of_player, standing_of_slot}
 use Rattle.cpm_run.specs.Laws.{KeptIsTrue}
-use Rattle.cpm_run.specs.Playing.{ArePressable, HasPlayer, HasPlayerBy, HavePlayers, IsForkFor}
+use Rattle.cpm_run.specs.Playing.{ArePressable, HasPlayer, HasPlayerBy, HavePlayers}
 use Rattle.cpm_run.specs.Run.{start_of}
-use Rattle.cpm_run.specs.Settled.{SettledSession, start_by, starts_of}
+use Rattle.cpm_run.specs.Settled.{SettledSession}
 use Rattle.cpm_run.specs.Standing.{IsBeforeFork, IsTrueOf, IsTrueStanding, RunStanding, SessionStanding, StandsThere, standing_at, stands_by}
 use Rattle.cpm_script.specs.Fork.{keys_before}
 use Rattle.cpm_script.specs.declared.script.Key.{Key}
-use Rattle.cpm_slots.specs.Host.{Host, SlotState, saving_of, slot_at}
+use Rattle.cpm_slots.specs.Host.{Host, SlotState, saving_of}
 
 -- ---- one session
 

@@ -8,7 +8,7 @@ use Rattle.cpm_batch.specs.Outputs.{SessionOutput, left_by}
 use Rattle.cpm_batch.specs.declared.output.SessionFiles.{SessionFiles}
 use Rattle.cpm_config.specs.declared.config.SessionConfig.{SessionConfig}
 use Rattle.cpm_geom.specs.Disk.{Disk}
-use Rattle.cpm_run.specs.Kept.{kept_view, standing_view}
+use Rattle.cpm_run.specs.Kept.{standing_view}
 use Rattle.cpm_run.specs.Run.{ReportEntry, files_left, left_of, report_view, reported_of, reports_of, run_of, session_output}
 use Rattle.cpm_run.specs.Settled.{SettledSession, settled_view}
 use Rattle.cpm_run.specs.Standing.{RunStanding, SessionStanding, output_behind, outputs_behind, report_behind, reports_behind, rest_from, rest_of, rest_of_session, rest_start, rests, standing_at, stands_all, stands_by}

@@ -1,5 +1,5 @@
 -- Laws of sessions that go on from a saving. (own)
-use Rattle.std.specs.Prelude.{◌≡◌, ℕ, ◌+◌, List, ◌++◌, map, slice_get, Option, Some, Ok}
+use Rattle.std.specs.Prelude.{◌≡◌, ℕ, ◌+◌, List, ◌++◌, map, slice_get, Some, Ok}
 use Rattle.cpm_batch.specs.Inputs.{Restores}
 use Rattle.cpm_batch.specs.Outputs.{SessionOutput}
 use Rattle.cpm_drives.specs.Disks.{images_of}
