@@ -1,5 +1,5 @@
 -- What a host has left for sessions, and how they are judged by it.
-use Rattle.std.proofs.Common.{◌≡◌, ◌∙◌, ◌<◌, ◌≤◌, ◌+◌, ◌||◌, ◌==◌, ◌⊎◌, ⊎_elim, inl, inr, ℕ, zero, suc, Bool, true, false, if◌then◌else◌, nat_le, nat_lt, List, [], ◌∷◌, Option, Some, None, drop, take, length, map, get_or, slice_get, sum_by, refl, sym, subst, ap, arith}
+use Rattle.std.proofs.Common.{◌≡◌, ◌∙◌, ◌<◌, ◌≤◌, ◌+◌, ◌||◌, ◌==◌, ◌⊎◌, ⊎_elim, inl, inr, ℕ, zero, suc, Bool, true, false, if◌then◌else◌, nat_le, nat_lt, List, [], ◌∷◌, ◌++◌, Option, Some, None, drop, take, length, map, get_or, slice_get, sum_by, refl, sym, subst, ap, arith}
 use Rattle.std.specs.Prelude.{Vec, not, option_map}
 use Rattle.std.specs.declared.alloc.Global.{Global}
 use Rattle.std.proofs.lemmas.Bool.Decides.{nat_tests}
@@ -16,11 +16,12 @@ use Rattle.cpm_geom.specs.Disk.{Disk}
 use Rattle.cpm_machine.specs.MachineState.{MachineState}
 use Rattle.cpm_machine.specs.Opening.{fault_else, opening_fault}
 use Rattle.cpm_machine.specs.Saving.{Saving}
+use Rattle.cpm_machine.specs.SystemDigest.{system_digest}
 use Rattle.cpm_machine.specs.declared.opening.OpenError.{OpenError}
 use Rattle.cpm_machine.specs.declared.opening.OpenError.TheVariants.{NoFrames, NoSlot}
 use Rattle.cpm_machine.specs.declared.opening.Opening.{Opening}
 use Rattle.cpm_play.specs.Players.{HasRoomForForks}
-use Rattle.cpm_slots.specs.Host.{Host, SlotState, new_host, opened_slot, quotas_of, refusal_of, room_fault, with_added, with_opened}
+use Rattle.cpm_slots.specs.Host.{Host, SlotState, are_same, new_host, opened_slot, quotas_of, refusal_of, room_fault, with_added, with_opened}
 use Rattle.cpm_run.specs.Openings.{HasOpenedAll, IsForkedIn, IsNotForkedIn, IsNotOpenedBy, IsNotOpenedIn, IsNotRestoredBy, IsOpenedIn, IsRoomAfter, IsRoomFault, IsRoomLeft, IsSavedOver, quota_read}
 use Rattle.cpm_run.specs.Run.{AllAccepted, HasForkRoom, IsFirstRefused, IsFirstShort, IsShortFor, fork_of, forks_before, forks_in, pages_before, pages_by, restoring_fault, starts_read}
 use Rattle.cpm_run.specs.Settled.{opening_of}

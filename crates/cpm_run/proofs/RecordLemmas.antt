@@ -1,5 +1,5 @@
 -- The lines of keys, and the records of all sessions.
-use Rattle.std.proofs.Common.{◌≡◌, ◌∙◌, ◌<◌, ◌≤◌, ◌+◌, ℕ, List, [], ◌∷◌, ◌++◌, Some, length, map, refl, sym, subst, ap, slice_get, get_or, drop, append-nil, append_assoc}
+use Rattle.std.proofs.Common.{◌≡◌, ◌∙◌, ◌<◌, ◌≤◌, ◌+◌, ℕ, List, [], ◌∷◌, ◌++◌, Option, Some, length, map, refl, sym, subst, ap, slice_get, get_or, drop, append-nil, append_assoc}
 use Rattle.std.specs.Prelude.{option_map}
 use Rattle.std.specs.List.{All}
 use Rattle.std.proofs.lemmas.List.{at_drop_all, drop_more}

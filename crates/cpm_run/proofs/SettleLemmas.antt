@@ -1,6 +1,7 @@
 -- What settling sessions rests on.
-use Rattle.std.proofs.Common.{◌≡◌, ◌∙◌, ◌<◌, ◌≤◌, ◌^◌, ◌+◌, ⊎_elim, inl, inr, ℕ, zero, suc, Bool, true, false, ◌&&◌, List, [], ◌∷◌, ◌++◌, length, drop, get_or, map, Option, Some, None, refl, sym, ap, subst, arith, append_assoc, append-nil}
-use Rattle.std.specs.Prelude.{Vec, IfSome, max, nat_lt, option_map, slice_get}
+use Rattle.std.proofs.Common.{◌≡◌, ◌∙◌, ◌<◌, ◌≤◌, ◌^◌, ◌+◌, ⊎_elim, inl, inr, true≢false, ℕ, zero, suc, Bool, true, false, ◌&&◌, List, [], ◌∷◌, ◌++◌, length, drop, get_or, map, Option, Some, None, refl, sym, ap, subst, arith, append_assoc, append-nil}
+use Rattle.std.specs.Prelude.{Vec, IfSome, IsSome, max, nat_le, nat_lt, option_map, slice_get}
+use Rattle.std.proofs.lemmas.Bool.Decides.{nat_tests}
 use Rattle.std.specs.List.{All}
 use Rattle.std.specs.declared.alloc.Global.{Global}
 use Rattle.std.proofs.Math.Nat.{le-max_left, le-max_right}
@@ -17,7 +18,7 @@ use Rattle.cpm_machine.specs.Step.{is_running}
 use Rattle.cpm_play.specs.Cued.{HasEndedCued, IsCued, IsCuedFrom, key_count, waits_at}
 use Rattle.cpm_play.specs.Live.{AreGiven}
 use Rattle.cpm_play.specs.Playing.{EndsAs, HaveRoom, IsInOrder, alone_by}
-use Rattle.cpm_script.specs.Cues.{Awaited, Counted, CueText, Pressed, cue_text}
+use Rattle.cpm_script.specs.Cues.{Awaited, Counted, CueText, Pressed, cue_text, cued_key_count}
 use Rattle.cpm_script.specs.Fork.{keys_before}
 use Rattle.cpm_script.specs.Laws.{CountsRise, KeysAreAscii, PressesFollow}
 use Rattle.cpm_script.specs.Recording.{AreTyped}
@@ -25,7 +26,7 @@ use Rattle.cpm_script.specs.Script.{most_keys}
 use Rattle.cpm_script.specs.declared.cue.Cue.{Cue}
 use Rattle.cpm_script.specs.declared.cue.Cue.TheVariants.{Key as Timed}
 use Rattle.cpm_script.specs.declared.script.Key.{Key}
-use Rattle.cpm_script.proofs.CueLemmas.{ascii-append}
+use Rattle.cpm_script.proofs.CueLemmas.{ascii-append, counted-keys}
 use Rattle.cpm_run.specs.Playing.{IsForkPressable, IsPressableBy}
 use Rattle.cpm_run.specs.Run.{GivesItsKeysAgain, starts_read}
 use Rattle.cpm_run.specs.Settled.{AreSettled, HasPlayedKeys, IsSettled, SessionPart, SettledSession, TypedSession}
@@ -33,6 +34,7 @@ use Rattle.cpm_run.specs.Settled.{before_in, forked_at, keys_if_settled, opened_
 use Rattle.cpm_run.specs.Settling.{AreBelow80h, AreCounts, AreFitInputs, AreOpenable, AreSound, AreSoundKeys, HasParent, IsFitInput, IsFitPart, IsOpenable}
 use Rattle.cpm_run.specs.Settling.{IsPartRefusal, IsSettlingRefusal, IsSoundAfter}
 use Rattle.cpm_run.specs.declared.settled.SettledInput.{SettledInput}
+use Rattle.cpm_run.specs.Refusing.{IsLimited}
 use Rattle.cpm_run.specs.declared.error.RunError.{RunError}
 use Rattle.cpm_run.specs.declared.options.RunOptions.{RunOptions}
 use Rattle.cpm_run.proofs.OrderLemmas.{own_from}

@@ -1,11 +1,12 @@
 -- From what was read of a run to what its sessions are played by.
-use Rattle.std.proofs.Common.{inr, ◌≡◌, ◌∙◌, ◌≤◌, ◌+◌, ℕ, suc, Bool, true, false, List, [], ◌∷◌, ◌++◌, Option, Some, None, length, map, refl, sym, subst, ap, arith, slice_get, if◌then◌else◌, ◌==◌, ◌||◌}
-use Rattle.std.specs.Prelude.{nat_lt, option_map}
+use Rattle.std.proofs.Common.{inl, inr, ◌≡◌, ◌∙◌, ◌<◌, ◌≤◌, ◌+◌, ◌⊎◌, ℕ, suc, Bool, true, false, List, [], ◌∷◌, ◌++◌, Option, Some, None, length, map, refl, sym, subst, ap, arith, slice_get, get_or, take, drop, if◌then◌else◌, ◌==◌, ◌||◌}
+use Rattle.std.specs.Prelude.{IsSome, is_some, not, nat_lt, option_map}
 use Rattle.std.specs.List.{All}
 use Rattle.std.proofs.lemmas.Bool.Decides.{nat_tests}
-use Rattle.std.proofs.lemmas.List.{length-append}
-use Rattle.std.proofs.lemmas.List.Elements.{All-cons, All-nil}
-use Rattle.cpm_batch.specs.Inputs.{Forks, IsOpened, Opens, Restores, SessionInput, StartInput, given}
+use Rattle.std.proofs.lemmas.List.{at_drop_all, drop_more, length-append, map_more}
+use Rattle.std.proofs.lemmas.List.Elements.{All-cons, All-nil, All-push, All-same}
+use Rattle.cpm_batch.specs.Inputs.{Forks, IsOpened, Opens, Restores, SessionInput, StartInput, given, timed_keys}
+use Rattle.cpm_batch.specs.declared.input.Input.{Input}
 use Rattle.cpm_config.specs.declared.config.Config.{Config}
 use Rattle.cpm_config.specs.declared.config.SessionConfig.{SessionConfig}
 use Rattle.cpm_flags.specs.declared.regs.Cpu.{Cpu}
@@ -14,20 +15,24 @@ use Rattle.cpm_machine.specs.Opening.{drives_fault, fault_else, opening_fault}
 use Rattle.cpm_machine.specs.declared.opening.OpenError.{OpenError}
 use Rattle.cpm_machine.specs.declared.opening.OpenError.TheVariants.{BadQuota}
 use Rattle.cpm_machine.specs.declared.opening.Opening.{Opening}
-use Rattle.cpm_script.specs.Cues.{Counted}
+use Rattle.cpm_script.specs.Cues.{Counted, cue_text}
 use Rattle.cpm_script.specs.Laws.{CountsRise, KeysAreAscii, PressesFollow}
 use Rattle.cpm_script.specs.Recording.{AreTyped}
+use Rattle.cpm_script.specs.declared.cue.Cue.{Cue}
+use Rattle.cpm_script.specs.declared.cue.Cue.TheVariants as cue
 use Rattle.cpm_script.specs.declared.script.Key.{Key}
 use Rattle.cpm_slots.specs.Host.{Host, new_host, room_fault, with_added, with_opened}
+use Rattle.cpm_play.specs.Typist.{TypingState}
 use Rattle.cpm_play.specs.declared.live.TypedPlay.{TypedPlay}
 use Rattle.cpm_run.specs.Openings.{IsJudgedSo}
 use Rattle.cpm_run.specs.Refusing.{IsSettleRefusal}
 use Rattle.cpm_run.specs.Run.{AllAccepted, IsOpening, starts_read}
-use Rattle.cpm_run.specs.Settled.{AreUntouched, IsTypedAt, IsTypedIfAny, Streams, TypedSession, forked_at, typed_view}
+use Rattle.cpm_run.specs.Settled.{AreUntouched, IsTypedAt, IsTypedIfAny, Streams, TypedSession, forked_at, streams, typed_view}
 use Rattle.cpm_run.specs.Settling.{AreFitInputs, AreOpenable, IsFitInput, IsOpenable, IsSettlingRefusal}
 use Rattle.cpm_run.specs.declared.error.RunError.{RunError}
 use Rattle.cpm_run.specs.declared.error.RunError.TheVariants as refusal
 use Rattle.cpm_run.specs.declared.options.RunOptions.{RunOptions}
+use Rattle.std.specs.Borrow.{Bor}
 
 -- ---- openings
 

@@ -1,8 +1,8 @@
 -- What settling the sessions of a run rests on, and how it is refused. All of it is own.
-use Rattle.std.specs.Prelude.{⊤, ◌≡◌, ◌≤◌, ◌<◌, ◌^◌, ◌++◌, ◌∷◌, ℕ, true, false, List, [], length, slice_get}
-use Rattle.std.specs.Prelude.{Option, Some, None, option_map, IfSome}
+use Rattle.std.specs.Prelude.{⊤, ◌≡◌, ◌≤◌, ◌<◌, ◌⊎◌, ◌^◌, ◌+◌, ◌++◌, ◌∷◌, ℕ, Bool, true, false, List, [], length, map, slice_get}
+use Rattle.std.specs.Prelude.{Option, Some, None, option_map, IfSome, IsSome}
 use Rattle.std.specs.List.{All}
-use Rattle.cpm_batch.specs.Inputs.{Forks, IsOpened, Opens, Restores, SessionInput, StartInput, start_view}
+use Rattle.cpm_batch.specs.Inputs.{Forks, IsOpened, Opens, Restores, SessionInput, StartInput, start_view, timed_keys}
 use Rattle.cpm_config.specs.Rules.{is_opened, origin_view}
 use Rattle.cpm_config.specs.declared.config.Config.{Config}
 use Rattle.cpm_config.specs.declared.config.SessionConfig.{SessionConfig}
@@ -10,14 +10,15 @@ use Rattle.cpm_geom.specs.Disk.{Disk}
 use Rattle.cpm_machine.specs.Opening.{opening_fault}
 use Rattle.cpm_machine.specs.declared.opening.Opening.{Opening}
 use Rattle.cpm_play.specs.Playing.{HaveRoom, IsInOrder}
-use Rattle.cpm_script.specs.Cues.{all_said}
+use Rattle.cpm_script.specs.Cues.{CueText, all_said, cued_key_count}
 use Rattle.cpm_script.specs.Laws.{CountsRise, KeysAreAscii, PressesFollow}
+use Rattle.cpm_script.specs.Script.{most_keys}
 use Rattle.cpm_script.specs.declared.script.Key.{Key}
 use Rattle.cpm_run.specs.Playing.{IsPressableBy}
 use Rattle.cpm_run.specs.Refusing.{IsLimited, IsOverfull}
 use Rattle.cpm_slots.specs.Host.{new_host}
 use Rattle.cpm_run.specs.Run.{AllAccepted, GivesItsKeysAgain, IsOpening, starts_read}
-use Rattle.cpm_run.specs.Settled.{AreSettled, IsTypedIfAny, SessionPart, SettledSession, Streams, TypedSession}
+use Rattle.cpm_run.specs.Settled.{AreSettled, AreUntouched, IsTypedIfAny, SessionPart, SettledSession, Streams, TypedSession}
 use Rattle.cpm_run.specs.Settled.{forked_at, opening_of, part_of, said_at, steps_at}
 use Rattle.cpm_run.specs.declared.options.RunOptions.{RunOptions}
 use Rattle.cpm_run.specs.declared.error.RunError.{RunError}

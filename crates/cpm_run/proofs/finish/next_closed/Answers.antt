@@ -1,4 +1,4 @@
-use Rattle.std.proofs.Common.{◌≡◌, ◌∙◌, ◌∷◌, ap, refl}
+use Rattle.std.proofs.Common.{◌≡◌, ◌∙◌, ◌∷◌, Some, ap, refl}
 use Rattle.std.specs.Vec.Iter.{into_iter_items}
 use Rattle.cpm_slots.specs.HostWithStore.{HostWithStore}
 use Rattle.cpm_play.specs.declared.player.Player.TheVariants.{Playing}

@@ -1,4 +1,4 @@
-use Rattle.std.proofs.Common.{◌∙◌, ap}
+use Rattle.std.proofs.Common.{◌∙◌, ap, sym}
 use Rattle.cpm_machine.specs.Saving.{restored}
 use Rattle.cpm_slots.specs.declared.event.SlotId.{SlotId}
 use Rattle.cpm_batch.specs.Savings.{saving_view}

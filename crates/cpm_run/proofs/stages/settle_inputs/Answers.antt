@@ -1,4 +1,4 @@
-use Rattle.std.proofs.Common.{List, [], map, option_map, refl, subst, sym}
+use Rattle.std.proofs.Common.{List, None, [], map, option_map, refl, subst, sym}
 use Rattle.std.proofs.lemmas.Result.{err_from_is_err_and}
 use Rattle.std.specs.List.{All}
 use Rattle.cpm_batch.specs.Inputs.{given}
