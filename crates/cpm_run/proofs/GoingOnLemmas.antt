@@ -1,6 +1,6 @@
 -- The laws of sessions that go on from a saving.
 use Rattle.std.proofs.Common.{◌≡◌, ◌∙◌, ◌+◌, ◌++◌, ℕ, List, [], Option, None, Some, Result, Ok, refl, sym, ap, ap₂, slice_get}
-use Rattle.std.specs.Prelude.{String, option_map}
+use Rattle.std.specs.Prelude.{IfSome, String, option_map}
 use Rattle.std.specs.declared.alloc.Global.{Global}
 use Rattle.std.proofs.lemmas.Option.{none-some, same_Some, slice_get-map}
 use Rattle.cpm_batch.specs.Inputs.{Restores}
@@ -20,7 +20,7 @@ use Rattle.cpm_run.proofs.ComingLemmas.{coming_by, coming_enough}
 use Rattle.cpm_run.proofs.EndingLemmas.{ending_same}
 use Rattle.cpm_run.proofs.LaterLemmas.{goes_on}
 use Rattle.cpm_run.specs.Laws.{GoesOnAlone, GoesOnBehind, GoesOnFrom, IsBothInOne, SavedFileGoesOn, SavedRunGoesOn, later_keys}
-use Rattle.cpm_run.specs.Run.{files_left, left_of, run_of, saving_over, session_output, start_of}
+use Rattle.cpm_run.specs.Run.{IsRestorable, files_left, left_of, run_of, saving_over, session_output, start_of}
 use Rattle.cpm_run.specs.Settled.{SettledSession, start_by, starts_of}
 
 -- ---- one session
@@ -86,6 +86,10 @@ saved-is : (o : Option (String Global)) (made bytes : List ℕ) → option_map (
 saved-is None made bytes is = absurd (none-some bytes is)
 saved-is (Some name) made bytes is = same_Some made bytes is
 
+saved-has : {P : Type 0} (o : Option (String Global)) (made bytes : List ℕ) → option_map (λ name. made) o ≡ Some bytes → IfSome o (λ name. P) → P
+saved-has None made bytes is named = absurd (none-some bytes is)
+saved-has (Some name) made bytes is named = named
+
 same-saving : (x y : Saving) (r s : Result Saving SavingDamage) → r ≡ s → r ≡ Ok x → s ≡ Ok y → x ≡ y
 same-saving x y r s same a b = cc
 
@@ -105,9 +109,10 @@ saved-goes_on system first second place other i j before after one two order beg
     }
 
 saving-there : (system : Disk) (first : List SettledSession) (i j : SettledSession) (before : SessionOutput) → session_output system i.session (run_of system first i) (left_of system first i) ≡ before
-    → restored (saving_over system (left_of system first i)) ≡ Ok (saving_with (system_digest system) (left_of system first i)) → GoesOnFrom before j
-    → j.start ≡ Restores (saving_with (system_digest system) (left_of system first i))
-saving-there system first i j before is whole from =
+    → IsRestorable system first i → GoesOnFrom before j → j.start ≡ Restores (saving_with (system_digest system) (left_of system first i))
+saving-there system first i j before is restorable from =
+    let whole : restored (saving_over system (left_of system first i)) ≡ Ok (saving_with (system_digest system) (left_of system first i)) =
+    saved-has i.session.save (saving_over system (left_of system first i)) from.bytes (ap (λ (o : SessionOutput). o.saved) is ∙ from.saved) restorable in
     let bytes : saving_over system (left_of system first i) ≡ from.bytes =
     saved-is i.session.save (saving_over system (left_of system first i)) from.bytes (ap (λ (o : SessionOutput). o.saved) is ∙ from.saved) in
     let saving : saving_with (system_digest system) (left_of system first i) ≡ from.saving =

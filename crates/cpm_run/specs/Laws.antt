@@ -15,7 +15,7 @@ use Rattle.cpm_play.specs.declared.player.Player.{Player}
 use Rattle.cpm_run.specs.Ending.{ending_of}
 use Rattle.cpm_run.specs.Kept.{standing_of}
 use Rattle.cpm_run.specs.Playing.{ArePressable, HavePlayers}
-use Rattle.cpm_run.specs.Run.{files_left, left_of, reports_of, run_of, saving_over, start_of}
+use Rattle.cpm_run.specs.Run.{IsRestorable, files_left, left_of, reports_of, run_of, start_of}
 use Rattle.cpm_run.specs.Settled.{SettledSession}
 use Rattle.cpm_run.specs.Standing.{IsTrueStanding, RunStanding, join_standings, outputs_behind, reports_behind, rest_of, stands_all}
 use Rattle.cpm_script.specs.declared.script.Key.{Key}
@@ -67,8 +67,8 @@ pub record HasLeft (system : Disk) (inputs : List SettledSession) (place : ℕ) 
   pub there : slice_get inputs place ≡ Some i
   pub files : slice_get (files_left system inputs) place ≡ Some left
 
--- So it is where a session of a run goes on from the saving of what a session of another run came to. (The keys of the first are in order, as those of each
--- that is played.)
+-- So it is where a session of a run goes on from the saving of what a session of another run came to. (Of each run that succeeds the keys of each session are
+-- in order: `HasRun`, orders.)
 abbrev pub SavedRunGoesOn : Type 0
 SavedRunGoesOn = (system : Disk) (first second : List SettledSession) (place other : ℕ) (i j : SettledSession) (before after : SessionOutput) →
     HasLeft system first place i before → HasLeft system second other j after → IsInOrder 0 i.keys →
@@ -82,12 +82,11 @@ pub record GoesOnFrom (before : SessionOutput) (j : SettledSession) : Type 0 whe
   pub read : restored bytes ≡ Ok saving
   pub start : j.start ≡ Restores saving
 
--- And so it is where it goes on from what was read of the file that the other session left for its saving. (What is restored of the bytes of that saving is
--- it, as of each that a host makes.)
+-- And so it is where it goes on from what was read of the file that the other session left for its saving.
+-- (Of each run that succeeds the keys of each session are in order, and what is restored of its saving is that: `HasRun`, orders and savings.)
 abbrev pub SavedFileGoesOn : Type 0
 SavedFileGoesOn = (system : Disk) (first second : List SettledSession) (place other : ℕ) (i j : SettledSession) (before after : SessionOutput) →
-    HasLeft system first place i before → HasLeft system second other j after → IsInOrder 0 i.keys →
-    restored (saving_over system (left_of system first i)) ≡ Ok (saving_with (system_digest system) (left_of system first i)) →
+    HasLeft system first place i before → HasLeft system second other j after → IsInOrder 0 i.keys → IsRestorable system first i →
     GoesOnFrom before j → AreOneAlone system first second i j before after
 
 -- Where a run stands on its way, the rest of it leaves what the whole run leaves, with what was shown before in front.

@@ -1,6 +1,6 @@
 -- What running the sessions of a configuration writes and reports, and when it is refused. All of it is own.
 use Rattle.std.specs.Prelude.{◌≡◌, ◌≤◌, ◌⊎◌, ◌+◌, ℕ, sum_by, ◌==◌, ◌&&◌, not, nat_le, List, [], ◌∷◌, ◌++◌, length, drop, take}
-use Rattle.std.specs.Prelude.{map, slice_get, Option, Some, None, option_map, string_bytes, chars, Ok, if◌then◌else◌}
+use Rattle.std.specs.Prelude.{map, slice_get, Option, Some, None, option_map, string_bytes, chars, Ok, IfSome, if◌then◌else◌}
 use Rattle.std.specs.List.{All}
 use Rattle.cpm_batch.specs.Inputs.{AreInputs, Forks, Opens, Restores, SessionInput, StartInput}
 use Rattle.cpm_batch.specs.Outputs.{SessionOutput, files_of_all}
@@ -20,7 +20,7 @@ use Rattle.cpm_slots.specs.declared.event.ForkError.TheVariants as fork
 use Rattle.cpm_slots.specs.declared.host.TheConstants.{LEAST_FRAMES}
 use Rattle.cpm_memory.specs.declared.store.TheConstants.{MOST_FRAMES}
 use Rattle.cpm_machine.specs.MachineState.{MachineState}
-use Rattle.cpm_machine.specs.Saving.{Saving, bytes_of_saving, saving_with}
+use Rattle.cpm_machine.specs.Saving.{Saving, bytes_of_saving, restored, saving_with}
 use Rattle.cpm_machine.specs.SystemDigest.{system_digest}
 use Rattle.cpm_machine.specs.declared.opening.Opening.{Opening}
 use Rattle.cpm_machine.specs.declared.opening.OpenError.{OpenError}
@@ -29,7 +29,7 @@ use Rattle.cpm_store.specs.Files.{StoreFiles, StoreName, WhereTold}
 use Rattle.cpm_store.specs.Log.{StoreAccess, AreWrites, LogLeadsBy}
 use Rattle.cpm_store.specs.Writes.{NamedBytes, WritesAll}
 use Rattle.cpm_play.specs.Players.{HasRoomForForks, IsLackFor}
-use Rattle.cpm_play.specs.Playing.{alone_by, coming_keys, state_left}
+use Rattle.cpm_play.specs.Playing.{IsInOrder, alone_by, coming_keys, state_left}
 use Rattle.cpm_run.specs.Ending.{ending_of}
 use Rattle.cpm_run.specs.declared.ending.Ending.{Ending}
 use Rattle.cpm_run.specs.declared.error.StartFault.{StartFault}
@@ -62,6 +62,12 @@ left_of system inputs i = state_left system (coming_keys system (start_of inputs
 -- the bytes of the saving of a state with this system drive
 abbrev pub saving_over : Disk → MachineState → List ℕ
 saving_over system s = bytes_of_saving (saving_with (system_digest system) s)
+
+-- where it is saved, what is restored of the bytes of its saving is its saving
+abbrev pub IsRestorable : Disk → List SettledSession → SettledSession → Type 0
+IsRestorable system inputs i =
+    IfSome i.session.save
+    (λ name. restored (saving_over system (left_of system inputs i)) ≡ Ok (saving_with (system_digest system) (left_of system inputs i)))
 
 -- what is left of it for its files: all bytes of its console and of its list device, and its drives; and the saving of its state, where it is saved
 abbrev pub session_output : Disk → SessionConfig → (s left : MachineState) → SessionOutput
@@ -231,6 +237,9 @@ pub record HasRun {S : Type 0} (acts : StoreActs S) (config : Config) (options :
   pub played : AreParts config options io parts
   -- the record of each session is a script of its own keys
   pub replays : All GivesItsKeysAgain parts.settled
+  -- the keys of each session are in order, and it can go on from its saving
+  pub orders : All (λ s. IsInOrder 0 s.keys) parts.settled
+  pub savings : All (IsRestorable parts.system parts.settled) parts.settled
   pub wrote : HasWrittenOutputs acts (outputs_by options parts) between new
   pub reported : AreReportedOf parts.system parts.settled report
 

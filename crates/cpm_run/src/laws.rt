@@ -19,7 +19,7 @@ pub fn saved_run_goes_on()
     ensures { SavedRunGoesOn }
 {}
 
-/// So does one that goes on from what was read of the file that the other one left for its saving, where what is restored of that is the saving.
+/// So does one that goes on from what was read of the file that the other one left for its saving.
 pub fn saved_file_goes_on()
     ensures { SavedFileGoesOn }
 {}

@@ -1,12 +1,13 @@
 //! A run of the sessions of a configuration: it is read, settled, played and written.
 ghost use Rattle.std.specs.Prelude.{◌≡◌, ◌<◌, ◌≤◌, ℕ, IfErr, IfOk, OnOk, map};
+ghost use Rattle.std.specs.List.{All};
 ghost use Rattle.cpm_slots.specs.Host.{new_host};
 ghost use Rattle.cpm_store.specs.Files.{CountsFailure, WhereTold};
 ghost use Rattle.cpm_store.specs.Log.{LogLeadsBy, StopsAfter};
 ghost use Rattle.cpm_store.specs.Writes.{StopsAt, named_output};
 ghost use Rattle.cpm_run.specs.Playing.{IsSlotRefusal};
 ghost use Rattle.cpm_run.specs.Refusing.{IsDeviceFault, IsRunRefusal, IsWriteRefusal};
-ghost use Rattle.cpm_run.specs.Run.{AreReportedOf, HasRun, HasWrittenOutputs, config_fault, outputs_of, top_fault};
+ghost use Rattle.cpm_run.specs.Run.{AreReportedOf, HasRun, HasWrittenOutputs, IsRestorable, config_fault, outputs_of, top_fault};
 ghost use Rattle.cpm_run.specs.Settled.{settled_view, starts_of, streams};
 ghost use Rattle.cpm_run.specs.Settling.{AreSound};
 
@@ -90,6 +91,7 @@ fn play_inputs<'a, T: RunWatcher>(
     ensures reports { IfOk result (λ p. AreReportedOf system (map settled_view inputs.entry.items) p.0) }
     ensures outputs { IfOk result (λ p. map named_output p.1.items
         ≡ outputs_of system options.entry.records.now (map settled_view inputs.entry.items)) }
+    ensures savings { OnOk result (All (IsRestorable system (map settled_view inputs.entry.items)) (map settled_view inputs.entry.items)) }
     ensures refusal { IfErr result (IsSlotRefusal config.entry.now.sessions.items (new_host system config.entry.now.frames)
         (starts_of (map settled_view inputs.entry.items))) }
 {
