@@ -1,5 +1,5 @@
 //! A run that goes on from where it stood: its rest is played, and what was shown before is put in front.
-ghost use Rattle.std.specs.Prelude.{◌≡◌, ◌≤◌, ◌++◌, ◌⊎◌, ℕ, IfErr, IfOk, IfSome, length, map, option_map, true};
+ghost use Rattle.std.specs.Prelude.{◌≡◌, ◌≤◌, ◌++◌, ◌⊎◌, ℕ, IfErr, IfOk, IfSome, length, map, option_map, false, true};
 ghost use Rattle.cpm_batch.specs.Outputs.{left_by};
 ghost use Rattle.cpm_machine.specs.SystemDigest.{system_digest};
 ghost use Rattle.cpm_run.specs.Kept.{kept_view, standing_view};
@@ -26,7 +26,8 @@ use std::alloc::{AllocError, Global};
 
 /// Whether what is kept of a session, if anything is, was saved with a system drive of this digest.
 fn is_over(digest: &SystemDigest, session: Option<&KeptSession>) -> bool
-    ensures { result ≡ true → IfSome (option_map (λ k. kept_view k.now) session.entry) (λ s. s.saving.system_digest ≡ digest.now) }
+    ensures over { result ≡ true → IfSome (option_map (λ k. kept_view k.now) session.entry) (λ s. s.saving.system_digest ≡ digest.now) }
+    ensures other { result ≡ false → IfSome (option_map (λ k. kept_view k.now) session.entry) (λ s. s.saving.system_digest ≡ digest.now) → ⊥ }
 {
     match session {
         Some(session) => session.saved.digest == *digest,
@@ -36,8 +37,10 @@ fn is_over(digest: &SystemDigest, session: Option<&KeptSession>) -> bool
 
 /// Whether all that is kept was saved with this system drive.
 fn are_over(system: &Image, kept: &[Option<KeptSession>]) -> bool
-    ensures { result ≡ true → (place : ℕ)
+    ensures over { result ≡ true → (place : ℕ)
         → IfSome (standing_at (standing_view kept.now) place) (λ s. s.saving.system_digest ≡ system_digest system.now) }
+    ensures other { result ≡ false → ((place : ℕ)
+        → IfSome (standing_at (standing_view kept.now) place) (λ s. s.saving.system_digest ≡ system_digest system.now)) → ⊥ }
 {
     let digest = digest_of(system);
     for place in 0..kept.len() {
