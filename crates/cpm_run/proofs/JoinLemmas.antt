@@ -11,6 +11,7 @@ use Rattle.cpm_machine.specs.Saving.{saving_with}
 use Rattle.cpm_machine.specs.SystemDigest.{system_digest}
 use Rattle.cpm_play.specs.Live.{AreBy}
 use Rattle.cpm_play.specs.Pacing.{HaveComeAfter}
+use Rattle.cpm_play.specs.Players.{AllBefore}
 use Rattle.cpm_play.specs.Playing.{IsInOrder, alone_by, state_left}
 use Rattle.cpm_run.proofs.ComingLemmas.{later-more}
 use Rattle.cpm_run.proofs.LaterLemmas.{goes_on, left_on, runs_on}
@@ -161,6 +162,20 @@ module _ (system : Disk) (start : MachineState) (i : SettledSession) (s t : Sess
         ∙ ap (λ (ks : List Key). state_left system ks (s.done + t.done) start) (sym taken));
   }
 
+-- the keys of both are before a fork
+pub before-both : (at n : ℕ) (xs ys : List Key) → AllBefore at xs → AllBefore (at - n) ys → AllBefore at (xs ++ later_keys n ys)
+before-both at n [] [] left right = tt
+before-both at n [] (y ∷ ys) left right = (let less = right.0 in omega (arith, less), before-both at n [] ys tt right.1)
+before-both at n (x ∷ xs) ys left right = (left.0, before-both at n xs ys left.1 right)
+
+taken-joined : {system : Disk} {start : MachineState} (i : SettledSession) (s t : SessionStanding) → StandsThere system start i s
+    → take (s.pressed + t.pressed) i.keys ≡ take s.pressed i.keys ++ later_keys s.done (take t.pressed (keys_left s.pressed s.done i.keys))
+taken-joined i s t there =
+    take-both s.pressed t.pressed i.keys
+    ∙ ap (λ (ks : List Key). take s.pressed i.keys ++ ks)
+      (sym (keys_back s.done s.done (take t.pressed (drop s.pressed i.keys)) (omega arith) (order-take s.done t.pressed (drop s.pressed i.keys) there.later))
+      ∙ ap (later_keys s.done) (sym (take-map (sooner s.done) t.pressed (drop s.pressed i.keys))))
+
 -- ---- all sessions
 
 -- each that is forked is forked from one that isn't
@@ -197,14 +212,14 @@ module _ (system : Disk) (inputs rest : List SettledSession) (whole : RunStandin
 
   -- one that is still to be forked
   join-fork : (parent at : ℕ) (o p : Option SessionStanding) → i.start ≡ Forks parent at → standing_at whole parent ≡ joined_if o o p → let r = rest_from o (rest_start None o (Forks parent at)) i in
-      IfSome o (StandsThere system (start_of inputs i) i) → IsBeforeFork None o (Forks parent at) → start_of rest r ≡ begins_with o (start_of inputs i)
-      → IfSome p (StandsThere system (start_of rest r) r) → IsBeforeFork None p (rest_start None o (Forks parent at)) → IsTrueOf system inputs whole None i
+      IfSome o (StandsThere system (start_of inputs i) i) → IsBeforeFork None o i.keys (Forks parent at) → start_of rest r ≡ begins_with o (start_of inputs i)
+      → IfSome p (StandsThere system (start_of rest r) r) → IsBeforeFork None p r.keys (rest_start None o (Forks parent at)) → IsTrueOf system inputs whole None i
   join-fork parent at o p is stands here early begins there later =
       record {
         there = subst (λ (b : StartInput). IfSome (stands_by whole None b) (StandsThere system (start_of inputs i) i)) (sym is)
             (subst (λ (x : Option SessionStanding). IfSome x (StandsThere system (start_of inputs i) i)) (sym stands) (both o p here begins there));
-        ahead = subst (λ (b : StartInput). IsBeforeFork None (stands_by whole None b) b) (sym is)
-            (subst (λ (x : Option SessionStanding). IsBeforeFork None x (Forks parent at)) (sym stands) (before o p early later));
+        ahead = subst (λ (b : StartInput). IsBeforeFork None (stands_by whole None b) i.keys b) (sym is)
+            (subst (λ (x : Option SessionStanding). IsBeforeFork None x i.keys (Forks parent at)) (sym stands) (before o p here early later));
       }
     where
       both : (o p : Option SessionStanding) → IfSome o (StandsThere system (start_of inputs i) i) → start_of rest (rest_from o (rest_start None o (Forks parent at)) i) ≡ begins_with o (start_of inputs i)
@@ -216,11 +231,18 @@ module _ (system : Disk) (inputs rest : List SettledSession) (whole : RunStandin
       both (Some s) (Some t) here begins there =
           stands-joined system (start_of inputs i) i s t (Forks parent (at - s.done)) here (subst (λ (x : MachineState). StandsThere system x (rest_from (Some s) (Forks parent (at - s.done)) i) t) begins there)
 
-      before : (o p : Option SessionStanding) → IsBeforeFork None o (Forks parent at) → IsBeforeFork None p (rest_start None o (Forks parent at)) → IsBeforeFork None (joined_if o o p) (Forks parent at)
-      before None None early later = tt
-      before None (Some t) early later = later
-      before (Some s) None early later = early
-      before (Some s) (Some t) early later = let a : s.done ≤ at = early in let b : t.done ≤ at - s.done = later in omega arith
+      before : (o p : Option SessionStanding) → IfSome o (StandsThere system (start_of inputs i) i) → IsBeforeFork None o i.keys (Forks parent at)
+          → IsBeforeFork None p (rest_from o (rest_start None o (Forks parent at)) i).keys (rest_start None o (Forks parent at)) → IsBeforeFork None (joined_if o o p) i.keys (Forks parent at)
+      before None None here early later = tt
+      before None (Some t) here early later = later
+      before (Some s) None here early later = early
+      before (Some s) (Some t) here early later =
+          let low : s.done ≤ at = early.0 in
+          let less : t.done ≤ at - s.done = later.0 in
+          (
+            omega (arith, low, less),
+            subst (λ (ks : List Key). AllBefore at ks) (sym (taken-joined i s t here)) (before-both at s.done (take s.pressed i.keys) (take t.pressed (keys_left s.pressed s.done i.keys)) early.1 later.1),
+          )
 
   -- what is said of the rest of one that is still to be forked, where its other one stands there
   rest-there : (second : RunStanding) (parent at : ℕ) (o : Option SessionStanding) (P : SessionStanding → Type 0) → i.start ≡ Forks parent at
@@ -229,9 +251,9 @@ module _ (system : Disk) (inputs rest : List SettledSession) (whole : RunStandin
   rest-there second parent at (Some s) P is there = there
 
   rest-ahead : (second : RunStanding) (parent at : ℕ) (o : Option SessionStanding) → i.start ≡ Forks parent at
-      → IsBeforeFork None (stands_by second None (rest_from o (rest_start None o (Forks parent at)) i).start) (rest_from o (rest_start None o (Forks parent at)) i).start
-      → IsBeforeFork None (standing_at second parent) (rest_start None o (Forks parent at))
-  rest-ahead second parent at None is ahead = subst (λ (b : StartInput). IsBeforeFork None (stands_by second None b) b) is ahead
+      → IsBeforeFork None (stands_by second None (rest_from o (rest_start None o (Forks parent at)) i).start) (rest_from o (rest_start None o (Forks parent at)) i).keys (rest_from o (rest_start None o (Forks parent at)) i).start
+      → IsBeforeFork None (standing_at second parent) (rest_from o (rest_start None o (Forks parent at)) i).keys (rest_start None o (Forks parent at))
+  rest-ahead second parent at None is ahead = subst (λ (b : StartInput). IsBeforeFork None (stands_by second None b) i.keys b) is ahead
   rest-ahead second parent at (Some s) is ahead = ahead
 
 module _ (system : Disk) (inputs : List SettledSession) (first second : RunStanding) (parents : ParentsAreOpened inputs) (one : IsTrueStanding system inputs first)
@@ -247,11 +269,11 @@ module _ (system : Disk) (inputs : List SettledSession) (first second : RunStand
   join-one place i (Some s) None b at is here begins there = record { there = here.there; ahead = tt }
   join-one place i None None (Opens cpu quota drives) at is here begins there = record {
     there = subst (λ (x : StartInput). IfSome (stands_by (join_all first inputs first second) None x) (StandsThere system (start_of inputs i) i)) (sym is) tt;
-    ahead = subst (λ (x : StartInput). IsBeforeFork None (stands_by (join_all first inputs first second) None x) x) (sym is) tt;
+    ahead = subst (λ (x : StartInput). IsBeforeFork None (stands_by (join_all first inputs first second) None x) i.keys x) (sym is) tt;
   }
   join-one place i None None (Restores x) at is here begins there = record {
     there = subst (λ (x : StartInput). IfSome (stands_by (join_all first inputs first second) None x) (StandsThere system (start_of inputs i) i)) (sym is) tt;
-    ahead = subst (λ (x : StartInput). IsBeforeFork None (stands_by (join_all first inputs first second) None x) x) (sym is) tt;
+    ahead = subst (λ (x : StartInput). IsBeforeFork None (stands_by (join_all first inputs first second) None x) i.keys x) (sym is) tt;
   }
   join-one place i None None (Forks parent count) at is here begins there =
       let p = parents place parent count i at is in
@@ -259,7 +281,7 @@ module _ (system : Disk) (inputs : List SettledSession) (first second : RunStand
       join-fork system inputs (rests first inputs first) (join_all first inputs first second) i parent count o (standing_at second parent) is
       (join-at first inputs first second parent p.0 p.1 ∙ ap (λ (x : Option SessionStanding). joined_if x o (standing_at second parent)) (own-alone first o p.0.start p.2))
       (subst (λ (x : StartInput). IfSome (stands_by first None x) (StandsThere system (start_of inputs i) i)) is here.there)
-      (subst (λ (x : StartInput). IsBeforeFork None (stands_by first None x) x) is here.ahead) begins
+      (subst (λ (x : StartInput). IsBeforeFork None (stands_by first None x) i.keys x) is here.ahead) begins
       (rest-there system inputs (rests first inputs first) (join_all first inputs first second) i second parent count o
       (StandsThere system (start_of (rests first inputs first) (rest_from o (rest_start None o (Forks parent count)) i)) (rest_from o (rest_start None o (Forks parent count)) i)) is there.there)
       (rest-ahead system inputs (rests first inputs first) (join_all first inputs first second) i second parent count o is there.ahead)

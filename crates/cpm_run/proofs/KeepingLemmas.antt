@@ -1,5 +1,5 @@
 -- Sessions that are kept on the way of a run stand there truly.
-use Rattle.std.proofs.Common.{◌≡◌, ◌∙◌, ◌<◌, ◌≤◌, ◌==◌, ◌⊎◌, inl, inr, ◌++◌, ℕ, zero, suc, Bool, true, false, List, [], ◌∷◌, Option, None, Some, refl, sym, ap, ap₂, subst, arith, append-nil, length, take, slice_get, if◌then◌else◌}
+use Rattle.std.proofs.Common.{◌≡◌, ◌∙◌, ◌<◌, ◌≤◌, ◌==◌, nat_lt, ◌⊎◌, inl, inr, ◌++◌, ℕ, zero, suc, Bool, true, false, List, [], ◌∷◌, Option, None, Some, refl, sym, ap, ap₂, subst, arith, append-nil, length, take, slice_get, if◌then◌else◌}
 use Rattle.std.specs.Prelude.{IfSome, option_and_then, option_map}
 use Rattle.std.proofs.lemmas.Bool.{cases_lt}
 use Rattle.std.proofs.lemmas.Bool.Decides.{nat_tests}
@@ -13,7 +13,7 @@ use Rattle.cpm_machine.specs.Saving.{saving_with}
 use Rattle.cpm_machine.specs.SystemDigest.{system_digest}
 use Rattle.cpm_play.specs.Live.{AreBy}
 use Rattle.cpm_play.specs.Pacing.{IsOn, forked_pace}
-use Rattle.cpm_play.specs.Players.{AllReady, HaveBecome, IsPlayerGoing, StandsAs, player_slot, player_steps}
+use Rattle.cpm_play.specs.Players.{AllBefore, AllReady, HaveBecome, IsPlayerGoing, StandsAs, player_slot, player_steps}
 use Rattle.cpm_play.specs.Playing.{IsQuiet, presses_of}
 use Rattle.cpm_play.specs.ScriptedSlots.{script_keys}
 use Rattle.cpm_play.specs.declared.pace.Pace.{Pace}
@@ -68,6 +68,14 @@ stands-on system i start now pace console list on quiet = record {
   saving = ap (saving_with (system_digest system)) (quiet-bare now quiet ∙ ap bare on.state);
 }
 
+-- those that were pressed are among the keys before a fork
+taken-before : (at n : ℕ) (keys own : List Key) → AllBefore at (take n keys) → n ≤ length keys → take n (keys_before at keys ++ own) ≡ take n keys
+taken-before at zero keys own before within = refl
+taken-before at (suc n) [] own before within = absurd (let no : ⊥ = omega (arith, within) in no)
+taken-before at (suc n) (k ∷ ks) own before within =
+    let early : nat_lt k.count at ≡ true = let first = before.0 in grind (arith, nat_tests) in
+    rw early (ap (λ (xs : List Key). k ∷ xs) (taken-before at n ks own before.1 (omega (arith, within))))
+
 -- ---- sessions and their players
 
 -- the standing of a player at a place
@@ -113,14 +121,14 @@ true-own system inputs all own i s is there =
 
 -- one that is still to be forked from one that has
 true-fork : (system : Disk) (inputs : List SettledSession) (all : RunStanding) (own : Option SessionStanding) (i : SettledSession) (s : SessionStanding) (parent at : ℕ) → own ≡ None → i.start ≡ Forks parent at
-    → standing_at all parent ≡ Some s → s.done ≤ at → StandsThere system (start_of inputs i) i s → IsTrueOf system inputs all own i
+    → standing_at all parent ≡ Some s → (s.done ≤ at) × AllBefore at (take s.pressed i.keys) → StandsThere system (start_of inputs i) i s → IsTrueOf system inputs all own i
 true-fork system inputs all own i s parent at none begins stands early there =
     subst (λ (o : Option SessionStanding). IsTrueOf system inputs all o i) (sym none)
     (record {
       there = subst (λ (b : StartInput). IfSome (stands_by all None b) (StandsThere system (start_of inputs i) i)) (sym begins)
           (subst (λ (o : Option SessionStanding). IfSome o (StandsThere system (start_of inputs i) i)) (sym stands) there);
-      ahead = subst (λ (b : StartInput). IsBeforeFork None (stands_by all None b) b) (sym begins)
-          (subst (λ (o : Option SessionStanding). IsBeforeFork None o (Forks parent at)) (sym stands) early);
+      ahead = subst (λ (b : StartInput). IsBeforeFork None (stands_by all None b) i.keys b) (sym begins)
+          (subst (λ (o : Option SessionStanding). IsBeforeFork None o i.keys (Forks parent at)) (sym stands) early);
     })
 
 module _ (inputs : List SettledSession) (old h : Host) (ps now : List Player) (pressable : ArePressable old.system inputs) (all : HavePlayers old.slots inputs ps) (come : HaveBecome old h ps now) where
@@ -160,10 +168,14 @@ module _ (inputs : List SettledSession) (old h : Host) (ps now : List Player) (p
       let begins = fork-start old.slots i.start i fork has in
       let on = on-fork h.system (script_keys slot) source.own (player_steps (Playing source.first)) fork.at fork.steps going.start slot.pace slot.console.items slot.list.items s wait.early wait.done given.1.within
       source.order going.resting.playing.on in
+      let keys : keys_before fork.at (script_keys slot) ++ source.own ≡ i.keys = sym source.keys ∙ begins.1 in
+      let before : AllBefore fork.at (take slot.pace.pressed i.keys) =
+      subst (λ (ks : List Key). AllBefore fork.at (take slot.pace.pressed ks)) keys
+      (subst (λ (ks : List Key). AllBefore fork.at ks) (sym (taken-before fork.at slot.pace.pressed (script_keys slot) source.own wait.early going.resting.playing.on.within)) wait.early) in
       let there = stands-by i (keys_before fork.at (script_keys slot) ++ source.own) fork.steps going.start s (forked_pace slot.pace fork.steps) slot.console.items slot.list.items (sym source.keys ∙ begins.1) begins.2
       (start_is old.system old.slots h.slots inputs ps all i.start i (Waiting fork) going.start has (ap (player_slot old.slots) source.given_so ∙ going.started)) on going.resting.quiet in
       true-fork old.system inputs (standing_of h now) (standing_at (standing_of h now) place) i (standing_of_slot h slot s) fork.parent fork.at (standing-there h now place (Waiting fork) at) begins.0
-      (standing-there h now fork.parent (Playing slot) wait.plays ∙ ap (option_map (standing_of_slot h slot)) going.resting.playing.stands) wait.done there
+      (standing-there h now fork.parent (Playing slot) wait.plays ∙ ap (option_map (standing_of_slot h slot)) going.resting.playing.stands) (wait.done, before) there
 
   each-true : (place : ℕ) (i : SettledSession) (p q : Player) → slice_get now place ≡ Some q → HasPlayer old.slots i p → StandsAs old.slots ps now h p q →
       IsTrueOf old.system inputs (standing_of h now) (standing_at (standing_of h now) place) i
