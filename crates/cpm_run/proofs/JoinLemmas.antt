@@ -173,8 +173,8 @@ taken-joined : {system : Disk} {start : MachineState} (i : SettledSession) (s t 
 taken-joined i s t there =
     take-both s.pressed t.pressed i.keys
     ∙ ap (λ (ks : List Key). take s.pressed i.keys ++ ks)
-      (sym (keys_back s.done s.done (take t.pressed (drop s.pressed i.keys)) (omega arith) (order-take s.done t.pressed (drop s.pressed i.keys) there.later))
-      ∙ ap (later_keys s.done) (sym (take-map (sooner s.done) t.pressed (drop s.pressed i.keys))))
+    (sym (keys_back s.done s.done (take t.pressed (drop s.pressed i.keys)) (omega arith) (order-take s.done t.pressed (drop s.pressed i.keys) there.later))
+    ∙ ap (later_keys s.done) (sym (take-map (sooner s.done) t.pressed (drop s.pressed i.keys))))
 
 -- ---- all sessions
 
@@ -238,8 +238,7 @@ module _ (system : Disk) (inputs rest : List SettledSession) (whole : RunStandin
       before (Some s) None here early later = early
       before (Some s) (Some t) here early later =
           let low : s.done ≤ at = early.0 in
-          let less : t.done ≤ at - s.done = later.0 in
-          (
+          let less : t.done ≤ at - s.done = later.0 in (
             omega (arith, low, less),
             subst (λ (ks : List Key). AllBefore at ks) (sym (taken-joined i s t here)) (before-both at s.done (take s.pressed i.keys) (take t.pressed (keys_left s.pressed s.done i.keys)) early.1 later.1),
           )

@@ -13,7 +13,7 @@ use Rattle.cpm_play.specs.Playing.{EndsAs, IsInOrder, alone_by, coming_keys, sta
 use Rattle.cpm_play.specs.Players.{HaveBecome}
 use Rattle.cpm_play.specs.declared.player.Player.{Player}
 use Rattle.cpm_run.specs.Ending.{ending_of}
-use Rattle.cpm_run.specs.Kept.{standing_of}
+use Rattle.cpm_run.specs.Kept.{HaveFewKeys, standing_of}
 use Rattle.cpm_run.specs.Playing.{ArePressable, HavePlayers}
 use Rattle.cpm_run.specs.Run.{IsRestorable, files_left, left_of, reports_of, run_of, start_of}
 use Rattle.cpm_run.specs.Settled.{SettledSession}
@@ -102,6 +102,12 @@ RestIsWhole = (system : Disk) (inputs : List SettledSession) (standing : RunStan
 abbrev pub KeptIsTrue : Type 0
 KeptIsTrue = (inputs : List SettledSession) (old h : Host) (players now : List Player) → ArePressable old.system inputs → HavePlayers old.slots inputs players →
     HaveBecome old h players now → IsTrueStanding old.system inputs (standing_of h now)
+
+-- The rest of a run from where it truly stands can be pressed as the run can, where none of its sessions has more keys than may be pending, with those that are
+-- where it begins.
+abbrev pub RestCanBePlayed : Type 0
+RestCanBePlayed = (system : Disk) (inputs : List SettledSession) (standing : RunStanding) → ArePressable system inputs →
+    IsTrueStanding system inputs standing → HaveFewKeys (rest_of inputs standing) → ArePressable system (rest_of inputs standing)
 
 -- Where the rest of a run stands truly, from where the run had stood, the run stands truly by both.
 abbrev pub StandingsJoin : Type 0
