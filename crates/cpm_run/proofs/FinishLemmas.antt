@@ -1,6 +1,8 @@
 -- What is reported and written once sessions were played.
 use Rattle.std.proofs.Common.{◌≡◌, ◌≢◌, ◌∙◌, ◌≤◌, ◌<◌, ◌+◌, ℕ, zero, suc, List, [], ◌∷◌, ◌++◌, Option, Some, None, length, map, take, drop, get_or, ap, subst, sym, refl, arith, append-nil}
-use Rattle.std.specs.Prelude.{Bool, String, is_some, option_map, string_bytes}
+use Rattle.std.specs.Prelude.{Bool, IfSome, Ok, String, is_some, option_map, string_bytes, true}
+use Rattle.std.specs.List.{All}
+use Rattle.std.proofs.lemmas.List.Elements.{All-nil, All-push}
 use Rattle.std.specs.declared.alloc.Global.{Global}
 use Rattle.std.proofs.lemmas.List.{drop_all, length-map, map-append, take_all}
 use Rattle.cpm_batch.specs.Outputs.{SessionOutput, left_by}
@@ -10,9 +12,11 @@ use Rattle.cpm_drives.specs.Disks.{images_of}
 use Rattle.cpm_geom.specs.Disk.{Disk}
 use Rattle.cpm_slots.specs.Host.{Host, SlotState, slot_at}
 use Rattle.cpm_machine.specs.MachineState.{MachineState}
+use Rattle.cpm_machine.specs.Saving.{restored, saving_with}
+use Rattle.cpm_machine.specs.SystemDigest.{system_digest}
 use Rattle.cpm_play.specs.Players.{AllDiffer, AllPlayed, ids_of}
 use Rattle.cpm_play.specs.ScriptedSlots.{IsNone}
-use Rattle.cpm_play.specs.Playing.{IsPlayed}
+use Rattle.cpm_play.specs.Playing.{IsPlayed, coming_keys, state_left}
 use Rattle.cpm_play.specs.declared.player.Player.{Player}
 use Rattle.cpm_play.specs.declared.player.Player.TheVariants.{Playing}
 use Rattle.cpm_play.specs.declared.scripted_slot.ScriptedSlot.{ScriptedSlot}
@@ -21,7 +25,7 @@ use Rattle.cpm_run.proofs.EndingLemmas.{ending_same}
 use Rattle.cpm_run.specs.Ending.{ending_of}
 use Rattle.cpm_run.specs.declared.ending.Ending.{Ending}
 use Rattle.cpm_run.specs.Playing.{AllEnded, AreFinished, HavePlayers, IsClosed, files_by, report_by, saved_bytes, saving_if}
-use Rattle.cpm_run.specs.Run.{ReportEntry, files_left, left_of, session_output, report_view, reported_of, reports_of, run_of, saving_over, start_of}
+use Rattle.cpm_run.specs.Run.{IsRestorable, ReportEntry, files_left, left_of, session_output, report_view, reported_of, reports_of, run_of, saving_over, start_of}
 use Rattle.cpm_run.specs.declared.finish.EndedSlot.{EndedSlot}
 use Rattle.cpm_run.specs.declared.report.SessionReport.{SessionReport}
 use Rattle.cpm_run.specs.Settled.{SettledSession}
@@ -63,6 +67,19 @@ files_is system is i s left last same drives saved played =
     ∙ ap (λ (xs : List ℕ). output i.session t.session.console.screen xs left.drives (saved_bytes left.saved)) played.printer
     ∙ ap (λ (ds : List (Option Disk)). output i.session t.session.console.screen t.session.console.printer ds (saved_bytes left.saved)) (drives ∙ ap images_of played.disks)
     ∙ ap (λ (o : Option (List ℕ)). output i.session t.session.console.screen t.session.console.printer (images_of t.session.disks) o) named
+
+-- one that is saved goes on from its saving
+if_named : {P : Type 0} (o : Option (String Global)) → (is_some o ≡ true → P) → IfSome o (λ name. P)
+if_named None h = tt
+if_named (Some name) h = h refl
+
+restorable : (system : Disk) (is : List SettledSession) (i : SettledSession) (s : SessionConfig) (last : MachineState) → i.session ≡ s
+    → (is_some s.save ≡ true → restored (saving_over system last) ≡ Ok (saving_with (system_digest system) last)) → last ≡ state_left system (coming_keys system (start_of is i) i.steps i.keys) i.steps (start_of is i)
+    → IsRestorable system is i
+unfolding left_of
+restorable system is i s last same restores left =
+    if_named i.session.save
+    (λ yes. subst (λ (t : MachineState). restored (saving_over system t) ≡ Ok (saving_with (system_digest system) t)) left (restores (sym (ap (λ (x : SessionConfig). is_some x.save) same) ∙ yes)))
 
 -- ---- one after another
 
@@ -117,6 +134,7 @@ pub record IsFinishedTo (system : Disk) (is : List SettledSession) (k : ℕ) (no
   pub ended : AllEnded system is now (drop k is) rest
   pub rows : map report_view reports ≡ map (λ i. reported_of i.session (run_of system is i)) (take k is)
   pub outputs : map left_by files ≡ map (output_by system is) (take k is)
+  pub savings : All (IsRestorable system is) (take k is)
 
 -- in a host with this system drive, at first and now
 pub record IsFinishing (sessions : List SessionConfig) (k : ℕ) (start now : Host) (players rest : List Player) (reports : List SessionReport) (files : List SessionFiles) : Type 0 where
@@ -150,6 +168,7 @@ module _ (sessions : List SessionConfig) (k : ℕ) (s : SessionConfig) (start ol
           let drives : ended.drives ≡ images_of e.last.session.disks = ap (λ (x : EndedSlot). x.drives) (sym it) ∙ c.drives in
           let saved : saved_bytes ended.saved ≡ saving_if (is_some s.save) start.system e.last =
           ap (λ (x : EndedSlot). saved_bytes x.saved) (sym it) ∙ c.saved ∙ ap (λ (d : Disk). saving_if (is_some s.save) d e.last) drive in
+          let played_last : e.last ≡ state_left start.system (coming_keys start.system (start_of is a.input) a.input.steps a.input.keys) a.input.steps (start_of is a.input) = e.played.state in
           let row : report_view report ≡ reported_of a.input.session (run_of start.system is a.input) = one ∙ report_is start.system is a.input s ended e.last a.session ending played in
           let out : left_by file ≡ output_by start.system is a.input = other ∙ files_is start.system is a.input s ended e.last a.session drives saved played in
           record {
@@ -160,6 +179,8 @@ module _ (sessions : List SessionConfig) (k : ℕ) (s : SessionConfig) (start ol
                 ∙ sym (map-append (λ i. reported_of i.session (run_of start.system is i)) (take k is) (a.input ∷ [])) ∙ ap (map (λ i. reported_of i.session (run_of start.system is i))) (sym a.more);
             outputs = map-append left_by files (file ∷ []) ∙ ap (λ xs. xs ++ left_by file ∷ []) h.outputs ∙ ap (λ x. map (output_by start.system is) (take k is) ++ x ∷ []) out
                 ∙ sym (map-append (output_by start.system is) (take k is) (a.input ∷ [])) ∙ ap (map (output_by start.system is)) (sym a.more);
+            savings = subst (λ (xs : List SettledSession). All (IsRestorable start.system is) xs) (sym a.more)
+                (All-push (IsRestorable start.system is) (take k is) a.input h.savings (restorable start.system is a.input s e.last a.session (λ yes. subst (λ (d : Disk). restored (saving_over d e.last) ≡ Ok (saving_with (system_digest d) e.last)) drive (c.restores yes)) played_last));
           }
 
   -- the system drive stays, where a slot is closed or none is
@@ -194,8 +215,24 @@ pub finished : (sessions : List SessionConfig) (k : ℕ) (start now : Host) (pla
 finished sessions k start now players rest reports files all h = λ is same ended.
     let f = h.to is same ended in
     let long : length is ≤ k = let m = length-map is (λ i. i.session) in let e = ap length same in omega (arith, all, m, e) in
-    let whole : take k is ≡ is = take_all k is long in
-    (f.rows ∙ ap (map (λ i. reported_of i.session (run_of start.system is i))) whole, f.outputs ∙ ap (map (output_by start.system is)) whole)
+    let whole : take k is ≡ is = take_all k is long in (
+      f.rows ∙ ap (map (λ i. reported_of i.session (run_of start.system is i))) whole,
+      f.outputs ∙ ap (map (output_by start.system is)) whole,
+      subst (λ (xs : List SettledSession). All (IsRestorable start.system is) xs) whole f.savings,
+    )
+
+pub none-finished : (sessions : List SessionConfig) (start : Host) (players rest : List Player) (reports : List SessionReport) (files : List SessionFiles) → AllDiffer players → rest ≡ players → reports ≡ [] → files ≡ []
+    → IsFinishing sessions 0 start start players rest reports files
+none-finished sessions start players rest reports files differ whole no_reports no_files = record {
+  system = refl;
+  to = λ is same ended. record {
+    differ = subst (λ (ps : List Player). AllDiffer ps) (sym whole) differ;
+    ended = subst (λ (ps : List Player). AllEnded start.system is start.slots is ps) (sym whole) ended;
+    rows = ap (map report_view) no_reports;
+    outputs = ap (map left_by) no_files;
+    savings = All-nil (IsRestorable start.system is);
+  };
+}
 
 -- ---- all of it
 
@@ -209,10 +246,10 @@ written_back n ps begun played whole first long =
 -- sessions that had players and were played are reported, and leave their files, as their machines alone
 pub all_finished : (system : Disk) (old new : Host) (sessions slice : List SessionConfig) (is : List SettledSession) (ps begun played qs : List Player) (reports : List SessionReport)
     (files : List SessionFiles) → old.system ≡ system → new.system ≡ old.system → slice ≡ sessions → begun ≡ ps → qs ≡ played → map (λ i. i.session) is ≡ sessions → HavePlayers old.slots is ps
-    → AllPlayed old new begun played → AreFinished slice new qs reports files → (map report_view reports ≡ reports_of system is) × (map left_by files ≡ files_left system is)
+    → AllPlayed old new begun played → AreFinished slice new qs reports files → (map report_view reports ≡ reports_of system is) × (map left_by files ≡ files_left system is) × All (IsRestorable system is) is
 all_finished system old new sessions slice is ps begun played qs reports files drive stays whole first last inputs slots h all =
     let from : AllPlayed old new ps played = subst (λ (xs : List Player). AllPlayed old new xs played) first h in
     let ended : AllEnded old.system is new.slots is played = all_ended old.system old.slots new.slots is ps slots played from.long from.each in
     let here : AllEnded new.system is new.slots is qs =
     subst (λ (xs : List Player). AllEnded new.system is new.slots is xs) (sym last) (subst (λ (d : Disk). AllEnded d is new.slots is played) (sym stays) ended) in
-    subst (λ (d : Disk). (map report_view reports ≡ reports_of d is) × (map left_by files ≡ files_left d is)) (stays ∙ drive) (all is (inputs ∙ sym whole) here)
+    subst (λ (d : Disk). (map report_view reports ≡ reports_of d is) × (map left_by files ≡ files_left d is) × All (IsRestorable d is) is) (stays ∙ drive) (all is (inputs ∙ sym whole) here)

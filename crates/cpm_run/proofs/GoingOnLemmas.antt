@@ -1,8 +1,9 @@
 -- The laws of sessions that go on from a saving.
 use Rattle.std.proofs.Common.{◌≡◌, ◌∙◌, ◌+◌, ◌++◌, ℕ, List, [], Option, None, Some, Result, Ok, refl, sym, ap, ap₂, slice_get}
-use Rattle.std.specs.Prelude.{String, option_map}
+use Rattle.std.specs.Prelude.{IfSome, String, option_map}
 use Rattle.std.specs.declared.alloc.Global.{Global}
 use Rattle.std.proofs.lemmas.Option.{none-some, same_Some, slice_get-map}
+use Rattle.cpm_batch.specs.Inputs.{Restores}
 use Rattle.cpm_batch.specs.Outputs.{SessionOutput}
 use Rattle.cpm_drives.specs.Disks.{images_of}
 use Rattle.cpm_geom.specs.Disk.{Disk}
@@ -12,15 +13,14 @@ use Rattle.cpm_machine.specs.Saving.{Saving, restored, saving_with}
 use Rattle.cpm_saved.specs.declared.part.SavingDamage.{SavingDamage}
 use Rattle.cpm_machine.specs.SystemDigest.{system_digest}
 use Rattle.cpm_play.specs.Live.{AreBy}
-use Rattle.cpm_play.specs.Playing.{EndsAs, IsInOrder, alone_by, coming_keys, state_left}
+use Rattle.cpm_play.specs.Playing.{IsInOrder, alone_by, coming_keys, state_left}
 use Rattle.cpm_play.proofs.AloneLemmas.{keyless}
 use Rattle.cpm_play.proofs.RunLemmas.{bare, behind-bare}
 use Rattle.cpm_run.proofs.ComingLemmas.{coming_by, coming_enough}
 use Rattle.cpm_run.proofs.EndingLemmas.{ending_same}
 use Rattle.cpm_run.proofs.LaterLemmas.{goes_on}
-use Rattle.cpm_run.specs.Ending.{ending_of}
-use Rattle.cpm_run.specs.Laws.{GoesOnAlone, GoesOnBehind, GoesOnFrom, IsBothInOne, LeaveAsOne, SavedRunGoesOn, later_keys}
-use Rattle.cpm_run.specs.Run.{files_left, left_of, run_of, saving_over, session_output, start_of}
+use Rattle.cpm_run.specs.Laws.{GoesOnAlone, GoesOnBehind, GoesOnFrom, IsBothInOne, SavedFileGoesOn, SavedRunGoesOn, later_keys}
+use Rattle.cpm_run.specs.Run.{IsRestorable, files_left, left_of, run_of, saving_over, session_output, start_of}
 use Rattle.cpm_run.specs.Settled.{SettledSession, start_by, starts_of}
 
 -- ---- one session
@@ -86,26 +86,40 @@ saved-is : (o : Option (String Global)) (made bytes : List ℕ) → option_map (
 saved-is None made bytes is = absurd (none-some bytes is)
 saved-is (Some name) made bytes is = same_Some made bytes is
 
+saved-has : {P : Type 0} (o : Option (String Global)) (made bytes : List ℕ) → option_map (λ name. made) o ≡ Some bytes → IfSome o (λ name. P) → P
+saved-has None made bytes is named = absurd (none-some bytes is)
+saved-has (Some name) made bytes is named = named
+
 same-saving : (x y : Saving) (r s : Result Saving SavingDamage) → r ≡ s → r ≡ Ok x → s ≡ Ok y → x ≡ y
 same-saving x y r s same a b = cc
 
-begins-there : (system : Disk) (first second : List SettledSession) (i j : SettledSession) (before : SessionOutput) → session_output system i.session (run_of system first i) (left_of system first i) ≡ before
-    → restored (saving_over system (left_of system first i)) ≡ Ok (saving_with (system_digest system) (left_of system first i)) → GoesOnFrom before j → start_of second j ≡ left_of system first i
-begins-there system first second i j before is whole from =
-    let bytes : saving_over system (left_of system first i) ≡ from.bytes =
-    saved-is i.session.save (saving_over system (left_of system first i)) from.bytes (ap (λ (o : SessionOutput). o.saved) is ∙ from.saved) in
-    let saving : saving_with (system_digest system) (left_of system first i) ≡ from.saving =
-    same-saving (saving_with (system_digest system) (left_of system first i)) from.saving (restored (saving_over system (left_of system first i))) (restored from.bytes) (ap restored bytes) whole from.read in
-    ap (start_by (starts_of second)) from.start ∙ ap (λ (x : Saving). x.state) (sym saving)
+begins-by : (system : Disk) (first second : List SettledSession) (i j : SettledSession) → j.start ≡ Restores (saving_with (system_digest system) (left_of system first i)) → start_of second j ≡ left_of system first i
+begins-by system first second i j is = ap (start_by (starts_of second)) is
 
 pub saved-goes_on : SavedRunGoesOn
-saved-goes_on system first second place other i j before after at left at_other left_other order whole from =
-    let here : session_output system i.session (run_of system first i) (left_of system first i) ≡ before = output-there system first place i before at left in
-    let there : session_output system j.session (run_of system second j) (left_of system second j) ≡ after = output-there system second other j after at_other left_other in
-    let both = runs-as-one system first second i j order (begins-there system first second i j before here whole from) in
+saved-goes_on system first second place other i j before after one two order begins =
+    let here : session_output system i.session (run_of system first i) (left_of system first i) ≡ before = output-there system first place i before one.there one.files in
+    let there : session_output system j.session (run_of system second j) (left_of system second j) ≡ after = output-there system second other j after two.there two.files in
+    let both = runs-as-one system first second i j order (begins-by system first second i j begins) in
     record {
       console = both.screen ∙ ap₂ (λ (xs ys : List ℕ). xs ++ ys) (ap (λ (o : SessionOutput). o.console) here) (ap (λ (o : SessionOutput). o.console) there);
       list = both.printer ∙ ap₂ (λ (xs ys : List ℕ). xs ++ ys) (ap (λ (o : SessionOutput). o.list) here) (ap (λ (o : SessionOutput). o.list) there);
       drives = ap images_of both.ending.disks ∙ ap (λ (o : SessionOutput). o.drives) there;
       ending = ending_same (run_of system second j) (alone_by system (coming_keys system (start_of first i) i.steps i.keys ++ later_keys i.steps j.keys) (i.steps + j.steps) (start_of first i)) both.ending;
     }
+
+saving-there : (system : Disk) (first : List SettledSession) (i j : SettledSession) (before : SessionOutput) → session_output system i.session (run_of system first i) (left_of system first i) ≡ before
+    → IsRestorable system first i → GoesOnFrom before j → j.start ≡ Restores (saving_with (system_digest system) (left_of system first i))
+saving-there system first i j before is restorable from =
+    let whole : restored (saving_over system (left_of system first i)) ≡ Ok (saving_with (system_digest system) (left_of system first i)) =
+    saved-has i.session.save (saving_over system (left_of system first i)) from.bytes (ap (λ (o : SessionOutput). o.saved) is ∙ from.saved) restorable in
+    let bytes : saving_over system (left_of system first i) ≡ from.bytes =
+    saved-is i.session.save (saving_over system (left_of system first i)) from.bytes (ap (λ (o : SessionOutput). o.saved) is ∙ from.saved) in
+    let saving : saving_with (system_digest system) (left_of system first i) ≡ from.saving =
+    same-saving (saving_with (system_digest system) (left_of system first i)) from.saving (restored (saving_over system (left_of system first i))) (restored from.bytes) (ap restored bytes) whole from.read in
+    from.start ∙ ap Restores (sym saving)
+
+pub file-goes_on : SavedFileGoesOn
+file-goes_on system first second place other i j before after one two order whole from =
+    saved-goes_on system first second place other i j before after one two order
+    (saving-there system first i j before (output-there system first place i before one.there one.files) whole from)

@@ -1,5 +1,5 @@
 -- Sessions that are kept on the way of a run stand there truly.
-use Rattle.std.proofs.Common.{◌≡◌, ◌∙◌, ◌<◌, ◌≤◌, ◌==◌, ◌⊎◌, inl, inr, ◌++◌, ℕ, zero, suc, Bool, true, false, List, [], ◌∷◌, Option, None, Some, refl, sym, ap, ap₂, subst, arith, append-nil, length, map, take, drop, slice_get, if◌then◌else◌}
+use Rattle.std.proofs.Common.{◌≡◌, ◌∙◌, ◌<◌, ◌≤◌, ◌==◌, nat_lt, ◌⊎◌, inl, inr, ◌++◌, ℕ, zero, suc, Bool, true, false, List, [], ◌∷◌, Option, None, Some, refl, sym, ap, ap₂, subst, arith, append-nil, length, take, slice_get, if◌then◌else◌}
 use Rattle.std.specs.Prelude.{IfSome, option_and_then, option_map}
 use Rattle.std.proofs.lemmas.Bool.{cases_lt}
 use Rattle.std.proofs.lemmas.Bool.Decides.{nat_tests}
@@ -8,14 +8,13 @@ use Rattle.std.proofs.lemmas.Option.{none-some, same_Some, slice_get-map}
 use Rattle.cpm_batch.specs.Inputs.{Forks, Opens, Restores, StartInput}
 use Rattle.cpm_geom.specs.Disk.{Disk}
 use Rattle.cpm_machine.specs.Alone.{due}
-use Rattle.cpm_machine.specs.Calls.{state_behind}
 use Rattle.cpm_machine.specs.MachineState.{MachineState}
-use Rattle.cpm_machine.specs.Saving.{Saving, saving_with}
+use Rattle.cpm_machine.specs.Saving.{saving_with}
 use Rattle.cpm_machine.specs.SystemDigest.{system_digest}
 use Rattle.cpm_play.specs.Live.{AreBy}
 use Rattle.cpm_play.specs.Pacing.{IsOn, forked_pace}
-use Rattle.cpm_play.specs.Players.{AllReady, HaveBecome, IsPlayerGoing, StandsAs, player_slot, player_steps}
-use Rattle.cpm_play.specs.Playing.{IsInOrder, IsQuiet, alone_by, presses_of, state_left}
+use Rattle.cpm_play.specs.Players.{AllBefore, AllReady, HaveBecome, IsPlayerGoing, StandsAs, player_slot, player_steps}
+use Rattle.cpm_play.specs.Playing.{IsQuiet, presses_of}
 use Rattle.cpm_play.specs.ScriptedSlots.{script_keys}
 use Rattle.cpm_play.specs.declared.pace.Pace.{Pace}
 use Rattle.cpm_play.specs.declared.player.Fork.{Fork}
@@ -23,20 +22,19 @@ use Rattle.cpm_play.specs.declared.player.Player.{Player}
 use Rattle.cpm_play.specs.declared.player.Player.TheVariants.{Playing, Waiting}
 use Rattle.cpm_play.specs.declared.scripted_slot.ScriptedSlot.{ScriptedSlot}
 use Rattle.cpm_play.proofs.ForkLemmas.{on-fork}
-use Rattle.cpm_play.proofs.PlaceLemmas.{same-at}
-use Rattle.cpm_play.proofs.PlayerLemmas.{given-at, parent-of, same-playing, waiting-given}
+use Rattle.cpm_play.proofs.PlayerLemmas.{parent-of, waiting-given}
 use Rattle.cpm_play.proofs.RunLemmas.{bare, quiet-bare}
 use Rattle.cpm_run.proofs.PlayLemmas.{all_ready, keys_are, start_is, steps_are}
 use Rattle.cpm_run.specs.Kept.{standing_of, standing_of_player, standing_of_slot}
 use Rattle.cpm_run.specs.Laws.{KeptIsTrue}
-use Rattle.cpm_run.specs.Playing.{ArePressable, HasPlayer, HasPlayerBy, HavePlayers, IsForkFor}
+use Rattle.cpm_run.specs.Playing.{ArePressable, HasPlayer, HasPlayerBy, HavePlayers}
 use Rattle.cpm_run.specs.Run.{start_of}
-use Rattle.cpm_run.specs.Settled.{SettledSession, start_by, starts_of}
+use Rattle.cpm_run.specs.Settled.{SettledSession}
 use Rattle.cpm_run.specs.Rest.{RunStanding, SessionStanding, standing_at, stands_by}
 use Rattle.cpm_run.specs.Standing.{IsBeforeFork, IsTrueOf, IsTrueStanding, StandsThere}
 use Rattle.cpm_script.specs.Fork.{keys_before}
 use Rattle.cpm_script.specs.declared.script.Key.{Key}
-use Rattle.cpm_slots.specs.Host.{Host, SlotState, saving_of, slot_at}
+use Rattle.cpm_slots.specs.Host.{Host, SlotState, saving_of}
 
 -- ---- one session
 
@@ -62,6 +60,7 @@ pub stands-on : (system : Disk) (i : SettledSession) (start now : MachineState) 
     → StandsThere system start i (record { pressed = pace.pressed; done = pace.done; console = console; list = list; saving = saving_with (system_digest system) now })
 stands-on system i start now pace console list on quiet = record {
   within = let low = on.all.within in let most = on.all.most in omega (arith, low, most);
+  few = on.within;
   early = by-none pace.done (take pace.pressed i.keys) on.came;
   come = on.coming;
   later = on.later;
@@ -69,6 +68,14 @@ stands-on system i start now pace console list on quiet = record {
   list = sym (append-nil list) ∙ ap (λ (xs : List ℕ). list ++ xs) (sym quiet.printer) ∙ ap (λ (s : MachineState). s.session.console.printer) on.state;
   saving = ap (saving_with (system_digest system)) (quiet-bare now quiet ∙ ap bare on.state);
 }
+
+-- those that were pressed are among the keys before a fork
+taken-before : (at n : ℕ) (keys own : List Key) → AllBefore at (take n keys) → n ≤ length keys → take n (keys_before at keys ++ own) ≡ take n keys
+taken-before at zero keys own before within = refl
+taken-before at (suc n) [] own before within = absurd (let no : ⊥ = omega (arith, within) in no)
+taken-before at (suc n) (k ∷ ks) own before within =
+    let early : nat_lt k.count at ≡ true = let first = before.0 in grind (arith, nat_tests) in
+    rw early (ap (λ (xs : List Key). k ∷ xs) (taken-before at n ks own before.1 (omega (arith, within))))
 
 -- ---- sessions and their players
 
@@ -115,14 +122,14 @@ true-own system inputs all own i s is there =
 
 -- one that is still to be forked from one that has
 true-fork : (system : Disk) (inputs : List SettledSession) (all : RunStanding) (own : Option SessionStanding) (i : SettledSession) (s : SessionStanding) (parent at : ℕ) → own ≡ None → i.start ≡ Forks parent at
-    → standing_at all parent ≡ Some s → s.done ≤ at → StandsThere system (start_of inputs i) i s → IsTrueOf system inputs all own i
+    → standing_at all parent ≡ Some s → (s.done ≤ at) × AllBefore at (take s.pressed i.keys) → StandsThere system (start_of inputs i) i s → IsTrueOf system inputs all own i
 true-fork system inputs all own i s parent at none begins stands early there =
     subst (λ (o : Option SessionStanding). IsTrueOf system inputs all o i) (sym none)
     (record {
       there = subst (λ (b : StartInput). IfSome (stands_by all None b) (StandsThere system (start_of inputs i) i)) (sym begins)
           (subst (λ (o : Option SessionStanding). IfSome o (StandsThere system (start_of inputs i) i)) (sym stands) there);
-      ahead = subst (λ (b : StartInput). IsBeforeFork None (stands_by all None b) b) (sym begins)
-          (subst (λ (o : Option SessionStanding). IsBeforeFork None o (Forks parent at)) (sym stands) early);
+      ahead = subst (λ (b : StartInput). IsBeforeFork None (stands_by all None b) i.keys b) (sym begins)
+          (subst (λ (o : Option SessionStanding). IsBeforeFork None o i.keys (Forks parent at)) (sym stands) early);
     })
 
 module _ (inputs : List SettledSession) (old h : Host) (ps now : List Player) (pressable : ArePressable old.system inputs) (all : HavePlayers old.slots inputs ps) (come : HaveBecome old h ps now) where
@@ -162,10 +169,14 @@ module _ (inputs : List SettledSession) (old h : Host) (ps now : List Player) (p
       let begins = fork-start old.slots i.start i fork has in
       let on = on-fork h.system (script_keys slot) source.own (player_steps (Playing source.first)) fork.at fork.steps going.start slot.pace slot.console.items slot.list.items s wait.early wait.done given.1.within
       source.order going.resting.playing.on in
+      let keys : keys_before fork.at (script_keys slot) ++ source.own ≡ i.keys = sym source.keys ∙ begins.1 in
+      let before : AllBefore fork.at (take slot.pace.pressed i.keys) =
+      subst (λ (ks : List Key). AllBefore fork.at (take slot.pace.pressed ks)) keys
+      (subst (λ (ks : List Key). AllBefore fork.at ks) (sym (taken-before fork.at slot.pace.pressed (script_keys slot) source.own wait.early going.resting.playing.on.within)) wait.early) in
       let there = stands-by i (keys_before fork.at (script_keys slot) ++ source.own) fork.steps going.start s (forked_pace slot.pace fork.steps) slot.console.items slot.list.items (sym source.keys ∙ begins.1) begins.2
       (start_is old.system old.slots h.slots inputs ps all i.start i (Waiting fork) going.start has (ap (player_slot old.slots) source.given_so ∙ going.started)) on going.resting.quiet in
       true-fork old.system inputs (standing_of h now) (standing_at (standing_of h now) place) i (standing_of_slot h slot s) fork.parent fork.at (standing-there h now place (Waiting fork) at) begins.0
-      (standing-there h now fork.parent (Playing slot) wait.plays ∙ ap (option_map (standing_of_slot h slot)) going.resting.playing.stands) wait.done there
+      (standing-there h now fork.parent (Playing slot) wait.plays ∙ ap (option_map (standing_of_slot h slot)) going.resting.playing.stands) (wait.done, before) there
 
   each-true : (place : ℕ) (i : SettledSession) (p q : Player) → slice_get now place ≡ Some q → HasPlayer old.slots i p → StandsAs old.slots ps now h p q →
       IsTrueOf old.system inputs (standing_of h now) (standing_at (standing_of h now) place) i

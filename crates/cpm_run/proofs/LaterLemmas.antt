@@ -1,5 +1,5 @@
 -- A session that goes on from where another one stands is the machine alone.
-use Rattle.std.proofs.Common.{◌≡◌, ◌∙◌, ◌+◌, ◌-◌, ◌<◌, ◌≤◌, ◌==◌, ◌&&◌, ◌++◌, nat_lt, ℕ, zero, suc, Bool, true, false, List, [], ◌∷◌, refl, sym, ap, ap₂, subst, arith, append-nil, append_assoc, add-zero, add-suc, if◌then◌else◌}
+use Rattle.std.proofs.Common.{◌≡◌, ◌∙◌, ◌+◌, ◌<◌, ◌==◌, ◌++◌, nat_lt, ℕ, zero, suc, Bool, true, false, List, [], ◌∷◌, refl, sym, ap, ap₂, arith, append_assoc, add-zero, add-suc, if◌then◌else◌}
 use Rattle.std.proofs.lemmas.Bool.Decides.{nat_tests}
 use Rattle.cpm_geom.specs.Disk.{Disk}
 use Rattle.cpm_machine.specs.Alone.{Press, alone, due, with_keys}
@@ -9,8 +9,7 @@ use Rattle.cpm_machine.specs.Step.{is_running, step}
 use Rattle.cpm_machine.proofs.AloneLaws.{step-behind}
 use Rattle.cpm_machine.proofs.PressLaws.{alone-late}
 use Rattle.cpm_play.specs.Live.{AreBy}
-use Rattle.cpm_play.specs.Pacing.{HaveComeAfter}
-use Rattle.cpm_play.specs.Playing.{alone_by, coming_after, coming_keys, presses_of, runs_at, state_left, without_list, without_text}
+use Rattle.cpm_play.specs.Playing.{alone_by, presses_of, runs_at, state_left, without_list, without_text}
 use Rattle.cpm_play.proofs.AloneLemmas.{presses-append}
 use Rattle.cpm_play.proofs.GoingLemmas.{none-after}
 use Rattle.cpm_run.specs.Laws.{later_keys}

@@ -15,6 +15,7 @@ pub mod PressableLemmas
 pub mod RecordLemmas
 pub mod ReplayLemmas
 pub mod RestLemmas
+pub mod RestPressableLemmas
 pub mod RoomLemmas
 pub mod RunLemmas
 pub mod ScriptLemmas

@@ -3,8 +3,8 @@ use Rattle.std.proofs.Common.{◌≡◌, ◌∙◌, ◌+◌, ◌<◌, ◌≤◌,
 use Rattle.std.specs.Prelude.{IfSome, nat_le, option_map}
 use Rattle.std.proofs.lemmas.Bool.{cases_lt}
 use Rattle.std.proofs.lemmas.Bool.Decides.{nat_tests}
-use Rattle.std.proofs.lemmas.List.{at_drop_all, drop_more, length-map, take_all, take_more}
-use Rattle.std.proofs.lemmas.Option.{slice_get-get_or, slice_get-map, slice_get_past}
+use Rattle.std.proofs.lemmas.List.{at_drop_all, drop_at, drop_more, length-map, take_all, take_more}
+use Rattle.std.proofs.lemmas.Option.{same_Some, slice_get-get_or, slice_get-map, slice_get_past}
 use Rattle.cpm_batch.specs.Inputs.{IsOpened, start_view}
 use Rattle.cpm_batch.specs.declared.input.Start.{Start}
 use Rattle.cpm_batch.specs.declared.input.Start.TheVariants as start
@@ -102,3 +102,20 @@ pressable-all is n past so_far system place = by_place (cases_lt place n)
         let long = length-map is settled_view in
         subst (λ (o : Option SettledSession). IfSome o (λ i. IsPressableBy system (map settled_view is) i.start i))
         (sym (slice_get_past (map settled_view is) place (let low : n ≤ place = most in let end : length is ≤ n = past in omega (arith, long)))) tt
+
+-- ---- what is found of sessions that can
+
+-- the own keys of one that is forked are in order
+pub fork-own : (is : List SettledInput) (i other : SettledInput) (parent at : ℕ) (first : List Key) → parent < length is → other ≡ get_or is parent other → first ≡ keys_before at other.keys.items
+    → (system : Disk) → IsForkPressable system (map settled_view is) (settled_view i) parent at → IsInOrder at (drop (length first) i.keys.items)
+fork-own is i other parent at first within there before system can =
+    let here : slice_get (map settled_view is) parent ≡ Some (settled_view other) = slice_get-map settled_view is parent ∙ ap (option_map settled_view) (slice_get-get_or is parent other within ∙ ap Some (sym there)) in
+    let same : can.other ≡ settled_view other = same_Some can.other (settled_view other) (sym can.there ∙ here) in
+    let joined : i.keys.items ≡ first ++ can.own = can.keys ∙ ap (λ (s : SettledSession). keys_before at s.keys ++ can.own) same ∙ ap (λ (ks : List Key). ks ++ can.own) (sym before) in
+    let own : drop (length first) i.keys.items ≡ can.own = ap (drop (length first)) joined ∙ drop_at first can.own (length first) refl in
+    subst (λ (ks : List Key). IsInOrder at ks) (sym own) can.order
+
+-- one of them
+pub one-there : (P : SettledSession → Type 0) (is : List SettledInput) (n : ℕ) (x : SettledInput) → n < length is → x ≡ get_or is n x → ((place : ℕ) → IfSome (slice_get (map settled_view is) place) P) → P (settled_view x)
+one-there P is n x within at all =
+    subst (λ (o : Option SettledSession). IfSome o P) (slice_get-map settled_view is n ∙ ap (option_map settled_view) (slice_get-get_or is n x within ∙ ap Some (sym at))) (all n)

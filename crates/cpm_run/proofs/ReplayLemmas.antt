@@ -1,13 +1,16 @@
 -- The records of settled sessions are read back.
-use Rattle.std.proofs.Common.{◌≡◌, ◌∙◌, ◌<◌, ◌≤◌, ◌^◌, ℕ, List, [], ◌∷◌, Option, Ok, length, drop, get_or, ap, sym, subst, arith}
+use Rattle.std.proofs.Common.{◌≡◌, ◌∙◌, ◌<◌, ◌≤◌, ◌^◌, ◌++◌, nat_lt, ℕ, Bool, true, false, List, [], ◌∷◌, Option, Ok, length, drop, get_or, ap, refl, sym, subst, arith, if◌then◌else◌}
 use Rattle.std.specs.Prelude.{IfSome}
 use Rattle.std.specs.List.{All}
+use Rattle.std.proofs.lemmas.Bool.Decides.{nat_tests}
 use Rattle.std.proofs.lemmas.List.{drop_at}
 use Rattle.std.proofs.lemmas.List.Elements.{All-cons, All-head, All-nil, All-tail}
 use Rattle.std.proofs.lemmas.Option.{slice_get-get_or}
+use Rattle.cpm_batch.specs.Inputs.{Forks, IsOpened, Opens, Restores, StartInput}
 use Rattle.cpm_geom.specs.Disk.{Disk}
 use Rattle.cpm_play.specs.Playing.{IsInOrder}
 use Rattle.cpm_script.proofs.RecordingLemmas.{recorded-read, recording-read}
+use Rattle.cpm_script.specs.Fork.{keys_before}
 use Rattle.cpm_script.specs.Recording.{AreTyped, recorded, recording}
 use Rattle.cpm_script.specs.Script.{most_keys, script}
 use Rattle.cpm_script.specs.declared.script.Key.{Key}
@@ -51,3 +54,29 @@ all_give system ss sound = λ place d within. (one_sound system ss place d sound
 
 pub all_below : (system : Disk) (ss : List SettledSession) → AreSound system ss → All (λ s. AreBelow80h s.keys) ss
 all_below system ss sound = λ place d within. (one_sound system ss place d sound within).1
+
+-- followed by others that come with the fork or later, keys before it are in order
+order_forked : (n at : ℕ) (keys own : List Key) → n ≤ at → IsInOrder n keys → IsInOrder at own → IsInOrder n (keys_before at keys ++ own)
+order_forked n at [] own less order later = order_from n at own less later
+order_forked n at (k ∷ ks) own less order later = by_test (nat_lt k.count at) refl (order_forked k.count at ks own) (order_forked n at ks own)
+  where
+    by_test : (b : Bool) → nat_lt k.count at ≡ b → (k.count ≤ at → IsInOrder k.count ks → IsInOrder at own → IsInOrder k.count (keys_before at ks ++ own)) → (n ≤ at → IsInOrder n ks → IsInOrder at own → IsInOrder n (keys_before at ks ++ own)) →
+        IsInOrder n ((if b then k ∷ keys_before at ks else keys_before at ks) ++ own)
+    by_test true e first rest = (order.0, first (grind (arith, nat_tests)) order.1 later)
+    by_test false e first rest = let low : n ≤ k.count = order.0 in rest less (order_from n k.count ks low order.1) later
+
+-- the keys of each session are in order
+opened_order : (system : Disk) (ss : List SettledSession) (b : StartInput) (s : SettledSession) → IsOpened b → IsPressableBy system ss b s → IsInOrder 0 s.keys
+opened_order system ss (Opens cpu quota drives) s opened can = can.0
+opened_order system ss (Forks parent at) s opened can = absurd opened
+opened_order system ss (Restores x) s opened can = can.0
+
+pressed_order : (system : Disk) (ss : List SettledSession) → AreSound system ss → (b : StartInput) (s : SettledSession) → IsPressableBy system ss b s → IsInOrder 0 s.keys
+pressed_order system ss sound (Opens cpu quota drives) s can = can.0
+pressed_order system ss sound (Restores x) s can = can.0
+pressed_order system ss sound (Forks parent at) s can =
+    let there = subst (λ (o : Option SettledSession). IfSome o (λ s. IsPressableBy system ss s.start s × AreBelow80h s.keys × GivesItsKeysAgain s)) can.there (sound parent) in
+    subst (λ (ks : List Key). IsInOrder 0 ks) (sym can.keys) (order_forked 0 at can.other.keys can.own (omega arith) (opened_order system ss can.other.start can.other can.opened there.0) can.order)
+
+pub all_ordered : (system : Disk) (ss : List SettledSession) → AreSound system ss → All (λ s. IsInOrder 0 s.keys) ss
+all_ordered system ss sound = λ place d within. pressed_order system ss sound (get_or ss place d).start (get_or ss place d) (one_sound system ss place d sound within).0

@@ -8,8 +8,8 @@ use Rattle.cpm_batch.specs.Outputs.{SessionOutput, left_by}
 use Rattle.cpm_batch.specs.declared.output.SessionFiles.{SessionFiles}
 use Rattle.cpm_config.specs.declared.config.SessionConfig.{SessionConfig}
 use Rattle.cpm_geom.specs.Disk.{Disk}
-use Rattle.cpm_run.specs.Kept.{kept_view, standing_view}
-use Rattle.cpm_run.specs.Run.{IsLeftFrom, ReportEntry, files_from, files_left, left_of, report_behind, report_view, reported_of, reports_behind, reports_from, reports_of, run_of, session_output}
+use Rattle.cpm_run.specs.Kept.{standing_view}
+use Rattle.cpm_run.specs.Run.{AreRestorable, IsLeftFrom, ReportEntry, files_from, files_left, left_of, report_behind, report_view, reported_of, reports_behind, reports_from, reports_of, run_of, session_output}
 use Rattle.cpm_run.specs.Settled.{SettledSession, settled_view}
 use Rattle.cpm_run.specs.Rest.{RunStanding, SessionStanding, output_behind, outputs_behind, rest_from, rest_of, rest_of_session, rest_start, rests, standing_at, stands_all, stands_by}
 use Rattle.cpm_run.specs.declared.report.SessionReport.{SessionReport}
@@ -190,10 +190,12 @@ over-all digest system kept n is past before place = by_place (cases_lt place n)
 
 -- what the rest of a run leaves that was played over a copy of the system drive
 pub left_by_rest : (system drive : Disk) (inputs sessions : List SettledSession) (s : RunStanding) (reports : List ReportEntry) (files : List SessionOutput) → drive ≡ system → sessions ≡ inputs
-    → reports ≡ reports_from drive sessions (Some s) → files ≡ files_from drive sessions (Some s) → IsLeftFrom system inputs s reports files
-left_by_rest system drive inputs sessions s reports files same are reported left = record {
+    → reports ≡ reports_from drive sessions (Some s) → files ≡ files_from drive sessions (Some s) → AreRestorable drive (rest_of sessions s)
+    → IsLeftFrom system inputs s reports files
+left_by_rest system drive inputs sessions s reports files same are reported left savings = record {
   from = Some s;
   either = refl;
   reported = reported ∙ (λ i. reports_from (same i) (are i) (Some s));
   files = left ∙ (λ i. files_from (same i) (are i) (Some s));
+  savings = subst (λ (d : Disk). AreRestorable d (rest_of inputs s)) same (subst (λ (is : List SettledSession). AreRestorable drive (rest_of is s)) are savings);
 }

@@ -1,11 +1,13 @@
 -- A slot that is refused, and a slot that is closed.
 use Rattle.std.proofs.Common.{◌≡◌, ◌≢◌, ◌∙◌, ℕ, Bool, true, false, ◌∷◌, List, Option, Some, None, ap, refl, subst, sym}
 use Rattle.std.specs.Prelude.{⊤, IfSome, Result, Ok, Err, if◌then◌else◌, not, option_map}
+use Rattle.std.proofs.lemmas.Option.{same_Some}
 use Rattle.cpm_drives.specs.Disks.{images_of}
 use Rattle.cpm_slots.specs.Host.{Host, IsRestoreRefusal, after_ask, are_same, close_reply, lacks_frames, lacks_slot, reply_at, restore_fault, slot_at, system_fault, with_added, with_slot_restored}
 use Rattle.cpm_slots.specs.declared.event.HostRestoreError.{HostRestoreError}
 use Rattle.cpm_slots.specs.declared.event.HostRestoreError.TheVariants as restore
 use Rattle.cpm_saved.specs.declared.part.SavingDamage.{SavingDamage}
+use Rattle.cpm_slots.specs.Restoring.{IsSlotSaved}
 use Rattle.cpm_slots.specs.Serving.{Closes, serve_slot}
 use Rattle.cpm_slots.specs.declared.event.Refusal.{Refusal}
 use Rattle.cpm_slots.specs.declared.event.Reply.{Reply}
@@ -13,7 +15,7 @@ use Rattle.cpm_slots.specs.declared.event.Reply.TheVariants as reply
 use Rattle.cpm_slots.proofs.EventLaws.{apart}
 use Rattle.cpm_machine.specs.MachineState.{MachineState}
 use Rattle.cpm_machine.specs.Opening.{IsRefusal}
-use Rattle.cpm_machine.specs.Saving.{Saving}
+use Rattle.cpm_machine.specs.Saving.{Saving, restored, saving_with}
 use Rattle.cpm_machine.specs.Serve.{look_of}
 use Rattle.cpm_machine.specs.SystemDigest.{system_digest}
 use Rattle.cpm_machine.specs.declared.opening.OpenError.{OpenError}
@@ -24,7 +26,7 @@ use Rattle.cpm_play.specs.declared.player.Player.TheVariants.{Playing}
 use Rattle.cpm_play.specs.declared.scripted_slot.ScriptedSlot.{ScriptedSlot}
 use Rattle.cpm_run.specs.Ending.{ending_of}
 use Rattle.cpm_run.specs.Playing.{IsClosed, saved_bytes, saving_if}
-use Rattle.cpm_run.specs.Run.{restoring_fault}
+use Rattle.cpm_run.specs.Run.{restoring_fault, saving_over}
 use Rattle.cpm_run.specs.declared.ending.Ending.{Ending}
 use Rattle.cpm_run.specs.declared.error.StartFault.{StartFault}
 use Rattle.cpm_run.specs.declared.error.StartFault.TheVariants.{Elsewhere, Unopened}
@@ -78,13 +80,22 @@ restored_so h new x read is fits made = (
 pub refused_so : (h : Host) (x : Saving) (read : Result Saving SavingDamage) (fault : HostRestoreError) → read ≡ Ok x → IsRestoreRefusal (restore_fault h read) fault → IsRestoreRefusal (system_fault h x.system_digest x.state.quota) fault
 refused_so h x read fault is r = subst (λ (y : Result Saving SavingDamage). IsRestoreRefusal (restore_fault h y) fault) is r
 
+-- what is restored of a saving that a host made
+pub saved_restores : (h : Host) (id : ℕ) (bytes : List ℕ) (s : MachineState) → IsSlotSaved h id bytes → slot_at id h.slots ≡ Some s
+    → restored (saving_over h.system s) ≡ Ok (saving_with (system_digest h.system) s)
+saved_restores h id bytes s saved at =
+    let same : saved.state ≡ s = same_Some saved.state s (sym saved.there ∙ at) in
+    let there : restored (saving_over h.system saved.state) ≡ Ok (saving_with (system_digest h.system) saved.state) = ap restored (sym saved.saving.saved) ∙ saved.saving.restores in
+    subst (λ (t : MachineState). restored (saving_over h.system t) ≡ Ok (saving_with (system_digest h.system) t)) same there
+
 -- of a slot that nothing has changed yet, whose ending was read, and which was saved, if it is to be
 pub first_closed : (p : ScriptedSlot) (left : EndedSlot) (ps rest all : List Player) (s : MachineState) (is_saved : Bool) (old looked saved new : Host) (c : Closed) → all ≡ Playing p ∷ ps → all ≡ Playing left.slot ∷ rest
     → slot_at p.id.0 old.slots ≡ Some s → ((t : MachineState) → slot_at left.slot.id.0 old.slots ≡ Some t → Some left.ending ≡ Some (ending_of t)) → looked ≡ old
-    → ((t : MachineState) → slot_at left.slot.id.0 looked.slots ≡ Some t → saved_bytes left.saved ≡ saving_if is_saved looked.system t) → saved ≡ looked
+    → ((t : MachineState) → slot_at left.slot.id.0 looked.slots ≡ Some t → saved_bytes left.saved ≡ saving_if is_saved looked.system t)
+    → ((t : MachineState) → slot_at left.slot.id.0 looked.slots ≡ Some t → is_saved ≡ true → restored (saving_over looked.system t) ≡ Ok (saving_with (system_digest looked.system) t)) → saved ≡ looked
     → IfSome (slot_at left.slot.id.0 saved.slots) (λ s. (c.look ≡ look_of s) × (c.drives ≡ images_of s.session.disks)) → left.drives ≡ c.drives → new ≡ after_ask saved left.slot.id.0 Closes
     → IsClosed p ps s is_saved old new (Some left) rest
-first_closed p left ps rest all s is_saved old looked saved new c is first at reads stays saves kept closed drives closes =
+first_closed p left ps rest all s is_saved old looked saved new c is first at reads stays saves restores kept closed drives closes =
     let same : left.slot ≡ p = cc in
     let behind : rest ≡ ps = cc in
     let here : slot_at left.slot.id.0 old.slots ≡ Some s = ap (λ (x : ScriptedSlot). slot_at x.id.0 old.slots) same ∙ at in
@@ -101,6 +112,7 @@ first_closed p left ps rest all s is_saved old looked saved new c is first at re
       ending = let both = reads s here in cc;
       drives = drives ∙ of_it.1;
       saved = saves s there ∙ ap (λ (h : Host). saving_if is_saved h.system s) stays;
+      restores = λ yes. subst (λ (h : Host). restored (saving_over h.system s) ≡ Ok (saving_with (system_digest h.system) s)) stays (restores s there yes);
       others_play = behind;
       others = λ id away. ap (λ (h : Host). slot_at id h.slots) so ∙ apart old p.id.0 id Closes away;
     }

@@ -1,29 +1,24 @@
 -- The rest of a run from where it stands leaves what the whole run leaves.
-use Rattle.std.proofs.Common.{◌≡◌, ◌∙◌, ◌+◌, ◌-◌, ◌<◌, ◌≤◌, ◌++◌, ℕ, zero, suc, List, [], ◌∷◌, Option, None, Some, refl, sym, ap, ap₂, subst, arith, append-nil, length, map, take, drop, slice_get, take-append-drop}
+use Rattle.std.proofs.Common.{◌≡◌, ◌∙◌, ◌+◌, ◌-◌, ◌<◌, ◌≤◌, ◌++◌, ℕ, zero, suc, List, [], ◌∷◌, Option, None, Some, refl, sym, ap, ap₂, subst, arith, length, map, take, drop, slice_get, take-append-drop}
 use Rattle.std.specs.Prelude.{IfSome, option_map}
 use Rattle.std.proofs.lemmas.List.{length-append}
-use Rattle.std.proofs.lemmas.Option.{none-some, same_Some, slice_get-map, slice_get_within}
+use Rattle.std.proofs.lemmas.Option.{none-some, slice_get-map}
 use Rattle.cpm_batch.specs.Inputs.{Forks, Opens, Restores, StartInput}
 use Rattle.cpm_batch.specs.Outputs.{SessionOutput}
-use Rattle.cpm_drives.specs.Disks.{images_of}
 use Rattle.cpm_geom.specs.Disk.{Disk}
 use Rattle.cpm_machine.specs.Calls.{state_behind}
 use Rattle.cpm_machine.specs.MachineState.{MachineState}
 use Rattle.cpm_machine.specs.Saving.{Saving}
-use Rattle.cpm_play.specs.Live.{AreBy}
 use Rattle.cpm_play.specs.Pacing.{HaveComeAfter}
 use Rattle.cpm_play.specs.Playing.{IsInOrder, alone_by, coming_keys, state_left}
 use Rattle.cpm_play.proofs.RunLemmas.{behind-bare}
 use Rattle.cpm_run.proofs.ComingLemmas.{left_by_coming}
-use Rattle.cpm_run.proofs.EndingLemmas.{ending_same}
-use Rattle.cpm_run.proofs.GoingOnLemmas.{both_in_one}
 use Rattle.cpm_run.proofs.LaterLemmas.{goes_on}
-use Rattle.cpm_run.specs.Ending.{ending_of}
-use Rattle.cpm_run.specs.Laws.{IsBothInOne, RestIsWhole, later_keys}
-use Rattle.cpm_run.specs.Run.{ReportEntry, left_of, report_behind, reported_of, reports_behind, run_of, saving_over, session_output, start_of}
+use Rattle.cpm_run.specs.Laws.{RestIsWhole, later_keys}
+use Rattle.cpm_run.specs.Run.{ReportEntry, left_of, report_behind, reported_of, reports_behind, run_of, session_output, start_of}
 use Rattle.cpm_run.specs.Settled.{SettledSession, opening_at, opening_of, start_by, starts_of}
-use Rattle.cpm_run.specs.Rest.{RunStanding, SessionStanding, keys_left, output_behind, outputs_behind, rest_from, rest_of, rest_of_session, rest_start, rests, standing_at, stands_all, stands_by}
-use Rattle.cpm_run.specs.Standing.{IsTrueOf, IsTrueStanding, StandsThere}
+use Rattle.cpm_run.specs.Rest.{RunStanding, SessionStanding, keys_left, output_behind, outputs_behind, rest_from, rest_of_session, rest_start, rests, standing_at, stands_all, stands_by}
+use Rattle.cpm_run.specs.Standing.{IsTrueOf, StandsThere}
 use Rattle.cpm_script.specs.declared.script.Key.{Key}
 
 -- ---- one session

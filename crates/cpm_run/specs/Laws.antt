@@ -1,5 +1,5 @@
 -- Laws of sessions that go on from a saving. (own)
-use Rattle.std.specs.Prelude.{◌≡◌, ℕ, ◌+◌, List, ◌++◌, map, slice_get, Option, Some, Ok}
+use Rattle.std.specs.Prelude.{◌≡◌, ℕ, ◌+◌, List, ◌++◌, map, slice_get, Some, Ok}
 use Rattle.cpm_batch.specs.Inputs.{Restores}
 use Rattle.cpm_batch.specs.Outputs.{SessionOutput}
 use Rattle.cpm_drives.specs.Disks.{images_of}
@@ -13,9 +13,9 @@ use Rattle.cpm_play.specs.Playing.{EndsAs, IsInOrder, alone_by, coming_keys, sta
 use Rattle.cpm_play.specs.Players.{HaveBecome}
 use Rattle.cpm_play.specs.declared.player.Player.{Player}
 use Rattle.cpm_run.specs.Ending.{ending_of}
-use Rattle.cpm_run.specs.Kept.{standing_of}
+use Rattle.cpm_run.specs.Kept.{HaveFewKeys, standing_of}
 use Rattle.cpm_run.specs.Playing.{ArePressable, HavePlayers}
-use Rattle.cpm_run.specs.Run.{files_left, left_of, reports_behind, reports_of, run_of, saving_over, start_of}
+use Rattle.cpm_run.specs.Run.{IsRestorable, files_left, left_of, reports_behind, reports_of, run_of, start_of}
 use Rattle.cpm_run.specs.Settled.{SettledSession}
 use Rattle.cpm_run.specs.Rest.{RunStanding, outputs_behind, rest_of, stands_all}
 use Rattle.cpm_run.specs.Standing.{IsTrueStanding, join_standings}
@@ -49,6 +49,32 @@ GoesOnBehind = (system : Disk) (early later : List Key) (n m : ℕ) (console lis
 
 -- ---- runs
 
+-- two sessions have left files, the second of which ended so, as one machine that shows what both show, and comes to the drives and the ending of the second
+pub record LeaveAsOne (before after : SessionOutput) (second whole : MachineState) : Type 0 where
+  pub console : whole.session.console.screen ≡ before.console ++ after.console
+  pub list : whole.session.console.printer ≡ before.list ++ after.list
+  pub drives : images_of whole.session.disks ≡ after.drives
+  pub ending : ending_of whole ≡ ending_of second
+
+-- the session of a run that left the first files, and that of another run that left the second ones, over the same system drive, have left them as one machine
+-- alone, from where the first began, for the steps of both: by the keys that came to the first, and those of the second, which count from the saving
+abbrev pub AreOneAlone : Disk → (first second : List SettledSession) → (i j : SettledSession) → (before after : SessionOutput) → Type 0
+AreOneAlone system first second i j before after =
+    let came = coming_keys system (start_of first i) i.steps i.keys in
+    LeaveAsOne before after (run_of system second j) (alone_by system (came ++ later_keys i.steps j.keys) (i.steps + j.steps) (start_of first i))
+
+-- a session stands at this place of a run, and has left these files
+pub record HasLeft (system : Disk) (inputs : List SettledSession) (place : ℕ) (i : SettledSession) (left : SessionOutput) : Type 0 where
+  pub there : slice_get inputs place ≡ Some i
+  pub files : slice_get (files_left system inputs) place ≡ Some left
+
+-- So it is where a session of a run goes on from the saving of what a session of another run came to. (Of each run that succeeds the keys of each session are
+-- in order: `HasRun`, orders.)
+abbrev pub SavedRunGoesOn : Type 0
+SavedRunGoesOn = (system : Disk) (first second : List SettledSession) (place other : ℕ) (i j : SettledSession) (before after : SessionOutput) →
+    HasLeft system first place i before → HasLeft system second other j after → IsInOrder 0 i.keys →
+    j.start ≡ Restores (saving_with (system_digest system) (left_of system first i)) → AreOneAlone system first second i j before after
+
 -- it goes on from the saving that another session has left in its files
 pub record GoesOnFrom (before : SessionOutput) (j : SettledSession) : Type 0 where
   pub bytes : List ℕ
@@ -57,25 +83,12 @@ pub record GoesOnFrom (before : SessionOutput) (j : SettledSession) : Type 0 whe
   pub read : restored bytes ≡ Ok saving
   pub start : j.start ≡ Restores saving
 
--- two sessions have left files, the second of which ended so, as one machine that shows what both show, and comes to the drives and the ending of the second
-pub record LeaveAsOne (before after : SessionOutput) (second whole : MachineState) : Type 0 where
-  pub console : whole.session.console.screen ≡ before.console ++ after.console
-  pub list : whole.session.console.printer ≡ before.list ++ after.list
-  pub drives : images_of whole.session.disks ≡ after.drives
-  pub ending : ending_of whole ≡ ending_of second
-
--- Where a session of a run goes on from the saving that a session of another run left, over the same system drive, the texts of both, one behind the other, are
--- those of one machine alone, from where the first began, for the steps of both: by the keys that came to the first, and those of the second, which count from
--- the saving. (The keys of the first are in order, as those of each that is played. Its saving is what is restored of its bytes, as of each that a host
--- makes.)
-abbrev pub SavedRunGoesOn : Type 0
-SavedRunGoesOn = (system : Disk) (first second : List SettledSession) (place other : ℕ) (i j : SettledSession) (before after : SessionOutput) →
-    slice_get first place ≡ Some i → slice_get (files_left system first) place ≡ Some before →
-    slice_get second other ≡ Some j → slice_get (files_left system second) other ≡ Some after →
-    IsInOrder 0 i.keys → restored (saving_over system (left_of system first i)) ≡ Ok (saving_with (system_digest system) (left_of system first i)) →
-    GoesOnFrom before j →
-    let came = coming_keys system (start_of first i) i.steps i.keys in
-    LeaveAsOne before after (run_of system second j) (alone_by system (came ++ later_keys i.steps j.keys) (i.steps + j.steps) (start_of first i))
+-- And so it is where it goes on from what was read of the file that the other session left for its saving.
+-- (Of each run that succeeds the keys of each session are in order, and what is restored of its saving is that: `HasRun`, orders and savings.)
+abbrev pub SavedFileGoesOn : Type 0
+SavedFileGoesOn = (system : Disk) (first second : List SettledSession) (place other : ℕ) (i j : SettledSession) (before after : SessionOutput) →
+    HasLeft system first place i before → HasLeft system second other j after → IsInOrder 0 i.keys → IsRestorable system first i →
+    GoesOnFrom before j → AreOneAlone system first second i j before after
 
 -- Where a run stands on its way, the rest of it leaves what the whole run leaves, with what was shown before in front.
 pub record RestLeavesAll (system : Disk) (inputs : List SettledSession) (standing : RunStanding) : Type 0 where
@@ -90,6 +103,12 @@ RestIsWhole = (system : Disk) (inputs : List SettledSession) (standing : RunStan
 abbrev pub KeptIsTrue : Type 0
 KeptIsTrue = (inputs : List SettledSession) (old h : Host) (players now : List Player) → ArePressable old.system inputs → HavePlayers old.slots inputs players →
     HaveBecome old h players now → IsTrueStanding old.system inputs (standing_of h now)
+
+-- The rest of a run from where it truly stands can be pressed as the run can, where none of its sessions has more keys than may be pending, with those that are
+-- where it begins.
+abbrev pub RestCanBePlayed : Type 0
+RestCanBePlayed = (system : Disk) (inputs : List SettledSession) (standing : RunStanding) → ArePressable system inputs →
+    IsTrueStanding system inputs standing → HaveFewKeys (rest_of inputs standing) → ArePressable system (rest_of inputs standing)
 
 -- Where the rest of a run stands truly, from where the run had stood, the run stands truly by both.
 abbrev pub StandingsJoin : Type 0

@@ -1,5 +1,6 @@
 -- Sessions of a configuration in the slots of a host. All of it is own.
-use Rattle.std.specs.Prelude.{⊤, ◌≡◌, ◌≢◌, ◌+◌, ℕ, Bool, List, [], ◌∷◌, ◌++◌, ◌≤◌, length, map, slice_get, Option, Some, None, IfSome, Vec}
+use Rattle.std.specs.Prelude.{⊤, ◌≡◌, ◌≢◌, ◌+◌, ℕ, Bool, List, [], ◌∷◌, ◌++◌, ◌≤◌, length, map, slice_get, Option, Some, None, IfSome, Ok, Vec, true}
+use Rattle.std.specs.List.{All}
 use Rattle.std.specs.Prelude.{if◌then◌else◌, option_map, string_bytes}
 use Rattle.std.specs.declared.alloc.Global.{Global}
 use Rattle.cpm_batch.specs.Inputs.{Forks, IsOpened, Opens, Restores, StartInput}
@@ -13,7 +14,8 @@ use Rattle.cpm_script.specs.Fork.{keys_before}
 use Rattle.cpm_script.specs.declared.script.Key.{Key}
 use Rattle.cpm_slots.specs.Host.{Host, SlotState, refusal_of, slot_at, with_added, with_opened}
 use Rattle.cpm_machine.specs.MachineState.{MachineState, opened_machine}
-use Rattle.cpm_machine.specs.Saving.{Saving}
+use Rattle.cpm_machine.specs.Saving.{Saving, restored, saving_with}
+use Rattle.cpm_machine.specs.SystemDigest.{system_digest}
 use Rattle.cpm_machine.specs.declared.opening.Opening.{Opening}
 use Rattle.cpm_machine.specs.declared.opening.OpenError.{OpenError}
 use Rattle.cpm_play.specs.Players.{fork_pages, forks_of}
@@ -23,7 +25,7 @@ use Rattle.cpm_play.specs.declared.player.Fork.{Fork}
 use Rattle.cpm_play.specs.declared.player.Player.{Player}
 use Rattle.cpm_play.specs.declared.player.Player.TheVariants.{Playing, Waiting}
 use Rattle.cpm_play.specs.declared.scripted_slot.ScriptedSlot.{ScriptedSlot}
-use Rattle.cpm_run.specs.Run.{IsForkAt, IsOpening, IsRefusedOr, IsShortFor, IsShownAs, ReportEntry, files_left, fork_pages_in, forks_in, name_at}
+use Rattle.cpm_run.specs.Run.{IsForkAt, IsOpening, IsRefusedOr, IsRestorable, IsShortFor, IsShownAs, ReportEntry, files_left, fork_pages_in, forks_in, name_at}
 use Rattle.cpm_run.specs.Run.{report_view, reports_of, restoring_fault, saving_over, start_of}
 use Rattle.cpm_store.specs.Files.{StoreName}
 use Rattle.cpm_run.specs.Ending.{ending_of}
@@ -212,6 +214,7 @@ pub record IsClosed (p : ScriptedSlot) (ps : List Player) (s : MachineState) (is
   pub ending : left.ending ≡ ending_of s
   pub drives : left.drives ≡ images_of s.session.disks
   pub saved : saved_bytes left.saved ≡ saving_if is_saved old.system s
+  pub restores : is_saved ≡ true → restored (saving_over old.system s) ≡ Ok (saving_with (system_digest old.system) s)
   pub others_play : rest ≡ ps
   pub others : (id : ℕ) → id ≢ p.id.0 → slot_at id new.slots ≡ slot_at id old.slots
 
@@ -232,4 +235,4 @@ files_by session left = record {
 abbrev pub AreFinished : List SessionConfig → Host → List Player → List SessionReport → List SessionFiles → Type 0
 AreFinished sessions h players reports files = (is : List SettledSession)
     → map (λ i. i.session) is ≡ sessions → AllEnded h.system is h.slots is players
-    → (map report_view reports ≡ reports_of h.system is) × (map left_by files ≡ files_left h.system is)
+    → (map report_view reports ≡ reports_of h.system is) × (map left_by files ≡ files_left h.system is) × All (IsRestorable h.system is) is

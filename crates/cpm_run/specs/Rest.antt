@@ -70,6 +70,11 @@ rests all (i ∷ is) ss = rest_of_session all (standing_at ss 0) i ∷ rests all
 abbrev pub rest_of : List SettledSession → RunStanding → List SettledSession
 rest_of inputs standing = rests standing inputs standing
 
+-- what is played of a run: all of it, or where it stood somewhere the rest
+abbrev pub rest_if : List SettledSession → Option RunStanding → List SettledSession
+rest_if inputs None = inputs
+rest_if inputs (Some s) = rest_of inputs s
+
 -- ---- what the whole run leaves
 
 -- where each session stands, or the one that it is still to be forked from

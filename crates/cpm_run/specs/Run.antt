@@ -1,6 +1,6 @@
 -- What running the sessions of a configuration writes and reports, and when it is refused. All of it is own.
 use Rattle.std.specs.Prelude.{⊤, ◌≡◌, ◌≤◌, ◌⊎◌, ◌+◌, ℕ, sum_by, ◌==◌, ◌&&◌, not, nat_le, List, [], ◌∷◌, ◌++◌, length, drop, take}
-use Rattle.std.specs.Prelude.{map, slice_get, Option, Some, None, option_map, string_bytes, chars, Ok, if◌then◌else◌}
+use Rattle.std.specs.Prelude.{map, slice_get, Option, Some, None, option_map, string_bytes, chars, Ok, IfSome, if◌then◌else◌}
 use Rattle.std.specs.List.{All}
 use Rattle.cpm_batch.specs.Inputs.{AreInputs, Forks, Opens, Restores, SessionInput, StartInput}
 use Rattle.cpm_batch.specs.Outputs.{SessionOutput, files_of_all}
@@ -21,7 +21,7 @@ use Rattle.cpm_slots.specs.declared.event.ForkError.TheVariants as fork
 use Rattle.cpm_slots.specs.declared.host.TheConstants.{LEAST_FRAMES}
 use Rattle.cpm_memory.specs.declared.store.TheConstants.{MOST_FRAMES}
 use Rattle.cpm_machine.specs.MachineState.{MachineState}
-use Rattle.cpm_machine.specs.Saving.{Saving, bytes_of_saving, saving_with}
+use Rattle.cpm_machine.specs.Saving.{Saving, bytes_of_saving, restored, saving_with}
 use Rattle.cpm_machine.specs.SystemDigest.{system_digest}
 use Rattle.cpm_machine.specs.declared.opening.Opening.{Opening}
 use Rattle.cpm_machine.specs.declared.opening.OpenError.{OpenError}
@@ -30,7 +30,7 @@ use Rattle.cpm_store.specs.Files.{StoreFiles, StoreName, WhereTold}
 use Rattle.cpm_store.specs.Log.{StoreAccess, AreWrites, LogLeadsBy}
 use Rattle.cpm_store.specs.Writes.{NamedBytes, WritesAll}
 use Rattle.cpm_play.specs.Players.{HasRoomForForks, IsLackFor}
-use Rattle.cpm_play.specs.Playing.{alone_by, coming_keys, state_left}
+use Rattle.cpm_play.specs.Playing.{IsInOrder, alone_by, coming_keys, state_left}
 use Rattle.cpm_run.specs.Ending.{ending_of}
 use Rattle.cpm_run.specs.declared.ending.Ending.{Ending}
 use Rattle.cpm_run.specs.declared.error.StartFault.{StartFault}
@@ -43,7 +43,7 @@ use Rattle.cpm_run.specs.declared.report.SessionStop.{SessionStop}
 use Rattle.cpm_script.specs.Recording.{recorded, recording}
 use Rattle.cpm_script.specs.Script.{script, most_keys}
 use Rattle.cpm_script.specs.declared.script.Key.{Key}
-use Rattle.cpm_run.specs.Rest.{RunStanding, SessionStanding, outputs_behind, rest_of, stands_all, standing_at, IsKeptBy}
+use Rattle.cpm_run.specs.Rest.{RunStanding, SessionStanding, IsKeptBy, outputs_behind, rest_if, rest_of, stands_all, standing_at}
 use Rattle.cpm_run.specs.Settled.{AreSettled, IsTypedIfAny, SettledSession, Streams, TypedSession, opening_at, start_by, starts_of}
 
 -- ---- a session
@@ -64,6 +64,15 @@ left_of system inputs i = state_left system (coming_keys system (start_of inputs
 -- the bytes of the saving of a state with this system drive
 abbrev pub saving_over : Disk → MachineState → List ℕ
 saving_over system s = bytes_of_saving (saving_with (system_digest system) s)
+
+-- where it is saved, what is restored of the bytes of its saving is its saving
+abbrev pub IsRestorable : Disk → List SettledSession → SettledSession → Type 0
+IsRestorable system inputs i =
+    IfSome i.session.save
+    (λ name. restored (saving_over system (left_of system inputs i)) ≡ Ok (saving_with (system_digest system) (left_of system inputs i)))
+
+abbrev pub AreRestorable : Disk → List SettledSession → Type 0
+AreRestorable system inputs = All (IsRestorable system inputs) inputs
 
 -- what is left of it for its files: all bytes of its console and of its list device, and its drives; and the saving of its state, where it is saved
 abbrev pub session_output : Disk → SessionConfig → (s left : MachineState) → SessionOutput
@@ -127,6 +136,7 @@ pub record IsLeftFrom (system : Disk) (inputs : List SettledSession) (standing :
   pub either : IsEither standing from
   pub reported : reports ≡ reports_from system inputs from
   pub files : left ≡ files_from system inputs from
+  pub savings : AreRestorable system (rest_if inputs from)
 
 -- so it is where this was given of where they stood
 pub record IsLeftBy (system : Disk) (given : Option Checkpoint) (inputs : List SettledSession) (reports : List ReportEntry) (left : List SessionOutput)
@@ -135,6 +145,7 @@ pub record IsLeftBy (system : Disk) (given : Option Checkpoint) (inputs : List S
   pub kept : IsKeptBy given from
   pub reported : reports ≡ reports_from system inputs from
   pub files : left ≡ files_from system inputs from
+  pub savings : AreRestorable system (rest_if inputs from)
 
 -- ---- records
 
@@ -257,6 +268,7 @@ pub record HasPlayedAll (system : Disk) (options : RunOptions) (settled : List S
   pub kept : IsKeptBy (option_map (λ c. c.now) options.kept) from
   pub reported : AreReportedOf system settled from report
   pub written : outputs ≡ outputs_of system options.records.now settled from
+  pub savings : AreRestorable system (rest_if settled from)
 
 -- What a store does by its calls, and what its files hold, where it tells that.
 pub record StoreActs (S : Type 0) : Type 1 where
@@ -286,6 +298,9 @@ pub record HasRun {S : Type 0} (acts : StoreActs S) (config : Config) (options :
   pub played : AreParts config options io parts
   -- the record of each session is a script of its own keys
   pub replays : All GivesItsKeysAgain parts.settled
+  -- the keys of each session are in order, and what was played of it can go on from its saving
+  pub orders : All (λ s. IsInOrder 0 s.keys) parts.settled
+  pub savings : AreRestorable parts.system (rest_if parts.settled parts.from)
   pub wrote : HasWrittenOutputs acts (outputs_by options parts) between new
   pub reported : AreReportedOf parts.system parts.settled parts.from report
 

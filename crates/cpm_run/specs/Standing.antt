@@ -7,7 +7,9 @@ use Rattle.cpm_machine.specs.Saving.{saving_with}
 use Rattle.cpm_machine.specs.SystemDigest.{system_digest}
 use Rattle.cpm_play.specs.Live.{AreBy}
 use Rattle.cpm_play.specs.Pacing.{HaveComeAfter}
+use Rattle.cpm_play.specs.Players.{AllBefore}
 use Rattle.cpm_play.specs.Playing.{IsInOrder, alone_by, state_left}
+use Rattle.cpm_script.specs.declared.script.Key.{Key}
 use Rattle.cpm_run.specs.Rest.{RunStanding, SessionStanding, standing_at, stands_by}
 use Rattle.cpm_run.specs.Run.{start_of}
 use Rattle.cpm_run.specs.Settled.{SettledSession}
@@ -18,6 +20,7 @@ use Rattle.cpm_run.specs.Settled.{SettledSession}
 -- session begins, and that machine is saved. Its other keys come there or later.
 pub record StandsThere (system : Disk) (start : MachineState) (i : SettledSession) (s : SessionStanding) : Type 0 where
   pub within : s.done ≤ i.steps
+  pub few : s.pressed ≤ length i.keys
   pub early : AreBy s.done (take s.pressed i.keys)
   pub come : HaveComeAfter system start i.steps [] (take s.pressed i.keys)
   pub later : IsInOrder s.done (drop s.pressed i.keys)
@@ -25,18 +28,18 @@ pub record StandsThere (system : Disk) (start : MachineState) (i : SettledSessio
   pub list : s.list ≡ (alone_by system (take s.pressed i.keys) s.done start).session.console.printer
   pub saving : s.saving ≡ saving_with (system_digest system) (state_left system (take s.pressed i.keys) s.done start)
 
--- one that is still to be forked is not behind its fork
-abbrev pub IsBeforeFork : (own from : Option SessionStanding) → StartInput → Type 0
-IsBeforeFork (Some s) from start = ⊤
-IsBeforeFork None None start = ⊤
-IsBeforeFork None (Some s) (Opens cpu quota drives) = ⊤
-IsBeforeFork None (Some s) (Forks parent at) = s.done ≤ at
-IsBeforeFork None (Some s) (Restores x) = ⊤
+-- one that is still to be forked is not behind its fork, and all of these keys that it has got come before that
+abbrev pub IsBeforeFork : (own from : Option SessionStanding) → List Key → StartInput → Type 0
+IsBeforeFork (Some s) from keys start = ⊤
+IsBeforeFork None None keys start = ⊤
+IsBeforeFork None (Some s) keys (Opens cpu quota drives) = ⊤
+IsBeforeFork None (Some s) keys (Forks parent at) = (s.done ≤ at) × AllBefore at (take s.pressed keys)
+IsBeforeFork None (Some s) keys (Restores x) = ⊤
 
 -- so stands the session that has this standing of its own
 pub record IsTrueOf (system : Disk) (inputs : List SettledSession) (all : RunStanding) (own : Option SessionStanding) (i : SettledSession) : Type 0 where
   pub there : IfSome (stands_by all own i.start) (StandsThere system (start_of inputs i) i)
-  pub ahead : IsBeforeFork own (stands_by all own i.start) i.start
+  pub ahead : IsBeforeFork own (stands_by all own i.start) i.keys i.start
 
 -- and so each of the run
 pub record IsTrueStanding (system : Disk) (inputs : List SettledSession) (standing : RunStanding) : Type 0 where

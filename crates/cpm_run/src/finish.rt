@@ -1,15 +1,17 @@
 //! What is left of sessions that were played, whose slots are closed.
-ghost use Rattle.std.specs.Prelude.{◌≡◌, ◌∷◌, IfOk, List, map};
+ghost use Rattle.std.specs.Prelude.{◌≡◌, ◌∷◌, IfOk, List, Ok, OnOk, map, true};
 ghost use Rattle.std.specs.Vec.Iter.{into_iter_items};
 ghost use Rattle.cpm_batch.specs.Outputs.{left_by};
 ghost use Rattle.cpm_slots.specs.Host.{slot_at};
 ghost use Rattle.cpm_machine.specs.MachineState.{MachineState};
+ghost use Rattle.cpm_machine.specs.Saving.{restored, saving_with};
+ghost use Rattle.cpm_machine.specs.SystemDigest.{system_digest};
 ghost use Rattle.cpm_play.specs.Players.{AllDiffer};
 ghost use Rattle.cpm_play.specs.declared.player.Player.TheVariants.{Playing};
 ghost use Rattle.cpm_play.specs.declared.player.Player.{Player as PlayerValue};
 ghost use Rattle.cpm_play.specs.declared.scripted_slot.ScriptedSlot.{ScriptedSlot as ScriptedSlotValue};
 ghost use Rattle.cpm_run.specs.Playing.{AreFinished, IsClosed, files_by, report_by, saved_bytes, saving_if};
-ghost use Rattle.cpm_run.specs.Run.{report_view};
+ghost use Rattle.cpm_run.specs.Run.{report_view, saving_over};
 
 use crate::ending::{Ending, ending_of_slot};
 use crate::report::SessionReport;
@@ -41,6 +43,8 @@ fn saving_if(
 ) -> Result<Option<Vec<u8>>, AllocError>
     ensures saved { IfOk result (λ saved. (s : MachineState) → slot_at id.0 host.old.host.slots ≡ Some s
         → saved_bytes saved ≡ saving_if is_saved host.old.host.system s) }
+    ensures restores { OnOk result ((s : MachineState) → slot_at id.0 host.old.host.slots ≡ Some s → is_saved ≡ true
+        → restored (saving_over host.old.host.system s) ≡ Ok (saving_with (system_digest host.old.host.system) s)) }
     ensures host { host.new ≡ host.old }
 {
     if !is_saved {

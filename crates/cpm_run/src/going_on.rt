@@ -1,10 +1,10 @@
 //! A run that goes on from where it stood: its rest is played, and what was shown before is put in front.
-ghost use Rattle.std.specs.Prelude.{◌≡◌, ◌≤◌, ◌++◌, ℕ, IfErr, IfOk, IfSome, Some, length, map, option_map, true};
+ghost use Rattle.std.specs.Prelude.{◌≡◌, ◌≤◌, ◌++◌, ℕ, IfErr, IfOk, IfSome, OnOk, Some, length, map, option_map, false, true};
 ghost use Rattle.cpm_batch.specs.Outputs.{left_by};
 ghost use Rattle.cpm_machine.specs.SystemDigest.{system_digest};
 ghost use Rattle.cpm_run.specs.Kept.{kept_view, standing_view};
 ghost use Rattle.cpm_run.specs.Playing.{ArePressable, IsSlotRefusal};
-ghost use Rattle.cpm_run.specs.Run.{IsLeftFrom, files_from, files_left, report_behind, report_view, reports_behind, reports_from, reports_of};
+ghost use Rattle.cpm_run.specs.Run.{AreRestorable, IsLeftFrom, files_from, files_left, report_behind, report_view, reports_behind, reports_from, reports_of};
 ghost use Rattle.cpm_run.specs.Settled.{settled_view, starts_of};
 ghost use Rattle.cpm_run.specs.Rest.{output_behind, outputs_behind, rest_of, stands_all, standing_at};
 ghost use Rattle.cpm_slots.specs.Host.{new_host};
@@ -28,7 +28,8 @@ use std::alloc::{AllocError, Global};
 
 /// Whether what is kept of a session, if anything is, was saved with a system drive of this digest.
 fn is_over(digest: &SystemDigest, session: Option<&KeptSession>) -> bool
-    ensures { result ≡ true → IfSome (option_map (λ k. kept_view k.now) session.entry) (λ s. s.saving.system_digest ≡ digest.now) }
+    ensures over { result ≡ true → IfSome (option_map (λ k. kept_view k.now) session.entry) (λ s. s.saving.system_digest ≡ digest.now) }
+    ensures other { result ≡ false → IfSome (option_map (λ k. kept_view k.now) session.entry) (λ s. s.saving.system_digest ≡ digest.now) → ⊥ }
 {
     match session {
         Some(session) => session.saved.digest == *digest,
@@ -38,8 +39,10 @@ fn is_over(digest: &SystemDigest, session: Option<&KeptSession>) -> bool
 
 /// Whether all that is kept was saved with this system drive.
 fn are_over(system: &Image, kept: &[Option<KeptSession>]) -> bool
-    ensures { result ≡ true → (place : ℕ)
+    ensures over { result ≡ true → (place : ℕ)
         → IfSome (standing_at (standing_view kept.now) place) (λ s. s.saving.system_digest ≡ system_digest system.now) }
+    ensures other { result ≡ false → ((place : ℕ)
+        → IfSome (standing_at (standing_view kept.now) place) (λ s. s.saving.system_digest ≡ system_digest system.now)) → ⊥ }
 {
     let digest = digest_of(system);
     for place in 0..kept.len() {
@@ -51,7 +54,7 @@ fn are_over(system: &Image, kept: &[Option<KeptSession>]) -> bool
 }
 
 /// Bytes with others in front.
-fn behind(alloc: Global, front: &[u8], mut bytes: Vec<u8>) -> Result<Vec<u8>, AllocError>
+pub(crate) fn behind(alloc: Global, front: &[u8], mut bytes: Vec<u8>) -> Result<Vec<u8>, AllocError>
     ensures { IfOk result (λ v. v.items ≡ front.now ++ bytes.items) }
 {
     let mut all = Vec::new(alloc);
@@ -61,7 +64,7 @@ fn behind(alloc: Global, front: &[u8], mut bytes: Vec<u8>) -> Result<Vec<u8>, Al
 }
 
 /// What is kept of the session at a place, or of the one that it is still to be forked from.
-fn kept_for<'k>(
+pub(crate) fn kept_for<'k>(
     inputs: &[SettledInput<'_>],
     kept: &'k [Option<KeptSession>],
     place: usize,
@@ -166,6 +169,7 @@ fn play_rest<'a, T: RunWatcher>(
         ≡ reports_from system (map settled_view inputs.now) (Some (standing_view kept.now)))) }
     ensures files { IfOk result (λ left. IfSome left (λ p. map left_by p.1.items
         ≡ files_from system (map settled_view inputs.now) (Some (standing_view kept.now)))) }
+    ensures savings { IfOk result (λ left. IfSome left (λ p. AreRestorable system (rest_of (map settled_view inputs.now) (standing_view kept.now)))) }
 {
     let mut keeper = Keeper {
         alloc,
@@ -199,6 +203,7 @@ pub(crate) fn play_kept<'a, T: RunWatcher>(
     requires sessions { map (λ i. i.session) (map settled_view inputs.items) ≡ config.now.sessions.items }
     ensures reports { IfOk result (λ p. map report_view p.0.items ≡ reports_of system (map settled_view inputs.entry.items)) }
     ensures files { IfOk result (λ p. map left_by p.1.items ≡ files_left system (map settled_view inputs.entry.items)) }
+    ensures savings { OnOk result (AreRestorable system (map settled_view inputs.entry.items)) }
     ensures refusal { IfErr result (IsSlotRefusal config.entry.now.sessions.items (new_host system config.entry.now.frames)
         (starts_of (map settled_view inputs.entry.items))) }
 {

@@ -10,6 +10,7 @@ mod ending;
 mod error;
 mod finish;
 mod going_on;
+mod joining;
 mod keeper;
 mod keeping;
 pub mod laws;

@@ -1,5 +1,6 @@
 //! Playing the sessions of a configuration in a host.
 ghost use Rattle.std.specs.Prelude.{◌≡◌, ◌≤◌, [], ℕ, IfErr, IfOk, List, OnErr, OnOk, map, string_bytes};
+ghost use Rattle.std.specs.List.{All};
 ghost use Rattle.cpm_batch.specs.Inputs.{StartInput};
 ghost use Rattle.cpm_batch.specs.Outputs.{left_by};
 ghost use Rattle.cpm_batch.specs.Savings.{saving_view};
@@ -13,7 +14,7 @@ ghost use Rattle.cpm_play.specs.declared.player.Player.{Player as PlayerValue};
 ghost use Rattle.cpm_run.specs.Playing.{HavePlayers, ArePressable, IsForksRefusal, IsOpeningRefusal, IsPrepared, IsRefusedAmong, IsRestoringRefusal};
 ghost use Rattle.cpm_run.specs.Playing.{IsSlotRefusal, IsStartRefusal, OpensSlot, RestoresSlot};
 ghost use Rattle.cpm_run.specs.Settled.{settled_view, starts_of};
-ghost use Rattle.cpm_run.specs.Run.{AllAccepted, HasForkRoom, IsForkAt, IsShortFor, IsShownAs};
+ghost use Rattle.cpm_run.specs.Run.{AllAccepted, HasForkRoom, IsForkAt, IsRestorable, IsShortFor, IsShownAs};
 ghost use Rattle.cpm_run.specs.Run.{files_left, fork_pages_in, forks_in, name_at, report_view, reports_of};
 ghost use Rattle.cpm_run.specs.declared.error.StartFault.TheVariants.{Unopened};
 
@@ -235,6 +236,7 @@ pub(crate) fn play_all<'a, T: Watcher>(
     requires sessions { map (λ i. i.session) (map settled_view inputs.items) ≡ config.now.sessions.items }
     ensures reports { IfOk result (λ p. map report_view p.0.items ≡ reports_of system (map settled_view inputs.entry.items)) }
     ensures files { IfOk result (λ p. map left_by p.1.items ≡ files_left system (map settled_view inputs.entry.items)) }
+    ensures savings { OnOk result (All (IsRestorable system (map settled_view inputs.entry.items)) (map settled_view inputs.entry.items)) }
     ensures accepted { OnOk result (AllAccepted (starts_of (map settled_view inputs.entry.items))
         (new_host system config.entry.now.frames) (starts_of (map settled_view inputs.entry.items))) }
     ensures refusal { IfErr result (IsSlotRefusal config.entry.now.sessions.items (new_host system config.entry.now.frames)

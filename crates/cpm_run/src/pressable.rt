@@ -1,10 +1,12 @@
 //! Whether the keys of sessions can be pressed, whatever they come from.
-ghost use Rattle.std.specs.Prelude.{◌≡◌, ◌++◌, IfOk, List, drop, length, map, true};
+ghost use Rattle.std.specs.Prelude.{◌≡◌, ◌≤◌, ◌+◌, ◌++◌, IfOk, List, drop, false, length, map, slice_get, true};
 ghost use Rattle.cpm_batch.specs.Inputs.{IsOpened, start_view};
 ghost use Rattle.cpm_geom.specs.Disk.{Disk};
 ghost use Rattle.cpm_play.specs.Playing.{HaveRoom, IsInOrder};
 ghost use Rattle.cpm_run.specs.Playing.{ArePressable, IsForkPressable, IsPressableBy};
-ghost use Rattle.cpm_run.specs.Settled.{opening_of, settled_view};
+ghost use Rattle.cpm_run.specs.Kept.{HasFewKeys, HaveFewKeys};
+ghost use Rattle.cpm_run.specs.Settled.{opening_at, opening_of, settled_view, starts_of};
+ghost use Rattle.cpm_script.specs.Script.{most_keys};
 ghost use Rattle.cpm_script.specs.declared.script.Key.{Key as KeyValue};
 
 use crate::part::pending_keys;
@@ -16,7 +18,8 @@ use std::alloc::{AllocError, Global};
 
 /// Whether the counts of keys are at least this one, and don't fall.
 fn are_in_order(keys: &[Key], from: u64) -> bool
-    ensures { result ≡ true → IsInOrder from keys.now }
+    ensures order { result ≡ true → IsInOrder from keys.now }
+    ensures other { result ≡ false → IsInOrder from keys.now → ⊥ }
 {
     let mut low = from;
     for key in keys {
@@ -30,7 +33,8 @@ fn are_in_order(keys: &[Key], from: u64) -> bool
 
 /// Whether keys begin with others.
 fn begin_with(keys: &[Key], first: &[Key]) -> bool
-    ensures { result ≡ true → keys.now ≡ first.now ++ drop (length first.now) keys.now }
+    ensures first { result ≡ true → keys.now ≡ first.now ++ drop (length first.now) keys.now }
+    ensures other { result ≡ false → (rest : List KeyValue) → keys.now ≡ first.now ++ rest → ⊥ }
 {
     if keys.len() < first.len() {
         return false;
@@ -45,14 +49,17 @@ fn begin_with(keys: &[Key], first: &[Key]) -> bool
 
 /// Whether a machine takes so many keys wherever they come that begins so.
 fn takes_all(start: &Start, count: usize) -> bool
-    ensures { result ≡ true → (system : Disk) (keys : List KeyValue) → length keys ≡ count → HaveRoom system (opening_of (start_view start.now)) keys }
+    ensures room { result ≡ true → (system : Disk) (keys : List KeyValue) → length keys ≡ count
+        → HaveRoom system (opening_of (start_view start.now)) keys }
+    ensures many { result ≡ false → length (opening_of (start_view start.now)).session.console.keys + count ≤ most_keys → ⊥ }
 {
     has_room(pending_keys(start), 0, count)
 }
 
 /// Whether a session begins by itself.
 fn is_opened(start: &Start) -> bool
-    ensures { result ≡ true → IsOpened (start_view start.now) }
+    ensures opened { result ≡ true → IsOpened (start_view start.now) }
+    ensures forked { result ≡ false → IsOpened (start_view start.now) → ⊥ }
 {
     match start {
         Start::Opened { .. } | Start::Restored(_) => true,
@@ -68,13 +75,23 @@ fn is_fork_pressable(
     parent: usize,
     at: u64,
 ) -> Result<bool, AllocError>
-    ensures { IfOk result (λ can. can ≡ true → (system : Disk)
+    ensures can { IfOk result (λ can. can ≡ true → (system : Disk)
         → IsForkPressable system (map settled_view inputs.now) (settled_view input.now) parent at) }
+    ensures other { IfOk result (λ can. can ≡ false → (system : Disk)
+        → IsForkPressable system (map settled_view inputs.now) (settled_view input.now) parent at
+        → length (opening_at (slice_get (starts_of (map settled_view inputs.now)) parent)).session.console.keys + length input.now.keys.items ≤ most_keys
+        → ⊥) }
 {
     let Some(other) = inputs.get(parent) else {
         return Ok(false);
     };
-    if !is_opened(&other.start) || at > input.steps || !takes_all(&other.start, input.keys.len()) {
+    if !is_opened(&other.start) {
+        return Ok(false);
+    }
+    if at > input.steps {
+        return Ok(false);
+    }
+    if !takes_all(&other.start, input.keys.len()) {
         return Ok(false);
     }
     let first = keys_before(alloc, other.keys.as_slice(), at)?;
@@ -87,9 +104,14 @@ fn is_fork_pressable(
 
 /// Whether keys can be pressed at a session that begins by itself.
 fn is_own_pressable(start: &Start, keys: &[Key]) -> bool
-    ensures { result ≡ true → (system : Disk) → IsInOrder 0 keys.now × HaveRoom system (opening_of (start_view start.now)) keys.now }
+    ensures can { result ≡ true → (system : Disk) → IsInOrder 0 keys.now × HaveRoom system (opening_of (start_view start.now)) keys.now }
+    ensures other { result ≡ false → IsInOrder 0 keys.now
+        → length (opening_of (start_view start.now)).session.console.keys + length keys.now ≤ most_keys → ⊥ }
 {
-    takes_all(start, keys.len()) && are_in_order(keys, 0)
+    if !takes_all(start, keys.len()) {
+        return false;
+    }
+    are_in_order(keys, 0)
 }
 
 /// Whether the keys of a session can be pressed, among the others.
@@ -98,8 +120,11 @@ fn is_pressable(
     inputs: &[SettledInput<'_>],
     input: &SettledInput<'_>,
 ) -> Result<bool, AllocError>
-    ensures { IfOk result (λ can. can ≡ true → (system : Disk)
+    ensures can { IfOk result (λ can. can ≡ true → (system : Disk)
         → IsPressableBy system (map settled_view inputs.now) (settled_view input.now).start (settled_view input.now)) }
+    ensures other { IfOk result (λ can. can ≡ false → (system : Disk)
+        → IsPressableBy system (map settled_view inputs.now) (settled_view input.now).start (settled_view input.now)
+        → HasFewKeys (map settled_view inputs.now) (settled_view input.now) → ⊥) }
 {
     match &input.start {
         Start::Forked { parent, at } => is_fork_pressable(alloc, inputs, input, *parent, *at),
@@ -107,10 +132,11 @@ fn is_pressable(
     }
 }
 
-/// Whether the keys of all sessions can be pressed, so that they can be played. The keys are counted for that with those that are pending: a session with
-/// more than 4,096 can't be, though some such could.
+/// Whether the keys of all sessions can be pressed, so that they can be played, and none has more than 4,096 with those that are pending where it begins.
 pub(crate) fn are_pressable(alloc: Global, inputs: &[SettledInput<'_>]) -> Result<bool, AllocError>
-    ensures { IfOk result (λ can. can ≡ true → (system : Disk) → ArePressable system (map settled_view inputs.now)) }
+    ensures can { IfOk result (λ can. can ≡ true → (system : Disk) → ArePressable system (map settled_view inputs.now)) }
+    ensures other { IfOk result (λ can. can ≡ false → (system : Disk) → ArePressable system (map settled_view inputs.now)
+        → HaveFewKeys (map settled_view inputs.now) → ⊥) }
 {
     for input in inputs {
         if !is_pressable(alloc, inputs, input)? {

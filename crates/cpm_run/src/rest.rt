@@ -37,7 +37,7 @@ fn keys_left(alloc: Global, keys: &[Key], pressed: usize, done: u64) -> Result<V
 }
 
 /// An equal saving.
-fn saving_copy(alloc: Global, saved: &SavedMachine) -> Result<SavedMachine, AllocError>
+pub(crate) fn saving_copy(alloc: Global, saved: &SavedMachine) -> Result<SavedMachine, AllocError>
     ensures { IfOk result (λ s. saving_view s ≡ saving_view saved.now) }
 {
     Ok(SavedMachine {

@@ -7,4 +7,4 @@ pub returns : goal.returns
 returns g c =
     on_ok c.tell_drives.result _ _
     (λ told. machine_told (saving_view c.args.saved) c.as_bytes.result.now c.finish-drives.result.drives _ _ _ (c.as_bytes.ensures.value ∙ c.in_ok-text.ensures) c.finish-drives.ensures.drives
-    c.in_ok-write_text.ensures.written told) c.tell_drives.ensures.told
+    c.in_ok-write_text.ensures.written told) c.tell_drives.ensures

@@ -1,7 +1,12 @@
 use Rattle.std.proofs.Common.{Bool, subst}
 use Rattle.std.specs.Vec.Iter.{into_iter_items}
-use Rattle.cpm_run.proofs.FinishLemmas.{ClosesNextSlot, finished_early, finishing_more, none_there}
+use Rattle.cpm_run.proofs.FinishLemmas.{ClosesNextSlot, finished_early, finishing_more, none-finished, none_there}
 use Rattle.cpm_run.proofs.finish.finish_all.Goals as goal
+
+pub loop-session-init : goal.loop-session-init
+loop-session-init c =
+    none-finished c.args.sessions.now c.args.host.now.host c.args.players.items (into_iter_items c.into_iter-rest.result) c.new-reports.result.items c.new-files.result.items c.requires c.into_iter-rest.ensures.rest
+    c.new-reports.ensures.items c.new-files.ensures.items
 
 pub returns-in_default : goal.returns-in_default
 returns-in_default c =

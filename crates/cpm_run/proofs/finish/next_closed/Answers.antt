@@ -19,7 +19,7 @@ returns-in-Ok-clause-closed c = λ p ps s is at.
     let first : into_iter_items c.args.players.now ≡ Playing slot ∷ left = cc (c.in-Some-Playing.ensures.cases.0, c.in-Some-Playing.field-0-is) in
     first_closed p (record { slot = slot; ending = c.in-Some.ending; drives = c.in-Ok.closed.drives; saved = c.in_ok-saved.saved }) ps left (into_iter_items c.args.players.now) s c.args.is_saved
     c.args.host.now.host c.ending_of_slot.new.host.host c.saving_if.new.host.host c.close.new.self.host c.in-Ok.closed is first at c.in-Some.ensures.ending
-    (ap (λ (h : HostWithStore). h.host) c.in-Some.ensures.host) c.in_ok-saved.ensures.saved (ap (λ (h : HostWithStore). h.host) c.in_ok-saved.ensures.host) c.in-Ok.ensures.closed refl c.in-Ok.ensures.host
+    (ap (λ (h : HostWithStore). h.host) c.in-Some.ensures.host) c.in_ok-saved.ensures.saved c.in_ok-saved.ensures.restores (ap (λ (h : HostWithStore). h.host) c.in_ok-saved.ensures.host) c.in-Ok.ensures.closed refl c.in-Ok.ensures.host
 
 pub returns-in-Err-clause-closed : goal.returns-in-Err-clause-closed
 returns-in-Err-clause-closed c = λ p ps s is at.

@@ -2,7 +2,8 @@ use Rattle.std.proofs.Common.{◌≡◌, Option, Some, ap, map, subst}
 use Rattle.std.specs.Prelude.{IfSome}
 use Rattle.cpm_batch.specs.Outputs.{left_by}
 use Rattle.cpm_run.specs.Kept.{standing_view}
-use Rattle.cpm_run.specs.Run.{files_from, report_view, reports_from}
+use Rattle.cpm_run.specs.Rest.{rest_of}
+use Rattle.cpm_run.specs.Run.{AreRestorable, files_from, report_view, reports_from}
 use Rattle.cpm_run.specs.Settled.{settled_view}
 use Rattle.cpm_run.proofs.RestLemmas.{left_by_rest}
 use Rattle.cpm_run.proofs.going_on.play_from.Goals as goal
@@ -16,3 +17,4 @@ returns-in-Some-clause-left g c =
     c.in_ok-drive.ensures (ap (map settled_view) c.as_slice-sessions.ensures.value)
     (subst (λ left. IfSome left (λ p. map report_view p.0.items ≡ reports_from drive sessions (Some s))) c.in-Some.is c.in_ok-left.ensures.reports)
     (subst (λ left. IfSome left (λ p. map left_by p.1.items ≡ files_from drive sessions (Some s))) c.in-Some.is c.in_ok-left.ensures.files)
+    (subst (λ left. IfSome left (λ p. AreRestorable drive (rest_of sessions s))) c.in-Some.is c.in_ok-left.ensures.savings)

@@ -46,6 +46,17 @@ returns-clause-files g c =
     c.play.new.players _ c.in_ok-left.left.0.items c.in_ok-left.left.1.items c.in_ok-host.ensures.system c.in-Ok.ensures.others.system c.as_slice.ensures.value c.as_mut_slice.ensures.value back c.requires.sessions
     c.in_ok-host.ensures.prepared c.in-Ok.ensures.played c.in_ok-left.ensures).1
 
+pub returns-clause-savings : goal.returns-clause-savings
+returns-clause-savings g c =
+    let start = c.in_ok-host.host.host in
+    let players = c.in_ok-host.players in
+    let begun = c.as_mut_slice.result.now in
+    let whole : players.len ≡ length players.items = let ok = players.ok.0 in omega (arith, ok) in
+    let back = written_back players.len players.items begun c.play.new.players whole c.as_mut_slice.ensures.value c.in-Ok.ensures.played.long in
+    (all_finished c.args.system start c.play.new.host.host c.args.config.now.sessions.items c.as_slice.result.now (map settled_view c.args.inputs.items) players.items begun
+    c.play.new.players _ c.in_ok-left.left.0.items c.in_ok-left.left.1.items c.in_ok-host.ensures.system c.in-Ok.ensures.others.system c.as_slice.ensures.value c.as_mut_slice.ensures.value back c.requires.sessions
+    c.in_ok-host.ensures.prepared c.in-Ok.ensures.played c.in_ok-left.ensures).2
+
 pub returns-clause-accepted : goal.returns-clause-accepted
 returns-clause-accepted g c =
     let start = c.in_ok-host.host.host in

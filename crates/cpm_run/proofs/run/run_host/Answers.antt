@@ -3,7 +3,7 @@ use Rattle.std.proofs.lemmas.Result.{err_from_is_err_and}
 use Rattle.cpm_batch.specs.Inputs.{given}
 use Rattle.cpm_config.proofs.FaultLemmas.{neither}
 use Rattle.cpm_store.specs.Writes.{named_output}
-use Rattle.cpm_run.proofs.ReplayLemmas.{all_give}
+use Rattle.cpm_run.proofs.ReplayLemmas.{all_give, all_ordered}
 use Rattle.cpm_run.proofs.RunLemmas.{are_parts, parts_by, place_refused, play_settled, reading_refused, settle_refused, settled_sessions, write_refused, written_as}
 use Rattle.cpm_run.proofs.ScriptLemmas.{inputs_begin, inputs_fit}
 use Rattle.cpm_run.specs.Run.{top_fault}
@@ -94,6 +94,8 @@ returns-clause-run g c =
       read = record { held = c.in_ok-system.ensures.read; same = c.read_inputs.ensures.store.same; calls = c.in_ok-system.ensures.log };
       played = are_parts config c.args.options _ system inputs settled h p.from p.kept;
       replays = all_give system settled c.in_ok-settled.ensures.sound;
+      orders = all_ordered system settled c.in_ok-settled.ensures.sound;
+      savings = p.savings;
       wrote = written_as _ _ _ _ _ are c.in_ok-write_files.ensures.written;
       reported = p.reported;
     }
