@@ -1,5 +1,5 @@
 -- What the code does to a runner is what the machine's serving does.
-use Rattle.std.proofs.Common.{◌≡◌, ℕ, true, false, refl, Option, Some, None, List, ◌++◌, length, take, drop, min, sym, ap, ◌∙◌, subst, arith}
+use Rattle.std.proofs.Common.{◌≡◌, ℕ, Bool, ◌&&◌, true, false, refl, Option, Some, None, List, ◌++◌, length, take, drop, min, sym, ap, ◌∙◌, subst, arith}
 use Rattle.std.specs.Prelude.{⊤, Result, Ok, Err, IfOk, IfErr}
 use Rattle.std.proofs.lemmas.List.{length-take}
 use Rattle.std.proofs.Math.Seq.{take-append_seam}
@@ -9,13 +9,18 @@ use Rattle.cpm_console.specs.declared.device.Device.{Device}
 use Rattle.cpm_console.specs.declared.device.Device.TheVariants as device
 use Rattle.cpm_machine.specs.declared.reply.Granted.{Granted}
 use Rattle.cpm_machine.specs.MachineState.{MachineState}
-use Rattle.cpm_machine.specs.Step.{after}
-use Rattle.cpm_machine.specs.Serve.{takes_key}
-use Rattle.cpm_machine.specs.Calls.{Key, Bytes, Grants, ServedCall, served_key, serve}
+use Rattle.std.proofs.lemmas.Bool.{eq-eqb}
+use Rattle.cpm_machine.specs.Laws.{IsLongest}
+use Rattle.cpm_machine.specs.Step.{after, can_step}
+use Rattle.cpm_machine.specs.ToWait.{can_work, executed_to_wait}
+use Rattle.cpm_machine.specs.declared.reply.Why.TheVariants.{All}
+use Rattle.cpm_machine.proofs.GrantLaws.{longest-is, longest-unique}
+use Rattle.cpm_machine.specs.Serve.{executed, longest, takes_key}
+use Rattle.cpm_machine.specs.Calls.{Key, Grant, Bytes, Grants, ServedCall, served_key, serve}
 use Rattle.cpm_slots.specs.declared.event.Reply.TheVariants as reply
 use Rattle.cpm_slots.specs.declared.event.Refusal.{Refusal}
 use Rattle.cpm_slots.specs.declared.event.Refusal.TheVariants as refusal
-use Rattle.cpm_slots.specs.Serving.{reply_of, take_call, grant_call, executed_to, why_to}
+use Rattle.cpm_slots.specs.Serving.{all_granted, reply_of, take_call, grant_call, executed_to, why_to}
 use Rattle.cpm_slots.specs.Host.{key_reply}
 use Rattle.cpm_slots.specs.Index.{Serves}
 
@@ -87,3 +92,25 @@ grants system stop steps g s now e is w =
           ∙ ap (λ (x : ServedCall). reply_of x.answer) (sym (serve-grant system stop steps s));
       state = state ∙ ap (λ (x : ServedCall). x.state) (sym (serve-grant system stop steps s));
     }
+
+-- steps that can be made and wait for no key can be made
+and-left : (a b : Bool) → a && b ≡ true → a ≡ true
+and-left true b h = refl
+and-left false b h = h
+
+all-made : (system : Disk) (steps k : ℕ) (s : MachineState) → k ≡ executed_to_wait system steps s → k ≡ executed system k s
+unfolding executed executed_to_wait
+all-made system steps k s e =
+    let test : ℕ → Bool = λ i. can_step (after system i s) in
+    let works : ℕ → Bool = λ i. can_work (after system i s) in
+    let is : IsLongest test k k = record {
+      within = omega arith;
+      each = λ i below. and-left (can_step (after system i s)) _ ((longest-is works steps).each i (rw e at below));
+      greatest = λ below. absurd (omega (arith, below));
+    } in
+    longest-unique test k k (longest test k) is (longest-is test k)
+
+-- what a grant up to a wait executes is a grant of so many steps
+pub works : (system : Disk) (steps k : ℕ) (s now : MachineState) → k ≡ executed_to_wait system steps s → now ≡ after system k s → Serves system (Grant k) (all_granted k) s now
+works system steps k s now executed state =
+    grants system None k (record { executed = k; why = All }) s now (all-made system steps k s executed) state (rw (eq-eqb k k refl) refl)

@@ -1,6 +1,7 @@
 -- A host: its system drive, its frames, how many openings were made, and its open slots. There are no turns, tables or shared parts in it. (own)
 use Rattle.std.specs.Prelude.{⊤, ◌≡◌, Bool, ℕ, ◌+◌, ◌<◌, ◌≤◌, List, [], ◌∷◌, ◌++◌, length, map, filter, sum_by, not}
 use Rattle.std.specs.Prelude.{◌==◌, ◌||◌, nat_eq, nat_lt, nat_le, Option, Some, None, Result, Ok, Err, if◌then◌else◌, take}
+use Rattle.cpm_flags.specs.declared.regs.Cpu.{Cpu}
 use Rattle.cpm_geom.specs.Disk.{Disk}
 use Rattle.std.specs.Cmp.Lexicographic.{pointwise}
 use Rattle.cpm_saved.specs.declared.part.SavingDamage.{SavingDamage}
@@ -8,6 +9,7 @@ use Rattle.cpm_machine.specs.MachineState.{MachineState, opened_machine}
 use Rattle.cpm_machine.specs.Saving.{Saving, restored, saving_with}
 use Rattle.cpm_machine.specs.SystemDigest.{system_digest}
 use Rattle.cpm_machine.specs.Opening.{opening_fault, fault_else}
+use Rattle.cpm_machine.specs.ToWait.{executed_to_wait}
 use Rattle.cpm_machine.specs.declared.opening.Opening.{Opening}
 use Rattle.cpm_machine.specs.declared.opening.OpenError.{OpenError}
 use Rattle.cpm_machine.specs.declared.opening.OpenError.TheVariants.{NoSlot, NoFrames}
@@ -22,6 +24,7 @@ use Rattle.cpm_slots.specs.declared.event.HostRestoreError.TheVariants as restor
 use Rattle.cpm_slots.specs.declared.event.SaveError.{SaveError}
 use Rattle.cpm_slots.specs.declared.event.SaveError.TheVariants as save
 use Rattle.cpm_slots.specs.declared.event.Refusal.{Refusal}
+use Rattle.cpm_slots.specs.declared.event.Refusal.TheVariants as refused
 use Rattle.cpm_slots.specs.declared.event.Reply.{Reply}
 use Rattle.cpm_slots.specs.declared.event.Reply.TheVariants as reply
 use Rattle.cpm_slots.specs.Serving.{Ask, serve_slot, ask_of}
@@ -260,3 +263,13 @@ peek_reply (Err fault) = reply.Refused fault
 abbrev pub close_reply : Result Closed Refusal → Reply
 close_reply (Ok closed) = reply.Done
 close_reply (Err fault) = reply.Refused fault
+
+-- the processor of a slot, if it is open
+abbrev pub cpu_reply : Option MachineState → Result Cpu Refusal
+cpu_reply None = Err refused.NoSuchSlot
+cpu_reply (Some s) = Ok s.cpu
+
+-- what a grant of a slot up to a wait executes, if it is open
+abbrev pub work_reply : Disk → (steps : ℕ) → Option MachineState → Result ℕ Refusal
+work_reply system steps None = Err refused.NoSuchSlot
+work_reply system steps (Some s) = Ok (executed_to_wait system steps s)

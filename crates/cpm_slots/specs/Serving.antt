@@ -4,6 +4,7 @@ use Rattle.cpm_geom.specs.Disk.{Disk}
 use Rattle.cpm_console.specs.declared.device.Device.{Device}
 use Rattle.cpm_console.specs.declared.device.Device.TheVariants as device
 use Rattle.cpm_machine.specs.declared.reply.Why.{Why}
+use Rattle.cpm_machine.specs.declared.reply.Why.TheVariants.{All}
 use Rattle.cpm_machine.specs.MachineState.{MachineState}
 use Rattle.cpm_machine.specs.Serve.{executed, why}
 use Rattle.cpm_machine.specs.Until.{executed_until, why_until}
@@ -29,6 +30,10 @@ take_call device.List room = TakeList room
 abbrev pub grant_call : Option ℕ → ℕ → Call
 grant_call None steps = Grant steps
 grant_call (Some pc) steps = GrantUntil steps pc
+
+-- the reply to a grant of which all steps were executed (own)
+abbrev pub all_granted : ℕ → Reply
+all_granted steps = reply.Granted (record { executed = steps; why = All })
 
 -- the steps that such a grant executes, and why it ends (own)
 abbrev pub executed_to : Disk → Option ℕ → ℕ → MachineState → ℕ

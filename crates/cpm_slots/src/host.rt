@@ -19,14 +19,15 @@ ghost use Rattle.cpm_slots.specs.Serving.{Calls, Closes, take_call, grant_call};
 
 use crate::event::{Refusal, SlotId};
 use crate::slots::{
-    Slot, close_at, grant_at, index_of, key_at, look_at, numbers_fit, peek_at, quotas_of, table_at,
-    take_at,
+    Slot, close_at, cpu_at, grant_at, index_of, key_at, look_at, numbers_fit, peek_at, quotas_of,
+    table_at, take_at,
 };
 use crate::system::SystemDrive;
 use cpm_bdos::Session;
 use cpm_console::{Console, Device};
 use cpm_decode::DecodeCache;
 use cpm_drives::EntryRooms;
+use cpm_flags::Cpu;
 use cpm_geom::Image;
 use cpm_machine::steps::Runner;
 use cpm_machine::{Closed, End, Granted, Look, OpenError, Opening};
@@ -84,7 +85,7 @@ fn allocate(alloc: Global, frames: u16) -> Result<(FrameStore, Vec<Slot>, FlatMe
 
 impl Host {
     ghost use Rattle.cpm_slots.specs.Host.{new_host, lacks_frames, lacks_slot, refusal_of, with_opened, slot_at, reply_at, after_ask};
-    ghost use Rattle.cpm_slots.specs.Host.{IsHost, key_reply, grant_reply, take_reply, look_reply, peek_reply, close_reply};
+    ghost use Rattle.cpm_slots.specs.Host.{IsHost, cpu_reply, key_reply, grant_reply, take_reply, look_reply, peek_reply, close_reply};
     ghost use Rattle.cpm_slots.specs.HostWithStore.{table_of, table_reply, IsInTable, IsHostWithStore};
 
     /// A host with this system drive and so many frames, and no slot open. Out of memory, it hands the drive back.
@@ -293,6 +294,16 @@ impl Host {
         match index_of(&self.slots, id) {
             None => Err(Refusal::NoSuchSlot),
             Some(index) => Ok(peek_at(&self.slots, &self.store, index, address)),
+        }
+    }
+
+    /// The processor of a slot.
+    pub fn cpu(&self, id: SlotId) -> Result<Cpu, Refusal>
+        ensures { result ≡ cpu_reply (slot_at id.0 self.now.host.slots) }
+    {
+        match index_of(&self.slots, id) {
+            None => Err(Refusal::NoSuchSlot),
+            Some(index) => Ok(cpu_at(&self.slots, index)),
         }
     }
 

@@ -9,6 +9,7 @@ mod run;
 mod saved;
 mod slots;
 mod system;
+mod wait_grant;
 
 pub use cpm_machine::{Closed, End, Granted, KeysFull, Look, Machine, OpenError, Opening, Why};
 pub use cpm_memory::MOST_FRAMES;

@@ -22,13 +22,14 @@ ghost use Rattle.cpm_slots.specs.Slots.{contents_at, slots_of, HaveTables, AllCa
 use crate::event::{Refusal, Reply, SlotId};
 use cpm_bdos::Mode;
 use cpm_console::{Console, Device};
+use cpm_flags::Cpu;
 use cpm_geom::Image;
 use cpm_machine::steps::{self, Runner};
 use cpm_machine::{Closed, Granted, Look, until};
 use cpm_memory::{FlatMemory, FrameStore, Memory, TableId};
 
 /// The fewest steps for which the memory is copied. Below them its copy costs more than the steps gain by it.
-const LEAST_COPIED: u64 = 1_500;
+pub(crate) const LEAST_COPIED: u64 = 1_500;
 
 /// A session under the number of its opening, with the table of its memory.
 #[derive(Drop)]
@@ -255,6 +256,15 @@ pub fn table_at(slots: &[Slot], index: usize) -> TableId
 {
     let slot = &slots[index];
     slot.table
+}
+
+/// The processor of the session at a place.
+pub fn cpu_at(slots: &[Slot], index: usize) -> Cpu
+    requires { index < length slots.now }
+    ensures { (memories : List (Option Contents)) → IfSome (slice_get (slots_of memories slots.now) index) (λ x. result ≡ x.state.cpu) }
+{
+    let slot = &slots[index];
+    slot.runner.cpu
 }
 
 /// Takes the session at a place away, and gives its frames up. Bytes not taken are dropped.

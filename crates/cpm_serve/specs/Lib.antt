@@ -1,0 +1,6 @@
+pub mod Seen
+pub mod Slot
+pub mod Served
+pub mod Answers
+pub mod Lines
+pub mod Parts

@@ -1,0 +1,42 @@
+-- What is promised of the requests of a line. All of it is own.
+use Rattle.std.specs.Prelude.{◌≡◌, ⊤, ℕ, Bool, true, List, map, take}
+use Rattle.std.specs.List.{list_all}
+use Rattle.serde_json.specs.Data.{Data}
+use Rattle.cpm_protocol.specs.Bytes.{is_byte_character}
+use Rattle.cpm_protocol.specs.Requests.{WireAsked, Key, Turn}
+use Rattle.cpm_slots.specs.Host.{Host}
+use Rattle.cpm_serve.specs.Lines.{WireEvent, event_reply, event_served, host_served, replies_served}
+
+-- the keys of a request are bytes
+abbrev pub HasByteKeys : WireAsked → Type 0
+HasByteKeys (Key slot keys) = list_all is_byte_character keys ≡ true
+HasByteKeys (Turn slot keys steps) = list_all is_byte_character keys ≡ true
+HasByteKeys _ = ⊤
+
+abbrev pub event_of : Data → Bool → WireEvent
+event_of d lacked = record { value = d; lacked = lacked }
+
+-- the request that a value is was served, and this is the reply
+pub record IsEventServed (d : Data) (old new : Host) (reply : Data) : Type 0 where
+  pub lacked : Bool
+  pub host : new ≡ (event_served old (event_of d lacked)).host
+  pub reply : reply ≡ event_reply old (event_of d lacked)
+
+-- and there was no memory for the reply
+pub record IsEventCut (d : Data) (old new : Host) : Type 0 where
+  pub lacked : Bool
+  pub host : new ≡ (event_served old (event_of d lacked)).host
+
+-- the requests that values are were served, one after another, and these are the replies
+pub record AreServed (values : List Data) (old new : Host) (replies : List Data) : Type 0 where
+  pub events : List WireEvent
+  pub values : map (λ e. e.value) events ≡ values
+  pub host : new ≡ host_served old events
+  pub replies : replies ≡ replies_served old events
+
+-- so many of them were, and there was no memory for the replies
+pub record AreServedUpTo (values : List Data) (old new : Host) : Type 0 where
+  pub events : List WireEvent
+  pub values : map (λ e. e.value) events ≡ values
+  pub count : ℕ
+  pub host : new ≡ host_served old (take count events)

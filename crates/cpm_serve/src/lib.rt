@@ -1,0 +1,12 @@
+//! The host behind its wire, as a machine: a line is read, and a line is replied. `docs/PROTOCOL.md` is the protocol.
+#![tactic(auto)]
+
+mod answer;
+mod grant;
+mod many;
+mod open;
+mod seen;
+mod server;
+mod slot;
+
+pub use server::{MOST_LINE, Server};

@@ -1,0 +1,96 @@
+//! Openings and forks.
+ghost use Rattle.std.specs.Prelude.{◌≡◌, IfOk, option_map};
+ghost use Rattle.cpm_geom.specs.Disk.{blank_disk};
+ghost use Rattle.cpm_protocol.specs.Requests.{Fork, Open, drive_names_of, text_if};
+ghost use Rattle.cpm_serve.specs.Answers.{answer_seen};
+ghost use Rattle.cpm_serve.specs.Served.{IsOpened, IsServed, disk_named, disks_named, disks_with};
+
+use crate::answer::{Answer, refused};
+use crate::seen::{fork_refusal, open_refusal};
+use cpm_flags::Cpu;
+use cpm_geom::{Format, Image};
+use cpm_protocol::{DriveNames, WireRefusal, WireReply};
+use cpm_slots::{Host, Opening, SlotId};
+use std::alloc::{AllocError, Global};
+
+/// The format of the blank disk that a name is of.
+fn format_named(name: &str) -> Option<Format>
+    ensures { option_map blank_disk result ≡ disk_named name.now }
+{
+    match name {
+        "blank" => Some(Format::Ibm3740),
+        "blank-large" => Some(Format::Large),
+        _ => None,
+    }
+}
+
+/// The drives with the blank disk that a name is of, if it is of one.
+fn with_named(
+    alloc: Global,
+    mut drives: Vec<Image>,
+    name: Option<&str>,
+) -> Result<Option<Vec<Image>>, AllocError>
+    ensures { IfOk result (λ r. option_map (λ v. v.items) r ≡ disks_with drives.items (text_if name)) }
+{
+    let Some(name) = name else {
+        return Ok(Some(drives));
+    };
+    let Some(format) = format_named(name) else {
+        return Ok(None);
+    };
+    drives.push(Image::blank(alloc, format)?)?;
+    Ok(Some(drives))
+}
+
+/// The blank disks that names for drives are of, if each is of one.
+fn drives_named(alloc: Global, names: DriveNames<'_>) -> Result<Option<Vec<Image>>, AllocError>
+    ensures { IfOk result (λ r. option_map (λ v. v.items) r ≡ disks_named (drive_names_of names)) }
+{
+    let Some(drives) = with_named(alloc, Vec::new(alloc), names.a)? else {
+        return Ok(None);
+    };
+    let Some(drives) = with_named(alloc, drives, names.b)? else {
+        return Ok(None);
+    };
+    let Some(drives) = with_named(alloc, drives, names.c)? else {
+        return Ok(None);
+    };
+    with_named(alloc, drives, names.d)
+}
+
+/// Opens a session with these drives.
+fn open_with(host: &mut Host, alloc: Global, opening: Opening) -> Answer
+    ensures { IsOpened opening.cpu opening.quota opening.drives.items host.old.host host.new.host (answer_seen result) }
+{
+    match host.open(alloc, opening) {
+        Ok(SlotId(slot)) => Answer::Plain(WireReply::Opened { slot }),
+        Err((_, error)) => refused(open_refusal(error)),
+    }
+}
+
+/// Opens a session.
+pub(crate) fn open(
+    host: &mut Host,
+    alloc: Global,
+    cpu: Cpu,
+    quota: u16,
+    drives: DriveNames<'_>,
+) -> Answer
+    ensures { IsServed (Open cpu quota (drive_names_of drives)) host.old.host host.new.host (answer_seen result) }
+{
+    match drives_named(alloc, drives) {
+        Ok(Some(drives)) => open_with(host, alloc, Opening { cpu, quota, drives }),
+        Ok(None) => refused(WireRefusal::FileFault),
+        Err(AllocError) => refused(WireRefusal::OutOfMemory),
+    }
+}
+
+/// Forks a session.
+pub(crate) fn fork(host: &mut Host, alloc: Global, slot: u64) -> Answer
+    ensures { IsServed (Fork slot) host.old.host host.new.host (answer_seen result) }
+{
+    match host.fork(alloc, SlotId(slot)) {
+        Ok(SlotId(slot)) => Answer::Plain(WireReply::Opened { slot }),
+        Err(error) => refused(fork_refusal(error)),
+    }
+}
