@@ -1,7 +1,6 @@
 -- What a request that names a slot asks of it, and its reply. Both follow from the request, the slot's state and the system drive.
 -- All of it is own: docs/PROTOCOL.md.
 use Rattle.std.specs.Prelude.{ℕ, ◌-◌, ◌==◌, not, min, Bool, true, false, List, [], ◌∷◌, length, map, take, Option, Some, None, Result, Ok, Err, if◌then◌else◌}
-use Rattle.cpm_bdos.specs.Waiting.{is_waiting}
 use Rattle.cpm_console.specs.Terminal.{most_pending}
 use Rattle.cpm_console.specs.declared.device.Device.{Device}
 use Rattle.cpm_console.specs.declared.device.Device.TheVariants as device
@@ -13,6 +12,7 @@ use Rattle.cpm_machine.specs.Serve.{look_of}
 use Rattle.cpm_machine.specs.Step.{after, is_running}
 use Rattle.cpm_machine.specs.ToWait.{executed_to_wait}
 use Rattle.cpm_machine.specs.Until.{granted_until}
+use Rattle.cpm_machine.specs.declared.reply.Look.{Look as SessionSeen}
 use Rattle.cpm_slots.specs.Serving.{Ask, Calls, Closes}
 use Rattle.cpm_slots.specs.declared.event.Refusal.{Refusal}
 use Rattle.cpm_slots.specs.declared.event.Refusal.TheVariants as slots
@@ -39,15 +39,13 @@ accepted_in keys (Some s) = accepted_of keys s
 abbrev pub key_asks : List ℕ → List Ask
 key_asks keys = map (λ key. Calls (KeyCall key)) keys
 
--- why a grant of n steps to a wait ended after k of them, which left this state: the first reason that fits
-abbrev pub wait_stop : (n k : ℕ) → MachineState → GrantStop
-wait_stop n k s =
-    if k == n then stop.All else if not (is_running s.ended) then stop.Stopped
-    else if is_waiting s.session s.memory then stop.Waiting else stop.Blocked
+-- why a grant of n steps to a wait ended after k of them, by what is seen afterwards: the first reason that fits
+abbrev pub wait_stop : (n k : ℕ) → SessionSeen → GrantStop
+wait_stop n k seen = if k == n then stop.All else if not (is_running seen.ended) then stop.Stopped else if seen.waiting then stop.Waiting else stop.Blocked
 
 -- what a grant to a wait executes, and why no more
 abbrev pub granted_to_wait : Disk → (steps : ℕ) → MachineState → ℕ × GrantStop
-granted_to_wait system steps s = let k = executed_to_wait system steps s in (k, wait_stop steps k (after system k s))
+granted_to_wait system steps s = let k = executed_to_wait system steps s in (k, wait_stop steps k (look_of (after system k s)))
 
 -- and of a slot that may be open
 abbrev pub wait_result : Disk → (steps : ℕ) → Option MachineState → Result (ℕ × GrantStop) Refusal

@@ -1,8 +1,6 @@
 //! Grants.
 ghost use Rattle.std.specs.Prelude.{◌≡◌, IfOk, OnErr};
 ghost use Rattle.cpm_machine.specs.Calls.{Grant as GrantCall};
-ghost use Rattle.cpm_machine.specs.MachineState.{MachineState};
-ghost use Rattle.cpm_machine.specs.Serve.{look_of};
 ghost use Rattle.cpm_protocol.specs.Requests.{Grant};
 ghost use Rattle.cpm_slots.specs.Host.{after_ask, slot_at};
 ghost use Rattle.cpm_slots.specs.Serving.{Calls};
@@ -19,7 +17,7 @@ use cpm_slots::{Host, Refusal, SlotId};
 
 /// Why a grant to a wait ended after so many steps, by the look afterwards.
 fn wait_stop(steps: u64, executed: u64, look: &Look) -> GrantStop
-    ensures { (s : MachineState) → look.now ≡ look_of s → result ≡ wait_stop steps executed s }
+    ensures { result ≡ wait_stop steps executed look.now }
 {
     if executed == steps {
         GrantStop::All

@@ -20,7 +20,7 @@ use std::alloc::{AllocError, Global};
 /// Does a request. What needs a file is refused.
 fn perform(host: &mut Host, alloc: Global, request: WireRequest<'_>) -> Answer
     requires { HasByteKeys (request_seen request) }
-    ensures { IsServed (request_seen request) host.old.host host.new.host (answer_seen result) }
+    ensures { IsServed (request_seen request.entry) host.old.host host.new.host (answer_seen result) }
 {
     match request {
         WireRequest::Open { cpu, quota, drives } => open(host, alloc, cpu, quota, drives),

@@ -30,7 +30,7 @@ fn with_named(
     mut drives: Vec<Image>,
     name: Option<&str>,
 ) -> Result<Option<Vec<Image>>, AllocError>
-    ensures { IfOk result (λ r. option_map (λ v. v.items) r ≡ disks_with drives.items (text_if name)) }
+    ensures { IfOk result (λ r. option_map (λ v. v.items) r ≡ disks_with drives.items (text_if name.entry)) }
 {
     let Some(name) = name else {
         return Ok(Some(drives));
@@ -44,7 +44,7 @@ fn with_named(
 
 /// The blank disks that names for drives are of, if each is of one.
 fn drives_named(alloc: Global, names: DriveNames<'_>) -> Result<Option<Vec<Image>>, AllocError>
-    ensures { IfOk result (λ r. option_map (λ v. v.items) r ≡ disks_named (drive_names_of names)) }
+    ensures { IfOk result (λ r. option_map (λ v. v.items) r ≡ disks_named (drive_names_of names.entry)) }
 {
     let Some(drives) = with_named(alloc, Vec::new(alloc), names.a)? else {
         return Ok(None);
@@ -76,7 +76,7 @@ pub(crate) fn open(
     quota: u16,
     drives: DriveNames<'_>,
 ) -> Answer
-    ensures { IsServed (Open cpu quota (drive_names_of drives)) host.old.host host.new.host (answer_seen result) }
+    ensures { IsServed (Open cpu quota (drive_names_of drives.entry)) host.old.host host.new.host (answer_seen result) }
 {
     match drives_named(alloc, drives) {
         Ok(Some(drives)) => open_with(host, alloc, Opening { cpu, quota, drives }),

@@ -116,7 +116,7 @@ pub(crate) fn peek(host: &Host, alloc: Global, slot: u64, address: u16, length: 
 
 /// Closes a slot, and says what is seen of it. Its drives are not written yet.
 pub(crate) fn close(host: &mut Host, slot: u64, out: DriveNames<'_>) -> Answer
-    ensures { IsServed (Close slot (drive_names_of out)) host.old.host host.new.host (answer_seen result) }
+    ensures { IsServed (Close slot (drive_names_of out.entry)) host.old.host host.new.host (answer_seen result) }
 {
     let id = SlotId(slot);
     let Ok(cpu) = host.cpu(id) else {

@@ -1,0 +1,135 @@
+-- A request of a slot, by what the host replied to its parts.
+use Rattle.std.proofs.Common.{◌≡◌, ◌≤◌, ℕ, zero, suc, List, [], ◌∷◌, length, take, min, true, false, Bool, Option, Some, None, refl, sym, ap, ap₂, ◌∙◌, subst, arith}
+use Rattle.std.specs.Prelude.{⊤, Result, Ok, Err}
+use Rattle.std.proofs.lemmas.Grind.{common_steps}
+use Rattle.cpm_flags.specs.declared.regs.Cpu.{Cpu}
+use Rattle.cpm_console.specs.declared.device.Device.{Device}
+use Rattle.cpm_console.specs.declared.device.Device.TheVariants as device
+use Rattle.cpm_geom.specs.Disk.{Disk}
+use Rattle.cpm_machine.specs.declared.reply.Closed.{Closed}
+use Rattle.cpm_machine.specs.declared.reply.Granted.{Granted}
+use Rattle.cpm_machine.specs.declared.reply.Look.{Look as SessionSeen}
+use Rattle.cpm_machine.specs.MachineState.{MachineState}
+use Rattle.cpm_machine.specs.Calls.{Call, Grant as GrantCall, GrantUntil, LookAt, granted, serve}
+use Rattle.cpm_machine.specs.Serve.{look_of}
+use Rattle.cpm_machine.specs.Step.{after}
+use Rattle.cpm_machine.specs.ToWait.{executed_to_wait}
+use Rattle.cpm_machine.specs.Until.{granted_until}
+use Rattle.cpm_slots.specs.declared.event.Refusal.{Refusal}
+use Rattle.cpm_slots.specs.declared.event.Refusal.TheVariants as slots
+use Rattle.cpm_slots.specs.declared.event.Reply.{Reply}
+use Rattle.cpm_slots.specs.declared.event.Reply.TheVariants as reply
+use Rattle.cpm_slots.specs.Host.{Host, after_ask, close_reply, cpu_reply, grant_reply, look_reply, reply_at, slot_at, take_reply, work_reply}
+use Rattle.cpm_slots.specs.Serving.{Ask, Calls, Closes, reply_of, take_call}
+use Rattle.cpm_slots.proofs.ServeLaws.{works}
+use Rattle.cpm_protocol.specs.Replies.{Answered, Looked, Refused, Text}
+use Rattle.cpm_protocol.specs.Requests.{WireAsked, Grant, Look}
+use Rattle.cpm_protocol.specs.declared.request.GrantGoal.TheVariants as goal
+use Rattle.cpm_protocol.specs.declared.word.GrantStop.{GrantStop}
+use Rattle.cpm_protocol.specs.declared.word.WireRefusal.TheVariants as refusal
+use Rattle.cpm_serve.specs.Seen.{grant_result, look_seen}
+use Rattle.cpm_serve.specs.Served.{Served, after_asks, asked_slot, outcome, refused, served, slot_served}
+use Rattle.cpm_serve.specs.Slot.{asks_of, slot_answer, take_asked, wait_answer, wait_result, wait_stop}
+use Rattle.cpm_serve.proofs.AskLemmas.{closed-host, closed-reply, grant-known, grant-unknown, look-known, look-unknown, open-reply, open-slot}
+
+pub same-outcome : {h g : Host} {a b : Answered} → h ≡ g → a ≡ b → outcome h a ≡ outcome g b
+same-outcome e f = ap₂ (λ (h : Host) (a : Answered). outcome h a) e f
+
+-- a request of a slot is served where what becomes of the host, and the reply, are right for a slot that is not open and for one that is
+pub by-slot : (h new : Host) (id : ℕ) (r : WireAsked) (a : Answered) →
+    (slot_at id h.slots ≡ None → (new ≡ h) × (a ≡ Refused refusal.NoSuchSlot)) →
+    ((s : MachineState) → slot_at id h.slots ≡ Some s → (new ≡ after_asks id (asks_of h.system r s) h) × (a ≡ slot_answer h.system r s)) →
+    outcome new a ≡ asked_slot h id r
+by-slot h new id r a closed is = by_case (slot_at id h.slots) refl
+  where
+    by_case : (o : Option MachineState) → slot_at id h.slots ≡ o → outcome new a ≡ slot_served h id r o
+    by_case None e = let k = closed e in same-outcome k.0 k.1
+    by_case (Some s) e = let k = is s e in same-outcome k.0 k.1
+
+-- ---- grants
+
+pub grant-served : (h new : Host) (id steps : ℕ) (r : Result Granted Refusal) → grant_reply r ≡ reply_at h id (Calls (GrantCall steps)) → new ≡ after_ask h id (Calls (GrantCall steps)) →
+    outcome new (grant_result r) ≡ asked_slot h id (Grant id steps goal.Steps)
+unfolding serve
+grant-served h new id steps r said host = by-slot h new id (Grant id steps goal.Steps) (grant_result r)
+    (λ none. (host ∙ closed-host h id (Calls (GrantCall steps)) none, ap grant_result (grant-unknown r (said ∙ closed-reply h id (Calls (GrantCall steps)) none))))
+    (λ s at. (host, ap grant_result (grant-known r (granted h.system steps s) (said ∙ open-reply h id (GrantCall steps) s at))))
+
+pub until-served : (h new : Host) (id steps pc : ℕ) (r : Result Granted Refusal) → grant_reply r ≡ reply_at h id (Calls (GrantUntil steps pc)) → new ≡ after_ask h id (Calls (GrantUntil steps pc)) →
+    outcome new (grant_result r) ≡ asked_slot h id (Grant id steps (goal.Address pc))
+unfolding serve
+until-served h new id steps pc r said host = by-slot h new id (Grant id steps (goal.Address pc)) (grant_result r)
+    (λ none. (host ∙ closed-host h id (Calls (GrantUntil steps pc)) none, ap grant_result (grant-unknown r (said ∙ closed-reply h id (Calls (GrantUntil steps pc)) none))))
+    (λ s at. (host, ap grant_result (grant-known r (granted_until h.system pc steps s) (said ∙ open-reply h id (GrantUntil steps pc) s at))))
+
+-- ---- grants to a wait
+
+worked : (k steps : ℕ) (system : Disk) (o : Option MachineState) → let r : Result ℕ Refusal = Ok k in r ≡ work_reply system steps o → (s : MachineState) × (o ≡ Some s) × (k ≡ executed_to_wait system steps s)
+worked k steps system None e = absurd cc
+worked k steps system (Some s) e = (s, refl, cc)
+
+-- the slot after such a grant
+pub worked-slot : (h new : Host) (id k steps : ℕ) (s : MachineState) → slot_at id h.slots ≡ Some s → k ≡ executed_to_wait h.system steps s → new ≡ after_ask h id (Calls (GrantCall k)) →
+    slot_at id new.slots ≡ Some (after h.system k s)
+worked-slot h new id k steps s at e host =
+    ap (λ (g : Host). slot_at id g.slots) host ∙ open-slot h id (GrantCall k) s at ∙ ap Some (sym (works h.system steps k s (after h.system k s) e refl).state)
+
+seen : (new : Host) (id : ℕ) (s : MachineState) (r : Result SessionSeen Refusal) → slot_at id new.slots ≡ Some s → look_reply r ≡ reply_at new id (Calls LookAt) → r ≡ Ok (look_of s)
+unfolding serve
+seen new id s r at said = look-known r (look_of s) (said ∙ open-reply new id LookAt s at)
+
+pub waited : (h new : Host) (id steps k : ℕ) (look : SessionSeen) (stop : GrantStop) → let r : Result ℕ Refusal = Ok k in let l : Result SessionSeen Refusal = Ok look in
+    r ≡ work_reply h.system steps (slot_at id h.slots) → new ≡ after_ask h id (Calls (GrantCall k)) → look_reply l ≡ reply_at new id (Calls LookAt) → stop ≡ wait_stop steps k look →
+    let w : Result (ℕ × GrantStop) Refusal = Ok (k, stop) in w ≡ wait_result h.system steps (slot_at id h.slots)
+waited h new id steps k look stop work host said is =
+    let d = worked k steps h.system (slot_at id h.slots) work in
+    let s = d.0 in
+    let l : Result SessionSeen Refusal = Ok look in
+    let known : l ≡ Ok (look_of (after h.system k s)) = seen new id (after h.system k s) l (worked-slot h new id k steps s d.1 d.2 host) said in
+    let same : look ≡ look_of (after h.system k s) = cc in
+    let p : Result (ℕ × GrantStop) Refusal = Ok (k, stop) in
+    let q : Result (ℕ × GrantStop) Refusal = Ok (k, wait_stop steps k (look_of (after h.system k s))) in
+    let first : p ≡ q = ap (λ (x : GrantStop). let w : Result (ℕ × GrantStop) Refusal = Ok (k, x) in w) (is ∙ ap (λ (x : SessionSeen). wait_stop steps k x) same) in
+    first ∙ ap (λ (n : ℕ). let w : Result (ℕ × GrantStop) Refusal = Ok (n, wait_stop steps n (look_of (after h.system n s))) in w) d.2 ∙ ap (wait_result h.system steps) (sym d.1)
+
+pub not-waited : (h new : Host) (id steps k : ℕ) (fault : Refusal) → let r : Result ℕ Refusal = Ok k in let l : Result SessionSeen Refusal = Err fault in
+    r ≡ work_reply h.system steps (slot_at id h.slots) → new ≡ after_ask h id (Calls (GrantCall k)) → look_reply l ≡ reply_at new id (Calls LookAt) → ⊥
+not-waited h new id steps k fault work host said =
+    let d = worked k steps h.system (slot_at id h.slots) work in
+    let s = d.0 in
+    let l : Result SessionSeen Refusal = Err fault in
+    let known : l ≡ Ok (look_of (after h.system k s)) = seen new id (after h.system k s) l (worked-slot h new id k steps s d.1 d.2 host) said in
+    cc
+
+pub wait-served : (h new : Host) (id steps : ℕ) (r : Result (ℕ × GrantStop) Refusal) → r ≡ wait_result h.system steps (slot_at id h.slots) →
+    ((k : ℕ) (stop : GrantStop) → r ≡ Ok (k, stop) → new ≡ after_ask h id (Calls (GrantCall k))) → ((fault : Refusal) → r ≡ Err fault → new ≡ h) →
+    outcome new (wait_answer r) ≡ asked_slot h id (Grant id steps goal.Wait)
+wait-served h new id steps r said host kept = by-slot h new id (Grant id steps goal.Wait) (wait_answer r)
+    (λ none. let is : r ≡ Err slots.NoSuchSlot = said ∙ ap (wait_result h.system steps) none in (kept slots.NoSuchSlot is, ap wait_answer is))
+    (λ s at.
+      let k = executed_to_wait h.system steps s in
+      let is : r ≡ Ok (k, wait_stop steps k (look_of (after h.system k s))) = said ∙ ap (wait_result h.system steps) at in
+      (host k (wait_stop steps k (look_of (after h.system k s))) is, ap wait_answer is))
+
+-- ---- looks
+
+pub look-served : (h new : Host) (id : ℕ) (cpu : Cpu) (look : SessionSeen) → let r : Result Cpu Refusal = Ok cpu in let l : Result SessionSeen Refusal = Ok look in
+    r ≡ cpu_reply (slot_at id h.slots) → look_reply l ≡ reply_at h id (Calls LookAt) → new ≡ h → outcome new (Looked (look_seen cpu look)) ≡ asked_slot h id (Look id)
+look-served h new id cpu look c said same = by-slot h new id (Look id) (Looked (look_seen cpu look))
+    (λ none. let no : (let r : Result Cpu Refusal = Ok cpu in r ≡ Err slots.NoSuchSlot) = c ∙ ap cpu_reply none in absurd cc)
+    (λ s at.
+      let l : Result SessionSeen Refusal = Ok look in
+      let r : Result Cpu Refusal = Ok cpu in
+      let known : l ≡ Ok (look_of s) = seen h id s l at said in
+      let is : look ≡ look_of s = cc in
+      let of : r ≡ Ok s.cpu = c ∙ ap cpu_reply at in
+      let by : cpu ≡ s.cpu = cc in
+      (same, ap₂ (λ (p : Cpu) (x : SessionSeen). Looked (look_seen p x)) by is))
+
+pub look-not-served : (h new : Host) (id : ℕ) (fault : Refusal) (a : Answered) → let l : Result SessionSeen Refusal = Err fault in
+    look_reply l ≡ reply_at h id (Calls LookAt) → new ≡ h → a ≡ Refused refusal.NoSuchSlot → outcome new a ≡ asked_slot h id (Look id)
+look-not-served h new id fault a said same is = by-slot h new id (Look id) a
+    (λ none. (same, is))
+    (λ s at.
+      let l : Result SessionSeen Refusal = Err fault in
+      let known : l ≡ Ok (look_of s) = seen h id s l at said in absurd cc)
