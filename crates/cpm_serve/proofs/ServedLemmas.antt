@@ -1,17 +1,20 @@
 -- A request of a slot, by what the host replied to its parts.
-use Rattle.std.proofs.Common.{◌≡◌, ◌≤◌, ℕ, zero, suc, List, [], ◌∷◌, length, take, min, true, false, Bool, Option, Some, None, refl, sym, ap, ap₂, ◌∙◌, subst, arith}
-use Rattle.std.specs.Prelude.{⊤, Result, Ok, Err}
+use Rattle.std.proofs.Common.{◌≡◌, ◌<◌, ◌≤◌, ◌+◌, ◌-◌, ◌%◌, ℕ, zero, suc, List, [], ◌∷◌, length, take, min, cond, ◌++◌, append_assoc, true, false, Bool, Option, Some, None, refl, sym, ap, ap₂, ◌∙◌, subst, arith}
+use Rattle.std.specs.Prelude.{⊤, Result, Ok, Err, is_ok, IfSome}
+use Rattle.std.specs.Result.{result_unwrap_or}
+use Rattle.std.proofs.lemmas.Bool.Decides.{nat_tests}
 use Rattle.std.proofs.lemmas.Grind.{common_steps}
 use Rattle.cpm_flags.specs.declared.regs.Cpu.{Cpu}
 use Rattle.cpm_console.specs.declared.device.Device.{Device}
 use Rattle.cpm_console.specs.declared.device.Device.TheVariants as device
 use Rattle.cpm_geom.specs.Disk.{Disk}
+use Rattle.cpm_memory.specs.Contents.{Contents, byte_at, run_at}
 use Rattle.cpm_machine.specs.declared.reply.Closed.{Closed}
 use Rattle.cpm_machine.specs.declared.reply.Granted.{Granted}
 use Rattle.cpm_machine.specs.declared.reply.Look.{Look as SessionSeen}
 use Rattle.cpm_machine.specs.MachineState.{MachineState}
-use Rattle.cpm_machine.specs.Calls.{Call, Grant as GrantCall, GrantUntil, LookAt, granted, serve}
-use Rattle.cpm_machine.specs.Serve.{look_of}
+use Rattle.cpm_machine.specs.Calls.{Call, Grant as GrantCall, GrantUntil, Key as KeyCall, LookAt, Peek as PeekCall, Take as TakeCall, TakeList, granted, serve, served_key}
+use Rattle.cpm_machine.specs.Serve.{look_of, takes_key}
 use Rattle.cpm_machine.specs.Step.{after}
 use Rattle.cpm_machine.specs.ToWait.{executed_to_wait}
 use Rattle.cpm_machine.specs.Until.{granted_until}
@@ -19,17 +22,17 @@ use Rattle.cpm_slots.specs.declared.event.Refusal.{Refusal}
 use Rattle.cpm_slots.specs.declared.event.Refusal.TheVariants as slots
 use Rattle.cpm_slots.specs.declared.event.Reply.{Reply}
 use Rattle.cpm_slots.specs.declared.event.Reply.TheVariants as reply
-use Rattle.cpm_slots.specs.Host.{Host, after_ask, close_reply, cpu_reply, grant_reply, look_reply, reply_at, slot_at, take_reply, work_reply}
-use Rattle.cpm_slots.specs.Serving.{Ask, Calls, Closes, reply_of, take_call}
+use Rattle.cpm_slots.specs.Host.{Host, after_ask, close_reply, cpu_reply, grant_reply, key_reply, look_reply, peek_reply, reply_at, slot_at, take_reply, work_reply}
+use Rattle.cpm_slots.specs.Serving.{Ask, Calls, Closes, reply_of, serve_slot, take_call}
 use Rattle.cpm_slots.proofs.ServeLaws.{works}
 use Rattle.cpm_protocol.specs.Replies.{Answered, Looked, Refused, Text}
-use Rattle.cpm_protocol.specs.Requests.{WireAsked, Grant, Look}
+use Rattle.cpm_protocol.specs.Requests.{FourNames, WireAsked, Close, Grant, ListTake, Look, Take}
 use Rattle.cpm_protocol.specs.declared.request.GrantGoal.TheVariants as goal
 use Rattle.cpm_protocol.specs.declared.word.GrantStop.{GrantStop}
 use Rattle.cpm_protocol.specs.declared.word.WireRefusal.TheVariants as refusal
 use Rattle.cpm_serve.specs.Seen.{grant_result, look_seen}
 use Rattle.cpm_serve.specs.Served.{Served, after_asks, asked_slot, outcome, refused, served, slot_served}
-use Rattle.cpm_serve.specs.Slot.{asks_of, slot_answer, take_asked, wait_answer, wait_result, wait_stop}
+use Rattle.cpm_serve.specs.Slot.{accepted_in, accepted_of, asks_of, slot_answer, take_asked, wait_answer, wait_result, wait_stop}
 use Rattle.cpm_serve.proofs.AskLemmas.{closed-host, closed-reply, grant-known, grant-unknown, look-known, look-unknown, open-reply, open-slot}
 
 pub same-outcome : {h g : Host} {a b : Answered} → h ≡ g → a ≡ b → outcome h a ≡ outcome g b
@@ -133,3 +136,136 @@ look-not-served h new id fault a said same is = by-slot h new id (Look id) a
     (λ s at.
       let l : Result SessionSeen Refusal = Err fault in
       let known : l ≡ Ok (look_of s) = seen h id s l at said in absurd cc)
+
+-- ---- bytes of a device
+
+take-min : (n : ℕ) (xs : List ℕ) → take (min n (length xs)) xs ≡ take n xs
+take-min n xs = grind (arith, common_steps)
+
+-- what was taken, in front of a buffer
+abbrev pub taken_answer : Result ℕ Refusal → List ℕ → Answered
+taken_answer (Ok count) bytes = Text (take count bytes)
+taken_answer (Err fault) bytes = Refused refusal.NoSuchSlot
+
+bytes_in : Reply → List ℕ
+bytes_in (reply.Bytes bytes) = bytes.items
+bytes_in _ = []
+
+taken-known : (r : Result ℕ Refusal) (out bytes : List ℕ) → take_reply r out ≡ reply.Bytes (record { items = bytes }) → taken_answer r out ≡ Text bytes
+unfolding bytes_in
+taken-known (Ok count) out bytes e = ap Text (ap bytes_in e)
+taken-known (Err fault) out bytes e = cc
+
+taken-unknown : (r : Result ℕ Refusal) (out : List ℕ) → take_reply r out ≡ reply.Refused slots.NoSuchSlot → taken_answer r out ≡ Refused refusal.NoSuchSlot
+taken-unknown (Ok count) out e = cc
+taken-unknown (Err fault) out e = refl
+
+pub take-served : (h new : Host) (device : Device) (id most : ℕ) (r : Result ℕ Refusal) (out : List ℕ) →
+    take_reply r out ≡ reply_at h id (Calls (take_call device most)) → new ≡ after_ask h id (Calls (take_call device most)) →
+    outcome new (taken_answer r out) ≡ served h (take_asked device id most)
+unfolding serve
+take-served h new device.Console id most r out said host = by-slot h new id (Take id most) (taken_answer r out)
+    (λ none. (host ∙ closed-host h id (Calls (TakeCall most)) none, taken-unknown r out (said ∙ closed-reply h id (Calls (TakeCall most)) none)))
+    (λ s at. (host, taken-known r out (take (min most (length s.session.console.screen)) s.session.console.screen) (said ∙ open-reply h id (TakeCall most) s at) ∙ ap Text (take-min most s.session.console.screen)))
+take-served h new device.List id most r out said host = by-slot h new id (ListTake id most) (taken_answer r out)
+    (λ none. (host ∙ closed-host h id (Calls (TakeList most)) none, taken-unknown r out (said ∙ closed-reply h id (Calls (TakeList most)) none)))
+    (λ s at. (host, taken-known r out (take (min most (length s.session.console.printer)) s.session.console.printer) (said ∙ open-reply h id (TakeList most) s at) ∙ ap Text (take-min most s.session.console.printer)))
+
+-- ---- a slot that is closed
+
+closed-unknown : (fault : Refusal) (s : MachineState) (h : Host) (id : ℕ) → slot_at id h.slots ≡ Some s → let r : Result Closed Refusal = Err fault in close_reply r ≡ reply_at h id Closes → ⊥
+unfolding serve_slot
+closed-unknown fault s h id at said =
+    let r : Result Closed Refusal = Err fault in
+    let e : close_reply r ≡ reply.Done = said ∙ ap (λ o. (serve_slot h.system Closes o).reply) at in cc
+
+pub close-not-served : (h new : Host) (id : ℕ) (fault : Refusal) (out : FourNames) (a : Answered) → let l : Result Closed Refusal = Err fault in
+    close_reply l ≡ reply_at h id Closes → new ≡ h → a ≡ Refused refusal.NoSuchSlot → outcome new a ≡ asked_slot h id (Close id out)
+close-not-served h new id fault out a said same is = by-slot h new id (Close id out) a
+    (λ none. (same, is))
+    (λ s at. absurd (closed-unknown fault s h id at said))
+
+-- ---- keys
+
+key-served : (system : Disk) (key : ℕ) (s : MachineState) → reply_of (serve system (KeyCall key) s).answer ≡ reply_of (served_key (takes_key s) key s).answer
+unfolding serve
+key-served system key s = refl
+
+key-state : (system : Disk) (key : ℕ) (s : MachineState) → Some (serve system (KeyCall key) s).state ≡ Some (served_key (takes_key s) key s).state
+unfolding serve
+key-state system key s = refl
+
+accepted-one : (key : ℕ) (rest : List ℕ) (s : MachineState) (b : Bool) → takes_key s ≡ b → accepted_of (key ∷ rest) s ≡ cond {A = ℕ} b 1 0 + accepted_of rest (served_key b key s).state
+accepted-one key rest s true e =
+    let p = s.session.console.keys in
+    let below : length p < 4096 = grind (arith, nat_tests) in
+    let more : length (p ++ key ∷ []) ≡ length p + 1 = grind (arith, common_steps) in
+    rw more (omega (arith, below))
+accepted-one key rest s false e =
+    let p = s.session.console.keys in
+    let above : 4096 ≤ length p = grind (arith, nat_tests) in
+    omega (arith, above)
+
+key-ok : (r : Result ⊤ Refusal) (b : Bool) (key : ℕ) (s : MachineState) → key_reply r ≡ reply_of (served_key b key s).answer → is_ok r ≡ b
+key-ok (Ok done) true key s e = refl
+key-ok (Ok done) false key s e = cc
+key-ok (Err fault) true key s e = cc
+key-ok (Err fault) false key s e = refl
+
+key-refused : (r : Result ⊤ Refusal) → key_reply r ≡ reply.Refused slots.NoSuchSlot → is_ok r ≡ false
+key-refused (Ok done) e = cc
+key-refused (Err fault) e = refl
+
+-- a key that is offered finds room where it is accepted
+pub accepted-step : (h new : Host) (id key : ℕ) (rest : List ℕ) (r : Result ⊤ Refusal) → key_reply r ≡ reply_at h id (Calls (KeyCall key)) → new ≡ after_ask h id (Calls (KeyCall key)) →
+    accepted_in (key ∷ rest) (slot_at id h.slots) ≡ cond {A = ℕ} (is_ok r) 1 0 + accepted_in rest (slot_at id new.slots)
+accepted-step h new id key rest r said host = by_case (slot_at id h.slots) refl
+  where
+    by_case : (o : Option MachineState) → slot_at id h.slots ≡ o → accepted_in (key ∷ rest) o ≡ cond {A = ℕ} (is_ok r) 1 0 + accepted_in rest (slot_at id new.slots)
+    by_case None none =
+        let same : new ≡ h = host ∙ closed-host h id (Calls (KeyCall key)) none in
+        let no : is_ok r ≡ false = key-refused r (said ∙ closed-reply h id (Calls (KeyCall key)) none) in
+        let still : slot_at id new.slots ≡ None = ap (λ (g : Host). slot_at id g.slots) same ∙ none in
+        rw (no, still) refl
+    by_case (Some s) at =
+        let b = takes_key s in
+        let is : is_ok r ≡ b = key-ok r b key s (said ∙ open-reply h id (KeyCall key) s at ∙ key-served h.system key s) in
+        let now : slot_at id new.slots ≡ Some (served_key b key s).state = ap (λ (g : Host). slot_at id g.slots) host ∙ open-slot h id (KeyCall key) s at ∙ key-state h.system key s in
+        rw (is, now) (accepted-one key rest s b refl)
+
+-- ---- bytes of a memory
+
+byte_in : Reply → ℕ
+byte_in (reply.Peeked byte) = byte
+byte_in _ = 0
+
+peek-known : (r : Result ℕ Refusal) (byte : ℕ) → peek_reply r ≡ reply.Peeked byte → result_unwrap_or r 0 ≡ byte
+unfolding byte_in
+peek-known (Ok x) byte e = ap byte_in e
+peek-known (Err fault) byte e = cc
+
+pub run-step : (m : Contents) (place n k : ℕ) → k < n → run_at m place (n - k) ≡ byte_at m place ∷ run_at m ((place + 1) % 65536) (n - (k + 1))
+unfolding run_at
+run-step m place n k below = let e : n - k ≡ suc (n - (k + 1)) = omega (arith, below) in ap (run_at m place) e
+
+pub if-open : (o : Option MachineState) (P : MachineState → Type 0) → ((s : MachineState) → o ≡ Some s → P s) → IfSome o P
+if-open None P f = tt
+if-open (Some s) P f = f s refl
+
+pub peek-byte : (h : Host) (id address : ℕ) (s : MachineState) (r : Result ℕ Refusal) → slot_at id h.slots ≡ Some s → peek_reply r ≡ reply_at h id (Calls (PeekCall address)) → result_unwrap_or r 0 ≡ byte_at s.memory address
+unfolding serve
+peek-byte h id address s r at said = peek-known r (byte_at s.memory address) (said ∙ open-reply h id (PeekCall address) s at)
+
+-- a byte more, and those to come
+pub bytes-step : (m : Contents) (bytes now : List ℕ) (byte place n k : ℕ) → k < n → now ≡ bytes ++ byte ∷ [] → byte ≡ byte_at m place →
+    now ++ run_at m ((place + 1) % 65536) (n - (k + 1)) ≡ bytes ++ run_at m place (n - k)
+bytes-step m bytes now byte place n k below e is =
+    rw (e, is, run-step m place n k below) (append_assoc bytes (byte_at m place ∷ []) (run_at m ((place + 1) % 65536) (n - (k + 1))))
+
+pub all-bytes : (m : Contents) (bytes whole : List ℕ) (place n k : ℕ) → n ≤ k → bytes ++ run_at m place (n - k) ≡ whole → bytes ≡ whole
+unfolding run_at
+all-bytes m bytes whole place n k done e =
+    let none : n - k ≡ 0 = omega (arith, done) in
+    let nothing : run_at m place (n - k) ≡ [] = ap (run_at m place) none in
+    let same : bytes ++ [] ≡ bytes = grind (arith, common_steps) in
+    sym same ∙ ap (λ xs. bytes ++ xs) (sym nothing) ∙ e

@@ -89,7 +89,7 @@ fn memory_bytes(
     address: u16,
     length: u16,
 ) -> Result<Vec<u8>, AllocError>
-    ensures { IfSome (slot_at id.0 host.now.host.slots) (λ s. IfOk result (λ bytes. bytes.items ≡ run_at s.memory address length)) }
+    ensures { IfOk result (λ bytes. IfSome (slot_at id.0 host.now.host.slots) (λ s. bytes.items ≡ run_at s.memory address length)) }
 {
     let mut bytes = Vec::new(alloc);
     let mut place = address;
