@@ -1,2 +1,4 @@
 pub mod AskLemmas
 pub mod ServedLemmas
+pub mod ByteKeys
+pub mod ManyLemmas
