@@ -2,3 +2,4 @@ pub mod AskLemmas
 pub mod ServedLemmas
 pub mod ByteKeys
 pub mod ManyLemmas
+pub mod LineLemmas

@@ -68,3 +68,7 @@ all-values view xs i x within is =
 pub on-err : {A E : Type 0} (r : Result A E) (P : Type 0) → P → OnErr r P
 on-err (Ok x) P p = tt
 on-err (Err e) P p = p
+
+pub OnErr-weaker : {A E : Type 0} (r : Result A E) (P Q : Type 0) → (P → Q) → OnErr r P → OnErr r Q
+OnErr-weaker (Ok x) P Q f p = tt
+OnErr-weaker (Err e) P Q f p = f p

@@ -3,6 +3,11 @@ use Rattle.std.specs.Prelude.{◌≡◌, ⊤, ℕ, Bool, true, List, map, take}
 use Rattle.std.specs.List.{list_all}
 use Rattle.serde_json.specs.Data.{Data}
 use Rattle.cpm_protocol.specs.Bytes.{is_byte_character}
+use Rattle.serde_json.specs.Written.{compact_text}
+use Rattle.cpm_protocol.specs.Replies.{Answered, NoJson, Refused}
+use Rattle.cpm_protocol.specs.declared.fault.LineError.{LineError}
+use Rattle.cpm_protocol.specs.declared.fault.LineError.TheVariants as unread
+use Rattle.cpm_protocol.specs.declared.word.WireRefusal.TheVariants as refusal
 use Rattle.cpm_protocol.specs.Requests.{WireAsked, Key, Turn, line_asked}
 use Rattle.cpm_slots.specs.Host.{Host}
 use Rattle.cpm_serve.specs.Lines.{WireEvent, event_reply, event_served, host_served, line_reply, replies_served, values_asked}
@@ -58,3 +63,15 @@ pub record IsValueCut (d : Data) (old new : Host) : Type 0 where
   pub asked : AreAskedBy d events
   pub count : ℕ
   pub host : new ≡ host_served old (take count events)
+
+-- a line of this value was served, and this is the text of the reply
+pub record IsTextServed (d : Data) (old new : Host) (text : List ℕ) : Type 0 where
+  pub events : List WireEvent
+  pub asked : AreAskedBy d events
+  pub host : new ≡ host_served old events
+  pub reply : text ≡ compact_text (line_reply d (line_asked d) (replies_served old events))
+
+-- the reply to a line of which no value was read
+abbrev pub unread_answer : LineError → Answered
+unread_answer (unread.NoJson at) = NoJson at
+unread_answer unread.OutOfMemory = Refused refusal.OutOfMemory
