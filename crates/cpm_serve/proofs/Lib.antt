@@ -3,3 +3,4 @@ pub mod ServedLemmas
 pub mod ByteKeys
 pub mod ManyLemmas
 pub mod LineLemmas
+pub mod TurnLemmas

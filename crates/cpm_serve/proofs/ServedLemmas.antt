@@ -77,7 +77,7 @@ pub worked-slot : (h new : Host) (id k steps : ℕ) (s : MachineState) → slot_
 worked-slot h new id k steps s at e host =
     ap (λ (g : Host). slot_at id g.slots) host ∙ open-slot h id (GrantCall k) s at ∙ ap Some (sym (works h.system steps k s (after h.system k s) e refl).state)
 
-seen : (new : Host) (id : ℕ) (s : MachineState) (r : Result SessionSeen Refusal) → slot_at id new.slots ≡ Some s → look_reply r ≡ reply_at new id (Calls LookAt) → r ≡ Ok (look_of s)
+pub seen : (new : Host) (id : ℕ) (s : MachineState) (r : Result SessionSeen Refusal) → slot_at id new.slots ≡ Some s → look_reply r ≡ reply_at new id (Calls LookAt) → r ≡ Ok (look_of s)
 unfolding serve
 seen new id s r at said = look-known r (look_of s) (said ∙ open-reply new id LookAt s at)
 
@@ -139,7 +139,7 @@ look-not-served h new id fault a said same is = by-slot h new id (Look id) a
 
 -- ---- bytes of a device
 
-take-min : (n : ℕ) (xs : List ℕ) → take (min n (length xs)) xs ≡ take n xs
+pub take-min : (n : ℕ) (xs : List ℕ) → take (min n (length xs)) xs ≡ take n xs
 take-min n xs = grind (arith, common_steps)
 
 -- what was taken, in front of a buffer
@@ -147,7 +147,7 @@ abbrev pub taken_answer : Result ℕ Refusal → List ℕ → Answered
 taken_answer (Ok count) bytes = Text (take count bytes)
 taken_answer (Err fault) bytes = Refused refusal.NoSuchSlot
 
-bytes_in : Reply → List ℕ
+unfoldable pub bytes_in : Reply → List ℕ
 bytes_in (reply.Bytes bytes) = bytes.items
 bytes_in _ = []
 

@@ -13,7 +13,7 @@ use Rattle.cpm_slots.specs.Host.{Host, after_ask, fork_fault, forked_if, room_fa
 use Rattle.cpm_slots.specs.Serving.{Ask}
 use Rattle.cpm_slots.specs.declared.event.ForkError.{ForkError}
 use Rattle.cpm_protocol.specs.Replies.{Answered, Opened, Refused}
-use Rattle.cpm_protocol.specs.Requests.{FourNames, WireAsked, Open, Fork, Key, Take, ListTake, Peek}
+use Rattle.cpm_protocol.specs.Requests.{FourNames, WireAsked, Open, Fork, Key, Take, ListTake, Peek, Turn}
 use Rattle.cpm_protocol.specs.declared.word.WireRefusal.{WireRefusal}
 use Rattle.cpm_protocol.specs.declared.word.WireRefusal.TheVariants as refusal
 use Rattle.cpm_serve.specs.Seen.{fork_refusal, open_refusal}
@@ -112,6 +112,7 @@ abbrev pub takes_memory : WireAsked → Bool
 takes_memory (Open cpu quota drives) = true
 takes_memory (Fork slot) = true
 takes_memory (Key slot keys) = true
+takes_memory (Turn slot keys steps) = true
 takes_memory (Take slot most) = true
 takes_memory (ListTake slot most) = true
 takes_memory (Peek slot address length) = true

@@ -1,14 +1,14 @@
 -- What a request that names a slot asks of it, and its reply. Both follow from the request, the slot's state and the system drive.
 -- All of it is own: docs/PROTOCOL.md.
-use Rattle.std.specs.Prelude.{ℕ, ◌-◌, ◌==◌, not, min, Bool, true, false, List, [], ◌∷◌, length, map, take, Option, Some, None, Result, Ok, Err, if◌then◌else◌}
+use Rattle.std.specs.Prelude.{ℕ, ◌-◌, ◌==◌, not, min, Bool, true, false, List, [], ◌∷◌, ◌++◌, length, map, take, Option, Some, None, Result, Ok, Err, if◌then◌else◌}
 use Rattle.cpm_console.specs.Terminal.{most_pending}
 use Rattle.cpm_console.specs.declared.device.Device.{Device}
 use Rattle.cpm_console.specs.declared.device.Device.TheVariants as device
 use Rattle.cpm_geom.specs.Disk.{Disk}
 use Rattle.cpm_memory.specs.Contents.{run_at}
-use Rattle.cpm_machine.specs.Calls.{Call, Key as KeyCall, Grant as GrantCall, GrantUntil, Take as TakeCall, TakeList, granted}
+use Rattle.cpm_machine.specs.Calls.{Call, Key as KeyCall, Grant as GrantCall, GrantUntil, Take as TakeCall, TakeList, granted, state_after}
 use Rattle.cpm_machine.specs.MachineState.{MachineState}
-use Rattle.cpm_machine.specs.Serve.{look_of}
+use Rattle.cpm_machine.specs.Serve.{look_of, taken, taken_list}
 use Rattle.cpm_machine.specs.Step.{after, is_running}
 use Rattle.cpm_machine.specs.ToWait.{executed_to_wait}
 use Rattle.cpm_machine.specs.Until.{granted_until}
@@ -16,14 +16,14 @@ use Rattle.cpm_machine.specs.declared.reply.Look.{Look as SessionSeen}
 use Rattle.cpm_slots.specs.Serving.{Ask, Calls, Closes}
 use Rattle.cpm_slots.specs.declared.event.Refusal.{Refusal}
 use Rattle.cpm_slots.specs.declared.event.Refusal.TheVariants as slots
-use Rattle.cpm_protocol.specs.Replies.{Answered, Accepted, Granted, Looked, Refused, Text}
-use Rattle.cpm_protocol.specs.Requests.{FourNames, WireAsked, Key, Grant, Take, ListTake, Look, Peek, Save, Close}
+use Rattle.cpm_protocol.specs.Replies.{Answered, Accepted, Granted, Looked, Refused, Text, Turned}
+use Rattle.cpm_protocol.specs.Requests.{FourNames, WireAsked, Key, Grant, Take, ListTake, Look, Peek, Save, Close, Turn}
 use Rattle.cpm_protocol.specs.declared.request.GrantGoal.{GrantGoal}
 use Rattle.cpm_protocol.specs.declared.request.GrantGoal.TheVariants as goal
 use Rattle.cpm_protocol.specs.declared.word.GrantStop.{GrantStop}
 use Rattle.cpm_protocol.specs.declared.word.GrantStop.TheVariants as stop
 use Rattle.cpm_protocol.specs.declared.word.WireRefusal.TheVariants as refusal
-use Rattle.cpm_serve.specs.Seen.{grant_answer, look_seen}
+use Rattle.cpm_serve.specs.Seen.{end_seen, grant_answer, look_seen}
 
 -- ---- parts of replies
 
@@ -66,6 +66,43 @@ grant_calls system steps goal.Steps s = Calls (GrantCall steps) ∷ []
 grant_calls system steps (goal.Address pc) s = Calls (GrantUntil steps pc) ∷ []
 grant_calls system steps goal.Wait s = Calls (GrantCall (executed_to_wait system steps s)) ∷ []
 
+-- the most bytes that a turn gives of each device
+abbrev pub turn_bytes : ℕ
+turn_bytes = 8192
+
+-- the state after keys were offered, one after another
+abbrev pub keys_offered : Disk → List ℕ → MachineState → MachineState
+keys_offered system keys s = state_after system (map KeyCall keys) s
+
+-- and after a grant to a wait behind them
+abbrev pub turn_granted : Disk → List ℕ → (steps : ℕ) → MachineState → ℕ × GrantStop
+turn_granted system keys steps s = granted_to_wait system steps (keys_offered system keys s)
+
+abbrev pub turn_left : Disk → List ℕ → (steps : ℕ) → MachineState → MachineState
+turn_left system keys steps s = after system (turn_granted system keys steps s).0 (keys_offered system keys s)
+
+-- what is seen of a state once so many bytes of each device were taken
+abbrev pub seen_behind : MachineState → SessionSeen
+seen_behind s = look_of (taken_list turn_bytes (taken turn_bytes s))
+
+-- What becomes of a turn: the replies to `key`, to `grant` with a wait, to `take` and to `list`, and two members of that to `look`, one after another.
+abbrev pub turn_answer : Disk → List ℕ → (steps : ℕ) → MachineState → Answered
+turn_answer system keys steps s =
+    let left = turn_left system keys steps s in
+    Turned (record {
+      accepted = accepted_of keys s;
+      executed = (turn_granted system keys steps s).0;
+      why = (turn_granted system keys steps s).1;
+      text = take turn_bytes left.session.console.screen;
+      list = take turn_bytes left.session.console.printer;
+      waiting = (seen_behind left).waiting;
+      end = end_seen (seen_behind left).ended;
+    })
+
+abbrev pub turn_asks : Disk → List ℕ → (steps : ℕ) → MachineState → List Ask
+turn_asks system keys steps s =
+    key_asks keys ++ Calls (GrantCall (turn_granted system keys steps s).0) ∷ Calls (TakeCall turn_bytes) ∷ Calls (TakeList turn_bytes) ∷ []
+
 abbrev pub look_answer : MachineState → Answered
 look_answer s = Looked (look_seen s.cpu (look_of s))
 
@@ -86,6 +123,7 @@ slot_of (Look slot) = Some slot
 slot_of (Peek slot address length) = Some slot
 slot_of (Save slot file) = Some slot
 slot_of (Close slot out) = Some slot
+slot_of (Turn slot keys steps) = Some slot
 slot_of _ = None
 
 -- what is asked of a slot that is open. A look and bytes of the memory change nothing. Drives are not written yet.
@@ -95,6 +133,7 @@ asks_of system (Grant slot steps goal) s = grant_calls system steps goal s
 asks_of system (Take slot most) s = Calls (TakeCall most) ∷ []
 asks_of system (ListTake slot most) s = Calls (TakeList most) ∷ []
 asks_of system (Close slot out) s = if is_no_name out.a then Closes ∷ [] else []
+asks_of system (Turn slot keys steps) s = turn_asks system keys steps s
 asks_of system _ s = []
 
 -- And the reply. What needs a file is not served yet. Behind a memory's byte at FFFFh comes that at 0000h.
@@ -106,6 +145,7 @@ slot_answer system (ListTake slot most) s = Text (take most s.session.console.pr
 slot_answer system (Look slot) s = look_answer s
 slot_answer system (Peek slot address length) s = Text (run_at s.memory address length)
 slot_answer system (Close slot out) s = if is_no_name out.a then look_answer s else Refused refusal.FileFault
+slot_answer system (Turn slot keys steps) s = turn_answer system keys steps s
 slot_answer system _ s = Refused refusal.FileFault
 
 -- the request that takes the bytes of a device

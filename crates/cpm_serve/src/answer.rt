@@ -5,9 +5,21 @@ ghost use Rattle.cpm_protocol.specs.Replies.{Refused, reply_json};
 ghost use Rattle.cpm_protocol.specs.Requests.{tag_of_code};
 ghost use Rattle.cpm_serve.specs.Answers.{answer_seen};
 
-use cpm_protocol::{Tag, WireRefusal, WireReply};
+use cpm_protocol::{GrantStop, Tag, TurnReply, WireEnd, WireRefusal, WireReply};
 use serde_json::Value;
 use std::alloc::{AllocError, Global};
+
+/// What became of a turn.
+#[derive(Drop)]
+pub(crate) struct OwnedTurn {
+    pub(crate) accepted: u64,
+    pub(crate) executed: u64,
+    pub(crate) why: GrantStop,
+    pub(crate) text: Vec<u8>,
+    pub(crate) list: Vec<u8>,
+    pub(crate) waiting: bool,
+    pub(crate) end: WireEnd,
+}
 
 /// A reply that owns its bytes.
 #[derive(Drop)]
@@ -16,6 +28,7 @@ pub(crate) enum Answer {
     Plain(WireReply<'static>),
     /// Bytes of a console, a list or a memory.
     Bytes(Vec<u8>),
+    Turned(OwnedTurn),
 }
 
 /// A refusal.
@@ -33,6 +46,16 @@ impl Answer {
         match self {
             Answer::Plain(reply) => reply.value(alloc, tag),
             Answer::Bytes(bytes) => WireReply::Text { bytes }.value(alloc, tag),
+            Answer::Turned(turn) => WireReply::Turned(TurnReply {
+                accepted: turn.accepted,
+                executed: turn.executed,
+                why: turn.why,
+                text: &turn.text,
+                list: &turn.list,
+                waiting: turn.waiting,
+                end: turn.end,
+            })
+            .value(alloc, tag),
         }
     }
 }

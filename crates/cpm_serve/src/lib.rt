@@ -8,5 +8,6 @@ mod open;
 mod seen;
 mod server;
 mod slot;
+mod turn;
 
 pub use server::{MOST_LINE, Server};

@@ -11,6 +11,7 @@ use crate::answer::{Answer, refused};
 use crate::grant::grant;
 use crate::open::{fork, open};
 use crate::slot::{close, look, peek, press, save, take};
+use crate::turn::turn;
 use cpm_console::Device;
 use cpm_protocol::{Tag, WireRefusal, WireReply, WireRequest, request_of, tag_of};
 use cpm_slots::Host;
@@ -37,6 +38,7 @@ fn perform(host: &mut Host, alloc: Global, request: WireRequest<'_>) -> Answer
         WireRequest::Fork { slot } => fork(host, alloc, slot),
         WireRequest::Save { slot, file } => save(host, slot, file),
         WireRequest::Close { slot, out } => close(host, slot, out),
+        WireRequest::Turn { slot, keys, steps } => turn(host, alloc, slot, keys, steps),
         _ => refused(WireRefusal::FileFault),
     }
 }

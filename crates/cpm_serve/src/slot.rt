@@ -16,7 +16,7 @@ use cpm_slots::{Host, SlotId};
 use std::alloc::{AllocError, Global};
 
 /// Offers keys to a slot, one after another, and says how many it accepted.
-fn offer(host: &mut Host, id: SlotId, keys: &[u8]) -> usize
+pub(crate) fn offer(host: &mut Host, id: SlotId, keys: &[u8]) -> usize
     ensures host { host.new.host ≡ after_asks id.0 (key_asks keys.now) host.old.host }
     ensures accepted { result ≡ accepted_in keys.now (slot_at id.0 host.old.host.slots) }
 {
