@@ -4,3 +4,5 @@ pub mod ByteKeys
 pub mod ManyLemmas
 pub mod LineLemmas
 pub mod TurnLemmas
+pub mod OwnLemmas
+pub mod WireLaws

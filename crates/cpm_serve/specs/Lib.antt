@@ -5,3 +5,5 @@ pub mod Turns
 pub mod Answers
 pub mod Lines
 pub mod Parts
+pub mod Own
+pub mod Laws

@@ -3,6 +3,7 @@
 
 mod answer;
 mod grant;
+pub mod laws;
 mod many;
 mod open;
 mod seen;

@@ -1,0 +1,66 @@
+-- The laws of the wire, for every list of lines. All of it is own.
+use Rattle.std.specs.Prelude.{⊤, ◌≡◌, ◌<◌, ℕ, List, [], ◌∷◌, ◌++◌, Some, Err}
+use Rattle.cpm_flags.specs.declared.regs.Cpu.{Cpu}
+use Rattle.cpm_geom.specs.Disk.{Disk}
+use Rattle.cpm_machine.specs.MachineState.{opened_machine}
+use Rattle.cpm_slots.specs.Host.{Host, new_host, slot_at}
+use Rattle.cpm_protocol.specs.Replies.{Refused}
+use Rattle.cpm_protocol.specs.Requests.{AskedFault, line_asked, request_asked}
+use Rattle.cpm_protocol.specs.declared.word.WireRefusal.{WireRefusal}
+use Rattle.cpm_serve.specs.Lines.{Asks, Broken, LineHeard, Long, Unread, WireEvent, event_served, events_of, host_after_line, host_after_lines, host_served}
+use Rattle.cpm_serve.specs.Own.{own_replies, own_requests, session_after, session_replies}
+use Rattle.cpm_serve.specs.Parts.{AreAskedBy}
+use Rattle.cpm_serve.specs.Served.{opened_with}
+
+-- ---- what changes nothing
+
+-- a line that is no request
+abbrev pub IsWrongLine : LineHeard → Type 0
+IsWrongLine Long = ⊤
+IsWrongLine (Broken column) = ⊤
+IsWrongLine Unread = ⊤
+IsWrongLine (Asks value events) = (fault : AskedFault) × (line_asked value ≡ Err fault) × AreAskedBy value events
+
+abbrev pub WrongLines : Type 0
+WrongLines = (h : Host) (x : LineHeard) → IsWrongLine x → host_after_line h x ≡ h
+
+-- and a request that is wrong, or that is refused, alone or among many
+abbrev pub WrongRequests : Type 0
+WrongRequests = (h : Host) (e : WireEvent) (fault : AskedFault) → request_asked e.value ≡ Err fault → (event_served h e).host ≡ h
+
+abbrev pub RefusedRequests : Type 0
+RefusedRequests = (h : Host) (e : WireEvent) (why : WireRefusal) → (event_served h e).reply ≡ Refused why → (event_served h e).host ≡ h
+
+-- ---- lines and events
+
+-- the events of lines, in order
+abbrev pub events_in : List LineHeard → List WireEvent
+events_in [] = []
+events_in (x ∷ xs) = events_of x ++ events_in xs
+
+-- a host is served lines as it is served their events, however they stand in lines
+abbrev pub LinesAreEvents : Type 0
+LinesAreEvents = (h : Host) (lines : List LineHeard) → host_after_lines h lines ≡ host_served h (events_in lines)
+
+-- ---- isolation
+
+-- Whatever is asked on the wire, the replies to a slot's own requests are those of the session by itself, and so is its state.
+abbrev pub WireIsolation : Type 0
+WireIsolation = (h : Host) (events : List WireEvent) (id : ℕ) → id < h.openings →
+    (own_replies id h events ≡ session_replies h.system (own_requests id events) (slot_at id h.slots))
+    × (slot_at id (host_served h events).slots ≡ session_after h.system (own_requests id events) (slot_at id h.slots))
+
+-- So two transcripts agree on the replies to a slot's own requests, its number left out, where they agree on those requests, on the slot before and on the
+-- system drive: whatever other lines stand between.
+abbrev pub TwoTranscripts : Type 0
+TwoTranscripts = (h g : Host) (i j : ℕ) (es ds : List WireEvent) → i < h.openings → j < g.openings → h.system ≡ g.system →
+    slot_at i h.slots ≡ slot_at j g.slots → own_requests i es ≡ own_requests j ds → own_replies i h es ≡ own_replies j g ds
+
+-- The headline. A host is made, and anything is asked; a session is opened; and anything is asked. The replies to the session's own requests are a function
+-- of its opening, these requests and the system drive.
+abbrev pub WireAlone : Type 0
+WireAlone = (system : Disk) (frames : ℕ) (before : List WireEvent) (cpu : Cpu) (quota : ℕ) (disks : List Disk) (events : List WireEvent) →
+    let h = host_served (new_host system frames) before in
+    let opened = opened_with h cpu quota disks in
+    (h.openings < opened.host.openings) →
+    own_replies h.openings opened.host events ≡ session_replies system (own_requests h.openings events) (Some (opened_machine cpu quota disks))
