@@ -1,6 +1,7 @@
 -- What a reply says of what the library answers. All of it is own: docs/PROTOCOL.md.
 use Rattle.std.specs.Prelude.{ℕ, ◌+◌, ◌*◌, Result, Ok, Err}
 use Rattle.cpm_flags.specs.declared.regs.Cpu.{Cpu}
+use Rattle.cpm_flags.specs.declared.regs.Cpu.TheVariants.{Z80}
 use Rattle.cpm_flags.specs.FlagByte.{packed}
 use Rattle.cpm_machine.specs.declared.opening.OpenError.{OpenError}
 use Rattle.cpm_machine.specs.declared.opening.OpenError.TheVariants as opening
@@ -42,7 +43,7 @@ end_seen ends.Exited = ending.Exited
 abbrev pub pair_word : (high low : ℕ) → ℕ
 pair_word high low = 256 * high + low
 
--- what is seen of a session of this processor, which packs its flags into the low byte of AF
+-- what is seen of a session of this processor, which packs its flags into the low byte of AF; the alternate registers are the Z80's
 abbrev pub look_seen : Cpu → Look → SessionLook
 look_seen cpu l = record {
   af = pair_word l.regs.a (packed cpu l.regs.flags);
@@ -53,7 +54,7 @@ look_seen cpu l = record {
   iy = l.regs.iy;
   sp = l.regs.sp;
   pc = l.regs.pc;
-  alternate_af = pair_word l.regs.alternate.a (packed cpu l.regs.alternate.flags);
+  alternate_af = pair_word l.regs.alternate.a (packed Z80 l.regs.alternate.flags);
   alternate_bc = pair_word l.regs.alternate.b l.regs.alternate.c;
   alternate_de = pair_word l.regs.alternate.d l.regs.alternate.e;
   alternate_hl = pair_word l.regs.alternate.h l.regs.alternate.l;

@@ -40,7 +40,7 @@ fn pair_word(high: u8, low: u8) -> u16
     256 * u16::from(high) + u16::from(low)
 }
 
-/// What is seen of a session of this processor.
+/// What is seen of a session of this processor. The alternate registers are the Z80's.
 pub(crate) fn look_seen(cpu: Cpu, look: &Look) -> SessionLook
     ensures { result ≡ look_seen cpu look.now }
 {
@@ -55,7 +55,7 @@ pub(crate) fn look_seen(cpu: Cpu, look: &Look) -> SessionLook
         iy: regs.iy,
         sp: regs.sp,
         pc: regs.pc,
-        alternate_af: pair_word(other.a, pack(cpu, other.flags)),
+        alternate_af: pair_word(other.a, pack(Cpu::Z80, other.flags)),
         alternate_bc: pair_word(other.b, other.c),
         alternate_de: pair_word(other.d, other.e),
         alternate_hl: pair_word(other.h, other.l),
