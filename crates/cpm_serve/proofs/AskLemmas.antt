@@ -1,18 +1,16 @@
 -- What is asked of a slot of a host, where it is open and where it is not.
-use Rattle.std.proofs.Common.{◌≡◌, ℕ, List, [], ◌∷◌, length, take, min, true, false, Bool, Option, Some, None, refl, sym, ap, ◌∙◌, subst, rules}
-use Rattle.std.specs.Prelude.{⊤, Result, Ok, Err}
-use Rattle.cpm_geom.specs.Disk.{Disk}
+use Rattle.std.proofs.Common.{◌≡◌, ℕ, Some, None, refl, sym, ap, ◌∙◌}
+use Rattle.std.specs.Prelude.{Result, Ok, Err}
 use Rattle.cpm_machine.specs.declared.reply.Granted.{Granted}
 use Rattle.cpm_machine.specs.declared.reply.Look.{Look}
 use Rattle.cpm_machine.specs.MachineState.{MachineState}
-use Rattle.cpm_machine.specs.Calls.{Call, LookAt, serve}
+use Rattle.cpm_machine.specs.Calls.{Call, serve}
 use Rattle.cpm_machine.specs.ToWait.{executed_to_wait}
 use Rattle.cpm_slots.specs.declared.event.Refusal.{Refusal}
 use Rattle.cpm_slots.specs.declared.event.Refusal.TheVariants as refusal
-use Rattle.cpm_slots.specs.declared.event.Reply.{Reply}
 use Rattle.cpm_slots.specs.declared.event.Reply.TheVariants as reply
-use Rattle.cpm_slots.specs.Host.{Host, after_ask, grant_reply, look_reply, reply_at, slot_at, with_slot, work_reply}
-use Rattle.cpm_slots.specs.Serving.{Ask, Calls, Closes, reply_of, serve_slot}
+use Rattle.cpm_slots.specs.Host.{Host, after_ask, grant_reply, look_reply, reply_at, slot_at, work_reply}
+use Rattle.cpm_slots.specs.Serving.{Ask, Calls, reply_of, serve_slot}
 use Rattle.cpm_slots.proofs.IndexLaws.{refused-slots}
 use Rattle.cpm_slots.proofs.SlotLaws.{slot_at-same}
 

@@ -5,7 +5,7 @@ use Rattle.std.specs.List.{list_all}
 use Rattle.serde_json.specs.Data.{Data}
 use Rattle.serde_json.specs.Find.{as_str}
 use Rattle.cpm_protocol.specs.Bytes.{is_byte_character, is_byte_text}
-use Rattle.cpm_protocol.specs.Requests.{AskedFault, AskedTag, WireAsked, asked_as, asked_of_kind, asked_tag, bytes_field_at, cpu_at, field_at, files_asked, four_names_at}
+use Rattle.cpm_protocol.specs.Requests.{AskedFault, WireAsked, asked_as, asked_of_kind, asked_tag, bytes_field_at, cpu_at, field_at, files_asked, four_names_at}
 use Rattle.cpm_protocol.specs.Requests.{fork_asked, four_names_if, get_asked, goal_of, grant_asked, key_asked, kind_at, known_or, list_asked, look_asked, most_bytes_at}
 use Rattle.cpm_protocol.specs.Requests.{most_number, number_field_at, open_asked, or_wrong_field, passed_by, peek_asked, put_asked, read_by, request_asked, resume_asked}
 use Rattle.cpm_protocol.specs.Requests.{save_asked, slot_asked, tagged_as, take_asked, text_where, turn_asked, close_asked, is_file_name, is_short_text, unknown_name}

@@ -1,19 +1,18 @@
 -- A line, by its value.
-use Rattle.std.proofs.Common.{◌≡◌, ◌<◌, ◌≤◌, ◌||◌, ℕ, List, [], ◌∷◌, length, map, take, false, Bool, Option, Some, None, refl, sym, ap, ap₂, ◌∙◌, subst, arith}
+use Rattle.std.proofs.Common.{◌≡◌, ◌≤◌, ◌||◌, ℕ, List, [], ◌∷◌, length, map, take, false, Option, Some, None, refl, sym, ap, ◌∙◌}
 use Rattle.std.specs.Prelude.{IsUtf8, Result, Ok, Err}
-use Rattle.std.proofs.lemmas.Grind.{common_steps}
-use Rattle.serde_json.specs.Data.{Data, null, Items}
+use Rattle.serde_json.specs.Data.{Data, Items}
 use Rattle.serde_json.specs.Read.{read}
 use Rattle.serde_json.specs.View.{items_of, items_view, view}
 use Rattle.serde_json.specs.Written.{compact_text, has_float, items_have_float}
 use Rattle.serde_json.specs.declared.value.Value.{Value}
 use Rattle.cpm_slots.specs.Host.{Host}
 use Rattle.cpm_protocol.proofs.FlatLemmas.{reply-no_float}
-use Rattle.cpm_protocol.specs.Replies.{Answered, Wrong, many_json, reply_json}
+use Rattle.cpm_protocol.specs.Replies.{Wrong, many_json, reply_json}
 use Rattle.cpm_protocol.specs.Requests.{AskedFault, AskedTag, IsLineRefusal, NumberTag, TextTag, LineAsked, Many, One, WireAsked, line_asked}
 use Rattle.cpm_protocol.specs.declared.fault.LineError.{LineError}
 use Rattle.cpm_protocol.specs.declared.fault.LineError.TheVariants as unread
-use Rattle.cpm_serve.specs.Lines.{Asks, Broken, Unread, IsLineCut, IsLineServed, LineHeard, WireEvent, event_reply, event_served, host_served, line_reply, most_line, only_reply, replies_served}
+use Rattle.cpm_serve.specs.Lines.{Asks, Broken, Unread, IsLineCut, IsLineServed, WireEvent, event_reply, event_served, host_served, line_reply, most_line, only_reply, replies_served}
 use Rattle.cpm_serve.specs.Lines.{tag_shown, values_asked, values_of}
 use Rattle.cpm_serve.specs.Parts.{AreServed, AreServedUpTo, IsEventCut, IsEventServed, IsTextServed, IsValueCut, IsValueServed, event_of, unread_answer}
 

@@ -1,21 +1,19 @@
 -- A request, to the slot that it asks and to the others.
-use Rattle.std.proofs.Common.{◌≡◌, ◌<◌, ◌≤◌, ◌+◌, ℕ, List, [], ◌∷◌, ◌++◌, ◌==◌, true, false, Bool, Option, Some, None, refl, sym, ap, ap₂, ◌∙◌, subst, arith, cond, if◌then◌else◌, ◌&&◌}
-use Rattle.std.specs.Prelude.{Result, Ok, Err}
-use Rattle.std.proofs.lemmas.Bool.{eqb-true}
+use Rattle.std.proofs.Common.{◌≡◌, ◌<◌, ℕ, List, [], ◌∷◌, ◌==◌, true, false, Bool, Option, Some, None, refl, sym, ap, ◌∙◌, if◌then◌else◌, ◌&&◌}
 use Rattle.cpm_geom.specs.Disk.{Disk}
 use Rattle.cpm_machine.specs.MachineState.{MachineState}
 use Rattle.cpm_machine.specs.declared.opening.OpenError.{OpenError}
 use Rattle.cpm_slots.specs.Account.{slot_after}
-use Rattle.cpm_slots.specs.Host.{AllBelow, Host, Forks, after_ask, after_one, slot_at, with_added}
+use Rattle.cpm_slots.specs.Host.{Host, after_ask, slot_at, with_added}
 use Rattle.cpm_slots.specs.Serving.{Ask, serve_slot}
 use Rattle.cpm_slots.proofs.EventLaws.{added-slot, forked-is}
 use Rattle.cpm_slots.proofs.SlotLaws.{slot_at-other, slot_at-same}
-use Rattle.cpm_protocol.specs.Replies.{Answered, Refused}
-use Rattle.cpm_protocol.specs.Requests.{AskedFault, FourNames, WireAsked, Open, Resume, Key, Grant, Take, ListTake, Look, Peek, Fork, Save, Close, Turn, Put, Get, Files}
+use Rattle.cpm_protocol.specs.Replies.{Refused}
+use Rattle.cpm_protocol.specs.Requests.{WireAsked, Open, Resume, Key, Grant, Take, ListTake, Look, Peek, Fork, Save, Close, Turn, Put, Get, Files}
 use Rattle.cpm_protocol.specs.declared.word.WireRefusal.TheVariants as refusal
 use Rattle.cpm_serve.specs.Own.{answer_alone, asks_alone, asks_slot, unnumbered}
-use Rattle.cpm_serve.specs.Served.{Served, added_if, after_asks, asked_slot, disks_named, forked_from, open_fault, opened_named, opened_with, refused, served, served_if, slot_served, takes_memory}
-use Rattle.cpm_serve.specs.Slot.{asks_of, slot_answer, slot_of}
+use Rattle.cpm_serve.specs.Served.{Served, added_if, after_asks, asked_slot, disks_named, opened_named, refused, served, served_if, slot_served, takes_memory}
+use Rattle.cpm_serve.specs.Slot.{asks_of, slot_answer, slot_named}
 
 -- ---- what becomes of a host
 
@@ -32,7 +30,7 @@ slot-is h id r None P same asked = same
 slot-is h id r (Some s) P same asked = asked (asks_of h.system r s)
 
 -- a request leaves a host, adds a slot to it, or asks the slot that it names
-served-is : (h : Host) (r : WireAsked) (P : Host → Type 0) → P h → ((s : MachineState) → P (with_added h s)) → ((id : ℕ) (asks : List Ask) → slot_of r ≡ Some id → P (after_asks id asks h)) → P (served h r).host
+served-is : (h : Host) (r : WireAsked) (P : Host → Type 0) → P h → ((s : MachineState) → P (with_added h s)) → ((id : ℕ) (asks : List Ask) → slot_named r ≡ Some id → P (after_asks id asks h)) → P (served h r).host
 served-is h (Open cpu quota drives) P same more asked = opened-is h cpu quota (disks_named drives) P same more
 served-is h (Fork slot) P same more asked = forked-is h slot P same (λ s at e. more s)
 served-is h (Resume from) P same more asked = same
@@ -49,7 +47,7 @@ served-is h (Put drive name text) P same more asked = same
 served-is h (Get drive name) P same more asked = same
 served-is h (Files drive) P same more asked = same
 
-pub served_if-is : (h : Host) (lacked : Bool) (r : WireAsked) (P : Host → Type 0) → P h → ((s : MachineState) → P (with_added h s)) → ((id : ℕ) (asks : List Ask) → slot_of r ≡ Some id → P (after_asks id asks h)) →
+pub served_if-is : (h : Host) (lacked : Bool) (r : WireAsked) (P : Host → Type 0) → P h → ((s : MachineState) → P (with_added h s)) → ((id : ℕ) (asks : List Ask) → slot_named r ≡ Some id → P (after_asks id asks h)) →
     P (served_if lacked h r).host
 served_if-is h lacked r P same more asked =
     elim (lacked && takes_memory r) as (λ b. P (let x : Served = if b then refused h refusal.OutOfMemory else served h r in x).host)
@@ -62,7 +60,7 @@ other-slot id named [] h ne = refl
 other-slot id named (x ∷ xs) h ne =
     other-slot id named xs (after_ask h named x) ne ∙ slot_at-other id named (serve_slot h.system x (slot_at named h.slots)).slot h.slots ne
 
-pub not-asked : (id : ℕ) (h : Host) (lacked : Bool) (r : WireAsked) → id < h.openings → asks_slot id (slot_of r) ≡ false → slot_at id (served_if lacked h r).host.slots ≡ slot_at id h.slots
+pub not-asked : (id : ℕ) (h : Host) (lacked : Bool) (r : WireAsked) → id < h.openings → asks_slot id (slot_named r) ≡ false → slot_at id (served_if lacked h r).host.slots ≡ slot_at id h.slots
 not-asked id h lacked r below other =
     served_if-is h lacked r (λ g. slot_at id g.slots ≡ slot_at id h.slots) refl (λ s. added-slot id h s below)
     (λ named asks is. other-slot id named asks h (sym (ap (asks_slot id) is) ∙ other))
@@ -73,7 +71,7 @@ pub own-slot : (id : ℕ) (asks : List Ask) (h : Host) → slot_at id (after_ask
 own-slot id [] h = refl
 own-slot id (x ∷ xs) h = own-slot id xs (after_ask h id x) ∙ ap (slot_after h.system xs) (slot_at-same id x h.system h.slots (slot_at id h.slots) refl)
 
-own-served : (h : Host) (r : WireAsked) (id : ℕ) → slot_of r ≡ Some id → served h r ≡ asked_slot h id r
+own-served : (h : Host) (r : WireAsked) (id : ℕ) → slot_named r ≡ Some id → served h r ≡ asked_slot h id r
 own-served h (Open cpu quota drives) id e = cc
 own-served h (Fork slot) id e = cc
 own-served h (Resume from) id e = cc
@@ -151,14 +149,14 @@ slot-served_answer h id r None = refl
 slot-served_answer h id r (Some s) = sym (no-number_answer h.system r s)
 
 -- what becomes of the host, and the reply, by the slot's state alone
-pub asked-host : (h : Host) (lacked : Bool) (r : WireAsked) (id : ℕ) → slot_of r ≡ Some id →
+pub asked-host : (h : Host) (lacked : Bool) (r : WireAsked) (id : ℕ) → slot_named r ≡ Some id →
     (served_if lacked h r).host ≡ after_asks id (if lacked && takes_memory (unnumbered r) then [] else asks_alone h.system (unnumbered r) (slot_at id h.slots)) h
 asked-host h lacked r id e =
     rw (no-number_memory r)
     (elim (lacked && takes_memory r) as (λ b. (let x : Served = if b then refused h refusal.OutOfMemory else served h r in x).host ≡ after_asks id (if b then [] else asks_alone h.system (unnumbered r) (slot_at id h.slots)) h)
     [ true ↦ refl | false ↦ ap (λ (x : Served). x.host) (own-served h r id e) ∙ slot-served_asks h id r (slot_at id h.slots) ])
 
-pub asked-reply : (h : Host) (lacked : Bool) (r : WireAsked) (id : ℕ) → slot_of r ≡ Some id →
+pub asked-reply : (h : Host) (lacked : Bool) (r : WireAsked) (id : ℕ) → slot_named r ≡ Some id →
     (served_if lacked h r).reply ≡ (if lacked && takes_memory (unnumbered r) then Refused refusal.OutOfMemory else answer_alone h.system (unnumbered r) (slot_at id h.slots))
 asked-reply h lacked r id e =
     rw (no-number_memory r)

@@ -1,5 +1,5 @@
 -- A request of a slot, by what the host replied to its parts.
-use Rattle.std.proofs.Common.{◌≡◌, ◌<◌, ◌≤◌, ◌+◌, ◌-◌, ◌%◌, ℕ, zero, suc, List, [], ◌∷◌, length, take, min, cond, ◌++◌, append_assoc, true, false, Bool, Option, Some, None, refl, sym, ap, ap₂, ◌∙◌, subst, arith}
+use Rattle.std.proofs.Common.{◌≡◌, ◌<◌, ◌≤◌, ◌+◌, ◌-◌, ◌%◌, ℕ, suc, List, [], ◌∷◌, length, take, min, cond, ◌++◌, append_assoc, true, false, Bool, Option, Some, None, refl, sym, ap, ap₂, ◌∙◌, arith}
 use Rattle.std.specs.Prelude.{⊤, Result, Ok, Err, is_ok, IfSome}
 use Rattle.std.specs.Result.{result_unwrap_or}
 use Rattle.std.proofs.lemmas.Bool.Decides.{nat_tests}
@@ -13,7 +13,7 @@ use Rattle.cpm_machine.specs.declared.reply.Closed.{Closed}
 use Rattle.cpm_machine.specs.declared.reply.Granted.{Granted}
 use Rattle.cpm_machine.specs.declared.reply.Look.{Look as SessionSeen}
 use Rattle.cpm_machine.specs.MachineState.{MachineState}
-use Rattle.cpm_machine.specs.Calls.{Call, Grant as GrantCall, GrantUntil, Key as KeyCall, LookAt, Peek as PeekCall, Take as TakeCall, TakeList, granted, serve, served_key}
+use Rattle.cpm_machine.specs.Calls.{Grant as GrantCall, GrantUntil, Key as KeyCall, LookAt, Peek as PeekCall, Take as TakeCall, TakeList, granted, serve, served_key}
 use Rattle.cpm_machine.specs.Serve.{look_of, takes_key}
 use Rattle.cpm_machine.specs.Step.{after}
 use Rattle.cpm_machine.specs.ToWait.{executed_to_wait}
@@ -23,7 +23,7 @@ use Rattle.cpm_slots.specs.declared.event.Refusal.TheVariants as slots
 use Rattle.cpm_slots.specs.declared.event.Reply.{Reply}
 use Rattle.cpm_slots.specs.declared.event.Reply.TheVariants as reply
 use Rattle.cpm_slots.specs.Host.{Host, after_ask, close_reply, cpu_reply, grant_reply, key_reply, look_reply, peek_reply, reply_at, slot_at, take_reply, work_reply}
-use Rattle.cpm_slots.specs.Serving.{Ask, Calls, Closes, reply_of, serve_slot, take_call}
+use Rattle.cpm_slots.specs.Serving.{Calls, Closes, reply_of, serve_slot, take_call}
 use Rattle.cpm_slots.proofs.ServeLaws.{works}
 use Rattle.cpm_protocol.specs.Replies.{Answered, Looked, Refused, Text}
 use Rattle.cpm_protocol.specs.Requests.{FourNames, WireAsked, Close, Grant, ListTake, Look, Take}
@@ -31,9 +31,9 @@ use Rattle.cpm_protocol.specs.declared.request.GrantGoal.TheVariants as goal
 use Rattle.cpm_protocol.specs.declared.word.GrantStop.{GrantStop}
 use Rattle.cpm_protocol.specs.declared.word.WireRefusal.TheVariants as refusal
 use Rattle.cpm_serve.specs.Seen.{grant_result, look_seen}
-use Rattle.cpm_serve.specs.Served.{Served, after_asks, asked_slot, outcome, refused, served, slot_served}
-use Rattle.cpm_serve.specs.Slot.{accepted_in, accepted_of, asks_of, slot_answer, take_asked, wait_answer, wait_result, wait_stop}
-use Rattle.cpm_serve.proofs.AskLemmas.{closed-host, closed-reply, grant-known, grant-unknown, look-known, look-unknown, open-reply, open-slot}
+use Rattle.cpm_serve.specs.Served.{after_asks, asked_slot, outcome, served, slot_served}
+use Rattle.cpm_serve.specs.Slot.{accepted_in, accepted_of, asks_of, slot_answer, device_asked, wait_answer, wait_result, wait_stop}
+use Rattle.cpm_serve.proofs.AskLemmas.{closed-host, closed-reply, grant-known, grant-unknown, look-known, open-reply, open-slot}
 
 pub same-outcome : {h g : Host} {a b : Answered} → h ≡ g → a ≡ b → outcome h a ≡ outcome g b
 same-outcome e f = ap₂ (λ (h : Host) (a : Answered). outcome h a) e f
@@ -110,9 +110,9 @@ pub wait-served : (h new : Host) (id steps : ℕ) (r : Result (ℕ × GrantStop)
 wait-served h new id steps r said host kept = by-slot h new id (Grant id steps goal.Wait) (wait_answer r)
     (λ none. let is : r ≡ Err slots.NoSuchSlot = said ∙ ap (wait_result h.system steps) none in (kept slots.NoSuchSlot is, ap wait_answer is))
     (λ s at.
-      let k = executed_to_wait h.system steps s in
-      let is : r ≡ Ok (k, wait_stop steps k (look_of (after h.system k s))) = said ∙ ap (wait_result h.system steps) at in
-      (host k (wait_stop steps k (look_of (after h.system k s))) is, ap wait_answer is))
+    let k = executed_to_wait h.system steps s in
+    let is : r ≡ Ok (k, wait_stop steps k (look_of (after h.system k s))) = said ∙ ap (wait_result h.system steps) at in
+    (host k (wait_stop steps k (look_of (after h.system k s))) is, ap wait_answer is))
 
 -- ---- looks
 
@@ -121,21 +121,21 @@ pub look-served : (h new : Host) (id : ℕ) (cpu : Cpu) (look : SessionSeen) →
 look-served h new id cpu look c said same = by-slot h new id (Look id) (Looked (look_seen cpu look))
     (λ none. let no : (let r : Result Cpu Refusal = Ok cpu in r ≡ Err slots.NoSuchSlot) = c ∙ ap cpu_reply none in absurd cc)
     (λ s at.
-      let l : Result SessionSeen Refusal = Ok look in
-      let r : Result Cpu Refusal = Ok cpu in
-      let known : l ≡ Ok (look_of s) = seen h id s l at said in
-      let is : look ≡ look_of s = cc in
-      let of : r ≡ Ok s.cpu = c ∙ ap cpu_reply at in
-      let by : cpu ≡ s.cpu = cc in
-      (same, ap₂ (λ (p : Cpu) (x : SessionSeen). Looked (look_seen p x)) by is))
+    let l : Result SessionSeen Refusal = Ok look in
+    let r : Result Cpu Refusal = Ok cpu in
+    let known : l ≡ Ok (look_of s) = seen h id s l at said in
+    let is : look ≡ look_of s = cc in
+    let of : r ≡ Ok s.cpu = c ∙ ap cpu_reply at in
+    let by : cpu ≡ s.cpu = cc in
+    (same, ap₂ (λ (p : Cpu) (x : SessionSeen). Looked (look_seen p x)) by is))
 
 pub look-not-served : (h new : Host) (id : ℕ) (fault : Refusal) (a : Answered) → let l : Result SessionSeen Refusal = Err fault in
     look_reply l ≡ reply_at h id (Calls LookAt) → new ≡ h → a ≡ Refused refusal.NoSuchSlot → outcome new a ≡ asked_slot h id (Look id)
 look-not-served h new id fault a said same is = by-slot h new id (Look id) a
     (λ none. (same, is))
     (λ s at.
-      let l : Result SessionSeen Refusal = Err fault in
-      let known : l ≡ Ok (look_of s) = seen h id s l at said in absurd cc)
+    let l : Result SessionSeen Refusal = Err fault in
+    let known : l ≡ Ok (look_of s) = seen h id s l at said in absurd cc)
 
 -- ---- bytes of a device
 
@@ -162,7 +162,7 @@ taken-unknown (Err fault) out e = refl
 
 pub take-served : (h new : Host) (device : Device) (id most : ℕ) (r : Result ℕ Refusal) (out : List ℕ) →
     take_reply r out ≡ reply_at h id (Calls (take_call device most)) → new ≡ after_ask h id (Calls (take_call device most)) →
-    outcome new (taken_answer r out) ≡ served h (take_asked device id most)
+    outcome new (taken_answer r out) ≡ served h (device_asked device id most)
 unfolding serve
 take-served h new device.Console id most r out said host = by-slot h new id (Take id most) (taken_answer r out)
     (λ none. (host ∙ closed-host h id (Calls (TakeCall most)) none, taken-unknown r out (said ∙ closed-reply h id (Calls (TakeCall most)) none)))

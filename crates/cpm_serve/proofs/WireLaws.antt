@@ -1,9 +1,8 @@
 -- The laws of the wire.
-use Rattle.std.proofs.Common.{◌≡◌, ◌<◌, ◌≤◌, ◌+◌, ℕ, List, [], ◌∷◌, ◌++◌, ◌==◌, true, false, Bool, Option, Some, None, refl, sym, ap, ap₂, ◌∙◌, subst, arith, if◌then◌else◌, ◌&&◌, length, map}
+use Rattle.std.proofs.Common.{◌≡◌, ◌<◌, ◌≤◌, ℕ, List, [], ◌∷◌, ◌++◌, true, false, Bool, Option, Some, None, refl, sym, ap, ap₂, ◌∙◌, arith, if◌then◌else◌, length, map}
 use Rattle.std.specs.Prelude.{Result, Ok, Err}
 use Rattle.std.proofs.lemmas.Bool.{eqb-true}
 use Rattle.serde_json.specs.Data.{Data}
-use Rattle.cpm_flags.specs.declared.regs.Cpu.{Cpu}
 use Rattle.cpm_geom.specs.Disk.{Disk}
 use Rattle.cpm_machine.specs.MachineState.{MachineState, opened_machine}
 use Rattle.cpm_machine.specs.declared.opening.OpenError.{OpenError}
@@ -11,13 +10,13 @@ use Rattle.cpm_slots.specs.Account.{slot_after}
 use Rattle.cpm_slots.specs.Host.{AllBelow, Host, new_host, slot_at, after_ask, with_added}
 use Rattle.cpm_slots.specs.Serving.{Ask, serve_slot}
 use Rattle.cpm_slots.proofs.SlotLaws.{AllBelow-added, AllBelow-with, slot_at-new}
-use Rattle.cpm_protocol.specs.Replies.{Answered, Refused, Wrong, reply_json}
-use Rattle.cpm_protocol.specs.Requests.{AskedFault, LineAsked, WireAsked, line_asked, request_asked}
-use Rattle.cpm_serve.specs.Laws.{IsWrongLine, LinesAreEvents, TwoTranscripts, WireAlone, WireIsolation, WrongLines, WrongRequests, events_in}
-use Rattle.cpm_serve.specs.Lines.{Asks, Broken, LineHeard, Long, Unread, WireEvent, event_reply, event_served, events_of, host_after_line, host_after_lines, host_served, request_served, tag_shown, values_asked}
+use Rattle.cpm_protocol.specs.Replies.{reply_json}
+use Rattle.cpm_protocol.specs.Requests.{AskedFault, WireAsked, request_asked}
+use Rattle.cpm_serve.specs.Laws.{IsFold, LinesAreEvents, Transcripts, TwoTranscripts, WireAlone, WireIsolation, WrongLines, WrongRequests, events_in}
+use Rattle.cpm_serve.specs.Lines.{Asks, Broken, IsLineServed, Long, Unread, WireEvent, event_reply, event_served, events_of, host_after_line, host_after_lines, host_served, replies_to_lines, request_served, tag_shown, values_asked}
 use Rattle.cpm_serve.specs.Own.{OwnRequest, asks_slot, is_own, own_asked, own_replies, own_requests, session_after, session_answer, session_asks, session_replies, unnumbered}
-use Rattle.cpm_serve.specs.Served.{Served, added_if, after_asks, open_fault, opened_with, outcome, served_if}
-use Rattle.cpm_serve.specs.Slot.{slot_of}
+use Rattle.cpm_serve.specs.Served.{added_if, after_asks, open_fault, served_if}
+use Rattle.cpm_serve.specs.Slot.{slot_named}
 use Rattle.cpm_serve.proofs.ManyLemmas.{host-append}
 use Rattle.cpm_serve.proofs.OwnLemmas.{asked-host, asked-reply, asks-openings, not-asked, own-slot, served_if-is}
 use Rattle.cpm_serve.proofs.TurnLemmas.{asks-system}
@@ -44,6 +43,20 @@ wrong-requests h e fault wrong = ap (λ r. (request_served e.lacked h r).host) w
 pub lines-are-events : LinesAreEvents
 lines-are-events h [] = refl
 lines-are-events h (x ∷ xs) = lines-are-events (host_after_line h x) xs ∙ sym (host-append h (events_of x) (events_in xs))
+
+transcripts-one : (line text : List ℕ) (lines texts : List (List ℕ)) (old h new : Host) → IsLineServed line old h text → IsFold lines h new texts → IsFold (line ∷ lines) old new (text ∷ texts)
+transcripts-one line text lines texts old h new one k = record {
+  heard = one.heard ∷ k.heard;
+  are = (one.is, k.are);
+  host = k.host ∙ ap (λ (g : Host). host_after_lines g k.heard) one.host;
+  replies = ap₂ (λ (t : List ℕ) (ts : List (List ℕ)). t ∷ ts) one.reply (k.replies ∙ ap (λ (g : Host). replies_to_lines g k.heard) one.host);
+}
+
+pub transcripts : Transcripts
+transcripts [] old new [] e = record { heard = []; are = tt; host = e; replies = refl }
+transcripts [] old new (text ∷ texts) e = absurd e
+transcripts (line ∷ lines) old new [] e = absurd e
+transcripts (line ∷ lines) old new (text ∷ texts) e = transcripts-one line text lines texts old e.0 new e.1 (transcripts lines e.0 new texts e.2)
 
 -- ---- one event
 
@@ -75,7 +88,7 @@ abbrev own_request : WireEvent → WireAsked → OwnRequest
 own_request e r = record { tag = tag_shown e.value; lacked = e.lacked; asked = unnumbered r }
 
 -- the state of the slot behind an own event, and its reply, are those of the session by itself
-own-state : (id : ℕ) (h : Host) (e : WireEvent) (r : WireAsked) → slot_of r ≡ Some id →
+own-state : (id : ℕ) (h : Host) (e : WireEvent) (r : WireAsked) → slot_named r ≡ Some id →
     slot_at id (served_if e.lacked h r).host.slots ≡ slot_after h.system (session_asks h.system (own_request e r) (slot_at id h.slots)) (slot_at id h.slots)
 own-state id h e r of =
     ap (λ (g : Host). slot_at id g.slots) (asked-host h e.lacked r id of) ∙ own-slot id (session_asks h.system (own_request e r) (slot_at id h.slots)) h
@@ -94,21 +107,23 @@ isolated-more : (id : ℕ) (h : Host) (e : WireEvent) (es : List WireEvent) (r :
 isolated-more id h e es r false is other below k =
     let g = (event_served h e).host in
     let system = event-system h e in
-    let same : slot_at id g.slots ≡ slot_at id h.slots = ap (λ q. slot_at id (request_served e.lacked h q).host.slots) is ∙ other-event id h e r below other in
-    (k.0 ∙ ap₂ (λ (d : Disk) (o : Option MachineState). session_replies d (own_requests id es) o) system same,
-     k.1 ∙ ap₂ (λ (d : Disk) (o : Option MachineState). session_after d (own_requests id es) o) system same)
+    let same : slot_at id g.slots ≡ slot_at id h.slots = ap (λ q. slot_at id (request_served e.lacked h q).host.slots) is ∙ other-event id h e r below other in (
+      k.0 ∙ ap₂ (λ (d : Disk) (o : Option MachineState). session_replies d (own_requests id es) o) system same,
+      k.1 ∙ ap₂ (λ (d : Disk) (o : Option MachineState). session_after d (own_requests id es) o) system same,
+    )
 isolated-more id h e es (Err fault) true is own below k = absurd cc
 isolated-more id h e es (Ok r) true is own below k =
     let g = (event_served h e).host in
     let o = slot_at id h.slots in
     let x = own_request e r in
     let system = event-system h e in
-    let of = asked-of id (slot_of r) own in
+    let of = asked-of id (slot_named r) own in
     let now : slot_at id g.slots ≡ slot_after h.system (session_asks h.system x o) o = ap (λ q. slot_at id (request_served e.lacked h q).host.slots) is ∙ own-state id h e r of in
     let first : event_reply h e ≡ reply_json x.tag (session_answer h.system x o) =
-        ap (reply_json (tag_shown e.value)) (ap (λ q. (request_served e.lacked h q).reply) is ∙ asked-reply h e.lacked r id of) in
-    (ap₂ (λ (d : Data) (ds : List Data). d ∷ ds) first (k.0 ∙ ap₂ (λ (d : Disk) (p : Option MachineState). session_replies d (own_requests id es) p) system now),
-     k.1 ∙ ap₂ (λ (d : Disk) (p : Option MachineState). session_after d (own_requests id es) p) system now)
+    ap (reply_json (tag_shown e.value)) (ap (λ q. (request_served e.lacked h q).reply) is ∙ asked-reply h e.lacked r id of) in (
+      ap₂ (λ (d : Data) (ds : List Data). d ∷ ds) first (k.0 ∙ ap₂ (λ (d : Disk) (p : Option MachineState). session_replies d (own_requests id es) p) system now),
+      k.1 ∙ ap₂ (λ (d : Disk) (p : Option MachineState). session_after d (own_requests id es) p) system now,
+    )
 
 pub wire-isolation : WireIsolation
 wire-isolation h [] id below = (refl, refl)

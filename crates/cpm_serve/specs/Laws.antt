@@ -2,15 +2,19 @@
 use Rattle.std.specs.Prelude.{⊤, ◌≡◌, ◌<◌, ℕ, List, [], ◌∷◌, ◌++◌, Some, Err}
 use Rattle.cpm_flags.specs.declared.regs.Cpu.{Cpu}
 use Rattle.cpm_geom.specs.Disk.{Disk}
-use Rattle.cpm_machine.specs.MachineState.{opened_machine}
+use Rattle.cpm_machine.specs.MachineState.{MachineState, opened_machine}
 use Rattle.cpm_slots.specs.Host.{Host, new_host, slot_at}
-use Rattle.cpm_protocol.specs.Replies.{Refused}
-use Rattle.cpm_protocol.specs.Requests.{AskedFault, line_asked, request_asked}
+use Rattle.cpm_protocol.specs.Replies.{Accepted, Answered, Granted, Looked, Refused, Text, TurnAnswer, Turned}
+use Rattle.cpm_protocol.specs.Requests.{AskedFault, WireAsked, Grant, Key, ListTake, Look, Take, Turn, line_asked, request_asked}
+use Rattle.cpm_protocol.specs.declared.reply.SessionLook.{SessionLook}
+use Rattle.cpm_protocol.specs.declared.request.GrantGoal.TheVariants as goal
 use Rattle.cpm_protocol.specs.declared.word.WireRefusal.{WireRefusal}
 use Rattle.cpm_serve.specs.Lines.{Asks, Broken, LineHeard, Long, Unread, WireEvent, event_served, events_of, host_after_line, host_after_lines, host_served}
+use Rattle.cpm_serve.specs.Lines.{AreLinesHeard, AreLinesServed, replies_to_lines}
 use Rattle.cpm_serve.specs.Own.{own_replies, own_requests, session_after, session_replies}
 use Rattle.cpm_serve.specs.Parts.{AreAskedBy}
-use Rattle.cpm_serve.specs.Served.{opened_with}
+use Rattle.cpm_serve.specs.Served.{opened_with_disks, served}
+use Rattle.cpm_serve.specs.Slot.{turn_bytes}
 
 -- ---- what changes nothing
 
@@ -42,6 +46,48 @@ events_in (x ∷ xs) = events_of x ++ events_in xs
 abbrev pub LinesAreEvents : Type 0
 LinesAreEvents = (h : Host) (lines : List LineHeard) → host_after_lines h lines ≡ host_served h (events_in lines)
 
+-- What lines leave of a host, and the texts of their replies, are those of the fold over what each turns out to be. A line more is one step more.
+pub record IsFold (lines : List (List ℕ)) (old new : Host) (texts : List (List ℕ)) : Type 0 where
+  pub heard : List LineHeard
+  pub are : AreLinesHeard lines heard
+  pub host : new ≡ host_after_lines old heard
+  pub replies : texts ≡ replies_to_lines old heard
+
+abbrev pub Transcripts : Type 0
+Transcripts = (lines : List (List ℕ)) (old new : Host) (texts : List (List ℕ)) → AreLinesServed lines old new texts → IsFold lines old new texts
+
+-- ---- turns
+
+-- the parts of a turn, as requests
+abbrev pub turn_parts : (slot : ℕ) (keys : List ℕ) (steps : ℕ) → List WireAsked
+turn_parts slot keys steps = Key slot keys ∷ Grant slot steps goal.Wait ∷ Take slot turn_bytes ∷ ListTake slot turn_bytes ∷ Look slot ∷ []
+
+-- the host after requests, one after another, and their replies
+abbrev pub host_behind : Host → List WireAsked → Host
+host_behind h [] = h
+host_behind h (r ∷ rs) = host_behind (served h r).host rs
+
+abbrev pub answers_of : Host → List WireAsked → List Answered
+answers_of h [] = []
+answers_of h (r ∷ rs) = (served h r).reply ∷ answers_of (served h r).host rs
+
+-- the reply to a turn, of the members of these
+pub record AreTurnParts (t : TurnAnswer) (answers : List Answered) : Type 0 where
+  pub look : SessionLook
+  pub are : answers ≡ Accepted t.accepted ∷ Granted t.executed t.why ∷ Text t.text ∷ Text t.list ∷ Looked look ∷ []
+  pub waiting : look.waiting ≡ t.waiting
+  pub end : look.end ≡ t.end
+
+-- a turn of a slot that is open is its parts, one after another
+pub record IsTurnOfParts (h : Host) (slot : ℕ) (keys : List ℕ) (steps : ℕ) : Type 0 where
+  pub turn : TurnAnswer
+  pub reply : (served h (Turn slot keys steps)).reply ≡ Turned turn
+  pub parts : AreTurnParts turn (answers_of h (turn_parts slot keys steps))
+  pub host : (served h (Turn slot keys steps)).host ≡ host_behind h (turn_parts slot keys steps)
+
+abbrev pub TurnsAreParts : Type 0
+TurnsAreParts = (h : Host) (slot : ℕ) (keys : List ℕ) (steps : ℕ) (s : MachineState) → slot_at slot h.slots ≡ Some s → IsTurnOfParts h slot keys steps
+
 -- ---- isolation
 
 -- Whatever is asked on the wire, the replies to a slot's own requests are those of the session by itself, and so is its state.
@@ -61,6 +107,6 @@ TwoTranscripts = (h g : Host) (i j : ℕ) (es ds : List WireEvent) → i < h.ope
 abbrev pub WireAlone : Type 0
 WireAlone = (system : Disk) (frames : ℕ) (before : List WireEvent) (cpu : Cpu) (quota : ℕ) (disks : List Disk) (events : List WireEvent) →
     let h = host_served (new_host system frames) before in
-    let opened = opened_with h cpu quota disks in
+    let opened = opened_with_disks h cpu quota disks in
     (h.openings < opened.host.openings) →
     own_replies h.openings opened.host events ≡ session_replies system (own_requests h.openings events) (Some (opened_machine cpu quota disks))

@@ -2,7 +2,7 @@ pub mod Seen
 pub mod Slot
 pub mod Served
 pub mod Turns
-pub mod Answers
+pub mod Owned
 pub mod Lines
 pub mod Parts
 pub mod Own

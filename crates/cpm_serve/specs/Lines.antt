@@ -1,5 +1,5 @@
 -- What a line does to a host, and the text of its reply. All of it is own: docs/PROTOCOL.md.
-use Rattle.std.specs.Prelude.{◌≡◌, ◌<◌, ◌≤◌, IsUtf8, ℕ, Bool, List, [], ◌∷◌, length, map, take, Option, Some, None, Result, Ok, Err}
+use Rattle.std.specs.Prelude.{⊤, ◌≡◌, ◌<◌, ◌≤◌, IsUtf8, ℕ, Bool, List, [], ◌∷◌, length, map, take, Option, Some, None, Result, Ok, Err}
 use Rattle.serde_json.specs.Data.{Data, null, Items, no_items, item}
 use Rattle.serde_json.specs.Read.{read}
 use Rattle.serde_json.specs.View.{items_of}
@@ -81,11 +81,11 @@ abbrev pub most_line : ℕ
 most_line = 1048576
 
 -- a line of bytes is heard so
-abbrev pub IsHeard : List ℕ → LineHeard → Type 0
-IsHeard line Long = most_line < length line
-IsHeard line (Broken column) = (length line ≤ most_line) × (IsUtf8 line → read line ≡ None)
-IsHeard line Unread = (length line ≤ most_line) × (0 < length line)
-IsHeard line (Asks value events) =
+abbrev pub IsLineHeard : List ℕ → LineHeard → Type 0
+IsLineHeard line Long = most_line < length line
+IsLineHeard line (Broken column) = (length line ≤ most_line) × (IsUtf8 line → read line ≡ None)
+IsLineHeard line Unread = (length line ≤ most_line) × (0 < length line)
+IsLineHeard line (Asks value events) =
     (length line ≤ most_line) × IsUtf8 line × (read line ≡ Some value) × (map (λ e. e.value) events ≡ values_asked value (line_asked value))
 
 abbrev pub events_of : LineHeard → List WireEvent
@@ -97,11 +97,11 @@ abbrev pub host_after_line : Host → LineHeard → Host
 host_after_line h x = host_served h (events_of x)
 
 -- the value of its reply
-abbrev pub reply_to_line : Host → LineHeard → Data
-reply_to_line h Long = reply_json None TooLong
-reply_to_line h (Broken column) = reply_json None (NoJson column)
-reply_to_line h Unread = reply_json None (Refused refusal.OutOfMemory)
-reply_to_line h (Asks value events) = line_reply value (line_asked value) (replies_served h events)
+abbrev pub heard_reply : Host → LineHeard → Data
+heard_reply h Long = reply_json None TooLong
+heard_reply h (Broken column) = reply_json None (NoJson column)
+heard_reply h Unread = reply_json None (Refused refusal.OutOfMemory)
+heard_reply h (Asks value events) = line_reply value (line_asked value) (replies_served h events)
 
 -- ---- many lines
 
@@ -112,20 +112,32 @@ host_after_lines h (x ∷ xs) = host_after_lines (host_after_line h x) xs
 -- the text of each reply
 abbrev pub replies_to_lines : Host → List LineHeard → List (List ℕ)
 replies_to_lines h [] = []
-replies_to_lines h (x ∷ xs) = compact_text (reply_to_line h x) ∷ replies_to_lines (host_after_line h x) xs
+replies_to_lines h (x ∷ xs) = compact_text (heard_reply h x) ∷ replies_to_lines (host_after_line h x) xs
 
 -- ---- what is promised of a line
 
 -- a host served a line of bytes, and this is the text of the reply
 pub record IsLineServed (line : List ℕ) (old new : Host) (text : List ℕ) : Type 0 where
   pub heard : LineHeard
-  pub is : IsHeard line heard
+  pub is : IsLineHeard line heard
   pub host : new ≡ host_after_line old heard
-  pub reply : text ≡ compact_text (reply_to_line old heard)
+  pub reply : text ≡ compact_text (heard_reply old heard)
+
+-- lines of bytes are heard so, each
+abbrev pub AreLinesHeard : List (List ℕ) → List LineHeard → Type 0
+AreLinesHeard [] [] = ⊤
+AreLinesHeard (line ∷ lines) (x ∷ xs) = IsLineHeard line x × AreLinesHeard lines xs
+AreLinesHeard _ _ = ⊥
+
+-- lines were served, one after another, and these are the texts of the replies
+abbrev pub AreLinesServed : List (List ℕ) → (old new : Host) → List (List ℕ) → Type 0
+AreLinesServed [] old new [] = new ≡ old
+AreLinesServed (line ∷ lines) old new (text ∷ texts) = (h : Host) × IsLineServed line old h text × AreLinesServed lines h new texts
+AreLinesServed _ old new _ = ⊥
 
 -- there was no memory for a reply: the first requests of the line were served, perhaps all
 pub record IsLineCut (line : List ℕ) (old new : Host) : Type 0 where
   pub heard : LineHeard
-  pub is : IsHeard line heard
+  pub is : IsLineHeard line heard
   pub count : ℕ
   pub host : new ≡ host_served old (take count (events_of heard))

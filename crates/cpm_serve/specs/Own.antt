@@ -11,7 +11,7 @@ use Rattle.cpm_protocol.specs.Requests.{AskedFault, AskedTag, WireAsked, Key, Gr
 use Rattle.cpm_protocol.specs.declared.word.WireRefusal.TheVariants as refusal
 use Rattle.cpm_serve.specs.Lines.{WireEvent, event_reply, event_served, tag_shown}
 use Rattle.cpm_serve.specs.Served.{takes_memory}
-use Rattle.cpm_serve.specs.Slot.{asks_of, slot_answer, slot_of}
+use Rattle.cpm_serve.specs.Slot.{asks_of, slot_answer, slot_named}
 
 -- ---- a slot's own requests
 
@@ -40,7 +40,7 @@ asks_slot id None = false
 asks_slot id (Some slot) = slot == id
 
 abbrev pub is_own : ℕ → Result WireAsked AskedFault → Bool
-is_own id (Ok r) = asks_slot id (slot_of r)
+is_own id (Ok r) = asks_slot id (slot_named r)
 is_own id (Err fault) = false
 
 abbrev pub own_asked : WireEvent → Result WireAsked AskedFault → List OwnRequest

@@ -17,7 +17,7 @@ use Rattle.cpm_protocol.specs.Requests.{FourNames, WireAsked, Open, Fork, Key, T
 use Rattle.cpm_protocol.specs.declared.word.WireRefusal.{WireRefusal}
 use Rattle.cpm_protocol.specs.declared.word.WireRefusal.TheVariants as refusal
 use Rattle.cpm_serve.specs.Seen.{fork_refusal, open_refusal}
-use Rattle.cpm_serve.specs.Slot.{asks_of, slot_answer, slot_of}
+use Rattle.cpm_serve.specs.Slot.{asks_of, slot_answer, slot_named}
 
 -- the host afterwards, and the reply
 pub record Served : Type 0 where
@@ -78,13 +78,13 @@ abbrev pub added_if : Option OpenError → Host → MachineState → Served
 added_if None h s = record { host = with_added h s; reply = Opened h.openings }
 added_if (Some fault) h s = refused h (open_refusal fault)
 
-abbrev pub opened_with : Host → Cpu → ℕ → List Disk → Served
-opened_with h cpu quota disks = added_if (open_fault h quota (length disks)) h (opened_machine cpu quota disks)
+abbrev pub opened_with_disks : Host → Cpu → ℕ → List Disk → Served
+opened_with_disks h cpu quota disks = added_if (open_fault h quota (length disks)) h (opened_machine cpu quota disks)
 
 -- images in the folder are not opened yet
 abbrev pub opened_named : Host → Cpu → ℕ → Option (List Disk) → Served
 opened_named h cpu quota None = refused h refusal.FileFault
-opened_named h cpu quota (Some disks) = opened_with h cpu quota disks
+opened_named h cpu quota (Some disks) = opened_with_disks h cpu quota disks
 
 abbrev pub forked_answer : Host → Option ForkError → Answered
 forked_answer h None = Opened h.openings
@@ -105,7 +105,7 @@ served_else h r None = refused h refusal.FileFault
 abbrev pub served : Host → WireAsked → Served
 served h (Open cpu quota drives) = opened_named h cpu quota (disks_named drives)
 served h (Fork slot) = forked_from h slot
-served h r = served_else h r (slot_of r)
+served h r = served_else h r (slot_named r)
 
 -- which requests take memory of their own
 abbrev pub takes_memory : WireAsked → Bool
@@ -126,12 +126,12 @@ abbrev pub outcome : Host → Answered → Served
 outcome h reply = record { host = h; reply = reply }
 
 -- a host served a request, and this is the reply
-pub record IsServed (r : WireAsked) (old new : Host) (reply : Answered) : Type 0 where
+pub record IsRequestServed (r : WireAsked) (old new : Host) (reply : Answered) : Type 0 where
   -- memory was refused
   pub lacked : Bool
   pub served : outcome new reply ≡ served_if lacked old r
 
 -- an opening for which the memory of its drives was there
-pub record IsOpened (cpu : Cpu) (quota : ℕ) (disks : List Disk) (old new : Host) (reply : Answered) : Type 0 where
+pub record IsSessionOpened (cpu : Cpu) (quota : ℕ) (disks : List Disk) (old new : Host) (reply : Answered) : Type 0 where
   pub lacked : Bool
-  pub served : outcome new reply ≡ (if lacked then refused old refusal.OutOfMemory else opened_with old cpu quota disks)
+  pub served : outcome new reply ≡ (if lacked then refused old refusal.OutOfMemory else opened_with_disks old cpu quota disks)

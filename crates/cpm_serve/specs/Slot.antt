@@ -6,7 +6,7 @@ use Rattle.cpm_console.specs.declared.device.Device.{Device}
 use Rattle.cpm_console.specs.declared.device.Device.TheVariants as device
 use Rattle.cpm_geom.specs.Disk.{Disk}
 use Rattle.cpm_memory.specs.Contents.{run_at}
-use Rattle.cpm_machine.specs.Calls.{Call, Key as KeyCall, Grant as GrantCall, GrantUntil, Take as TakeCall, TakeList, granted, state_after}
+use Rattle.cpm_machine.specs.Calls.{Key as KeyCall, Grant as GrantCall, GrantUntil, Take as TakeCall, TakeList, granted, state_after}
 use Rattle.cpm_machine.specs.MachineState.{MachineState}
 use Rattle.cpm_machine.specs.Serve.{look_of, taken, taken_list}
 use Rattle.cpm_machine.specs.Step.{after, is_running}
@@ -17,7 +17,7 @@ use Rattle.cpm_slots.specs.Serving.{Ask, Calls, Closes}
 use Rattle.cpm_slots.specs.declared.event.Refusal.{Refusal}
 use Rattle.cpm_slots.specs.declared.event.Refusal.TheVariants as slots
 use Rattle.cpm_protocol.specs.Replies.{Answered, Accepted, Granted, Looked, Refused, Text, Turned}
-use Rattle.cpm_protocol.specs.Requests.{FourNames, WireAsked, Key, Grant, Take, ListTake, Look, Peek, Save, Close, Turn}
+use Rattle.cpm_protocol.specs.Requests.{WireAsked, Key, Grant, Take, ListTake, Look, Peek, Save, Close, Turn}
 use Rattle.cpm_protocol.specs.declared.request.GrantGoal.{GrantGoal}
 use Rattle.cpm_protocol.specs.declared.request.GrantGoal.TheVariants as goal
 use Rattle.cpm_protocol.specs.declared.word.GrantStop.{GrantStop}
@@ -114,17 +114,17 @@ is_no_name (Some name) = false
 -- ---- the tables
 
 -- the slot that a request names and asks, if it does. A fork names one too, but asks its host.
-abbrev pub slot_of : WireAsked → Option ℕ
-slot_of (Key slot keys) = Some slot
-slot_of (Grant slot steps goal) = Some slot
-slot_of (Take slot most) = Some slot
-slot_of (ListTake slot most) = Some slot
-slot_of (Look slot) = Some slot
-slot_of (Peek slot address length) = Some slot
-slot_of (Save slot file) = Some slot
-slot_of (Close slot out) = Some slot
-slot_of (Turn slot keys steps) = Some slot
-slot_of _ = None
+abbrev pub slot_named : WireAsked → Option ℕ
+slot_named (Key slot keys) = Some slot
+slot_named (Grant slot steps goal) = Some slot
+slot_named (Take slot most) = Some slot
+slot_named (ListTake slot most) = Some slot
+slot_named (Look slot) = Some slot
+slot_named (Peek slot address length) = Some slot
+slot_named (Save slot file) = Some slot
+slot_named (Close slot out) = Some slot
+slot_named (Turn slot keys steps) = Some slot
+slot_named _ = None
 
 -- what is asked of a slot that is open. A look and bytes of the memory change nothing. Drives are not written yet.
 abbrev pub asks_of : Disk → WireAsked → MachineState → List Ask
@@ -149,6 +149,6 @@ slot_answer system (Turn slot keys steps) s = turn_answer system keys steps s
 slot_answer system _ s = Refused refusal.FileFault
 
 -- the request that takes the bytes of a device
-abbrev pub take_asked : Device → (slot most : ℕ) → WireAsked
-take_asked device.Console slot most = Take slot most
-take_asked device.List slot most = ListTake slot most
+abbrev pub device_asked : Device → (slot most : ℕ) → WireAsked
+device_asked device.Console slot most = Take slot most
+device_asked device.List slot most = ListTake slot most

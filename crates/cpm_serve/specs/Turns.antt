@@ -1,5 +1,5 @@
 -- The parts of a turn, of a slot that is open. All of it is own.
-use Rattle.std.specs.Prelude.{◌≡◌, ℕ, Bool, List, length, take}
+use Rattle.std.specs.Prelude.{◌≡◌, ℕ, Bool, List, take}
 use Rattle.cpm_console.specs.Terminal.{waiting_on}
 use Rattle.cpm_console.specs.declared.device.Device.{Device}
 use Rattle.cpm_machine.specs.Calls.{Grant}

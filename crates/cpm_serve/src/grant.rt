@@ -4,12 +4,12 @@ ghost use Rattle.cpm_machine.specs.Calls.{Grant as GrantCall};
 ghost use Rattle.cpm_protocol.specs.Requests.{Grant};
 ghost use Rattle.cpm_slots.specs.Host.{after_ask, slot_at};
 ghost use Rattle.cpm_slots.specs.Serving.{Calls};
-ghost use Rattle.cpm_serve.specs.Answers.{answer_seen};
+ghost use Rattle.cpm_serve.specs.Owned.{owned_answer};
 ghost use Rattle.cpm_serve.specs.Seen.{grant_result};
-ghost use Rattle.cpm_serve.specs.Served.{IsServed};
+ghost use Rattle.cpm_serve.specs.Served.{IsRequestServed};
 ghost use Rattle.cpm_serve.specs.Slot.{wait_answer, wait_result, wait_stop};
 
-use crate::answer::{Answer, refused};
+use crate::owned::{OwnedReply, refused};
 use crate::seen::stop_seen;
 use cpm_machine::{End, Granted, Look};
 use cpm_protocol::{GrantGoal, GrantStop, WireRefusal, WireReply};
@@ -51,11 +51,11 @@ pub(crate) fn grant_to_wait(
 }
 
 /// The reply to a grant that the host made.
-fn granted(outcome: Result<Granted, Refusal>) -> Answer
-    ensures { answer_seen result ≡ grant_result outcome }
+fn granted(outcome: Result<Granted, Refusal>) -> OwnedReply
+    ensures { owned_answer result ≡ grant_result outcome }
 {
     match outcome {
-        Ok(granted) => Answer::Plain(WireReply::Granted {
+        Ok(granted) => OwnedReply::Plain(WireReply::Granted {
             executed: granted.executed,
             why: stop_seen(granted.why),
         }),
@@ -64,18 +64,18 @@ fn granted(outcome: Result<Granted, Refusal>) -> Answer
 }
 
 /// The reply to a grant to a wait.
-fn granted_to_wait(outcome: Result<(u64, GrantStop), Refusal>) -> Answer
-    ensures { answer_seen result ≡ wait_answer outcome }
+fn granted_to_wait(outcome: Result<(u64, GrantStop), Refusal>) -> OwnedReply
+    ensures { owned_answer result ≡ wait_answer outcome }
 {
     match outcome {
-        Ok((executed, why)) => Answer::Plain(WireReply::Granted { executed, why }),
+        Ok((executed, why)) => OwnedReply::Plain(WireReply::Granted { executed, why }),
         Err(_) => refused(WireRefusal::NoSuchSlot),
     }
 }
 
 /// Executes steps.
-pub(crate) fn grant(host: &mut Host, slot: u64, steps: u64, goal: GrantGoal) -> Answer
-    ensures { IsServed (Grant slot steps goal) host.old.host host.new.host (answer_seen result) }
+pub(crate) fn grant(host: &mut Host, slot: u64, steps: u64, goal: GrantGoal) -> OwnedReply
+    ensures { IsRequestServed (Grant slot steps goal) host.old.host host.new.host (owned_answer result) }
 {
     let id = SlotId(slot);
     match goal {

@@ -1,5 +1,6 @@
 //! The laws of the wire, as contracts.
-ghost use Rattle.cpm_serve.specs.Laws.{LinesAreEvents, RefusedRequests, TwoTranscripts, WireAlone, WireIsolation, WrongLines, WrongRequests};
+ghost use Rattle.cpm_serve.specs.Laws.{LinesAreEvents, RefusedRequests, Transcripts, TurnsAreParts, TwoTranscripts, WireAlone, WireIsolation};
+ghost use Rattle.cpm_serve.specs.Laws.{WrongLines, WrongRequests};
 
 /// A line that is no request changes nothing.
 pub fn wrong_lines()
@@ -19,6 +20,16 @@ pub fn refused_requests()
 /// A host is served lines as it is served their requests, however these stand in lines.
 pub fn lines_are_events()
     ensures { LinesAreEvents }
+{}
+
+/// What lines leave of a host, and the texts of their replies, are those of the fold over the lines.
+pub fn transcripts()
+    ensures { Transcripts }
+{}
+
+/// A turn is its parts, one after another.
+pub fn turns_are_parts()
+    ensures { TurnsAreParts }
 {}
 
 /// The replies to a slot's own requests are those of the session by itself, whatever else is asked on the wire.

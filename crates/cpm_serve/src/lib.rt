@@ -1,11 +1,11 @@
 //! The host behind its wire, as a machine: a line is read, and a line is replied. `docs/PROTOCOL.md` is the protocol.
 #![tactic(auto)]
 
-mod answer;
 mod grant;
 pub mod laws;
 mod many;
 mod open;
+mod owned;
 mod seen;
 mod server;
 mod slot;

@@ -2,14 +2,14 @@
 ghost use Rattle.std.specs.Prelude.{◌≡◌, IfOk, OnErr, map, option_map};
 ghost use Rattle.serde_json.specs.View.{view};
 ghost use Rattle.cpm_protocol.specs.Requests.{request_seen, tag_of_code};
-ghost use Rattle.cpm_serve.specs.Answers.{answer_seen};
+ghost use Rattle.cpm_serve.specs.Owned.{owned_answer};
 ghost use Rattle.cpm_serve.specs.Lines.{tag_shown};
 ghost use Rattle.cpm_serve.specs.Parts.{AreServed, AreServedUpTo, HasByteKeys, IsEventCut, IsEventServed};
-ghost use Rattle.cpm_serve.specs.Served.{IsServed};
+ghost use Rattle.cpm_serve.specs.Served.{IsRequestServed};
 
-use crate::answer::{Answer, refused};
 use crate::grant::grant;
 use crate::open::{fork, open};
+use crate::owned::{OwnedReply, refused};
 use crate::slot::{close, look, peek, press, save, take};
 use crate::turn::turn;
 use cpm_console::Device;
@@ -19,9 +19,9 @@ use serde_json::Value;
 use std::alloc::{AllocError, Global};
 
 /// Does a request. What needs a file is refused.
-fn perform(host: &mut Host, alloc: Global, request: WireRequest<'_>) -> Answer
+fn perform(host: &mut Host, alloc: Global, request: WireRequest<'_>) -> OwnedReply
     requires { HasByteKeys (request_seen request) }
-    ensures { IsServed (request_seen request.entry) host.old.host host.new.host (answer_seen result) }
+    ensures { IsRequestServed (request_seen request.entry) host.old.host host.new.host (owned_answer result) }
 {
     match request {
         WireRequest::Open { cpu, quota, drives } => open(host, alloc, cpu, quota, drives),

@@ -2,10 +2,10 @@
 ghost use Rattle.std.specs.Prelude.{◌≡◌, IfOk, option_map};
 ghost use Rattle.cpm_geom.specs.Disk.{blank_disk};
 ghost use Rattle.cpm_protocol.specs.Requests.{Fork, Open, drive_names_of, text_if};
-ghost use Rattle.cpm_serve.specs.Answers.{answer_seen};
-ghost use Rattle.cpm_serve.specs.Served.{IsOpened, IsServed, disk_named, disks_named, disks_with};
+ghost use Rattle.cpm_serve.specs.Owned.{owned_answer};
+ghost use Rattle.cpm_serve.specs.Served.{IsSessionOpened, IsRequestServed, disk_named, disks_named, disks_with};
 
-use crate::answer::{Answer, refused};
+use crate::owned::{OwnedReply, refused};
 use crate::seen::{fork_refusal, open_refusal};
 use cpm_flags::Cpu;
 use cpm_geom::{Format, Image};
@@ -59,11 +59,11 @@ fn drives_named(alloc: Global, names: DriveNames<'_>) -> Result<Option<Vec<Image
 }
 
 /// Opens a session with these drives.
-fn open_with(host: &mut Host, alloc: Global, opening: Opening) -> Answer
-    ensures { IsOpened opening.cpu opening.quota opening.drives.items host.old.host host.new.host (answer_seen result) }
+fn open_with(host: &mut Host, alloc: Global, opening: Opening) -> OwnedReply
+    ensures { IsSessionOpened opening.cpu opening.quota opening.drives.items host.old.host host.new.host (owned_answer result) }
 {
     match host.open(alloc, opening) {
-        Ok(SlotId(slot)) => Answer::Plain(WireReply::Opened { slot }),
+        Ok(SlotId(slot)) => OwnedReply::Plain(WireReply::Opened { slot }),
         Err((_, error)) => refused(open_refusal(error)),
     }
 }
@@ -75,8 +75,8 @@ pub(crate) fn open(
     cpu: Cpu,
     quota: u16,
     drives: DriveNames<'_>,
-) -> Answer
-    ensures { IsServed (Open cpu quota (drive_names_of drives.entry)) host.old.host host.new.host (answer_seen result) }
+) -> OwnedReply
+    ensures { IsRequestServed (Open cpu quota (drive_names_of drives.entry)) host.old.host host.new.host (owned_answer result) }
 {
     match drives_named(alloc, drives) {
         Ok(Some(drives)) => open_with(host, alloc, Opening { cpu, quota, drives }),
@@ -86,11 +86,11 @@ pub(crate) fn open(
 }
 
 /// Forks a session.
-pub(crate) fn fork(host: &mut Host, alloc: Global, slot: u64) -> Answer
-    ensures { IsServed (Fork slot) host.old.host host.new.host (answer_seen result) }
+pub(crate) fn fork(host: &mut Host, alloc: Global, slot: u64) -> OwnedReply
+    ensures { IsRequestServed (Fork slot) host.old.host host.new.host (owned_answer result) }
 {
     match host.fork(alloc, SlotId(slot)) {
-        Ok(SlotId(slot)) => Answer::Plain(WireReply::Opened { slot }),
+        Ok(SlotId(slot)) => OwnedReply::Plain(WireReply::Opened { slot }),
         Err(error) => refused(fork_refusal(error)),
     }
 }

@@ -4,11 +4,11 @@ ghost use Rattle.cpm_memory.specs.Contents.{run_at};
 ghost use Rattle.cpm_protocol.specs.Bytes.{is_byte_text};
 ghost use Rattle.cpm_protocol.specs.Requests.{Close, Key, Look, Peek, Save, drive_names_of};
 ghost use Rattle.cpm_slots.specs.Host.{slot_at};
-ghost use Rattle.cpm_serve.specs.Answers.{answer_seen};
-ghost use Rattle.cpm_serve.specs.Served.{IsServed, after_asks};
-ghost use Rattle.cpm_serve.specs.Slot.{accepted_in, key_asks, take_asked};
+ghost use Rattle.cpm_serve.specs.Owned.{owned_answer};
+ghost use Rattle.cpm_serve.specs.Served.{IsRequestServed, after_asks};
+ghost use Rattle.cpm_serve.specs.Slot.{accepted_in, key_asks, device_asked};
 
-use crate::answer::{Answer, refused};
+use crate::owned::{OwnedReply, refused};
 use crate::seen::look_seen;
 use cpm_console::Device;
 use cpm_protocol::{DriveNames, WireRefusal, WireReply, bytes_of};
@@ -30,9 +30,9 @@ pub(crate) fn offer(host: &mut Host, id: SlotId, keys: &[u8]) -> usize
 }
 
 /// Presses keys, as many as there is room for from the first on.
-pub(crate) fn press(host: &mut Host, alloc: Global, slot: u64, keys: &str) -> Answer
+pub(crate) fn press(host: &mut Host, alloc: Global, slot: u64, keys: &str) -> OwnedReply
     requires { is_byte_text keys.now ≡ true }
-    ensures { IsServed (Key slot (chars keys.now)) host.old.host host.new.host (answer_seen result) }
+    ensures { IsRequestServed (Key slot (chars keys.now)) host.old.host host.new.host (owned_answer result) }
 {
     let id = SlotId(slot);
     if host.cpu(id).is_err() {
@@ -42,7 +42,7 @@ pub(crate) fn press(host: &mut Host, alloc: Global, slot: u64, keys: &str) -> An
         return refused(WireRefusal::OutOfMemory);
     };
     let accepted = offer(host, id, &keys) as u64;
-    Answer::Plain(WireReply::Accepted { accepted })
+    OwnedReply::Plain(WireReply::Accepted { accepted })
 }
 
 /// Gives the first bytes that wait on a device, and takes them away.
@@ -52,8 +52,8 @@ pub(crate) fn take(
     slot: u64,
     device: Device,
     most: u16,
-) -> Answer
-    ensures { IsServed (take_asked device slot most) host.old.host host.new.host (answer_seen result) }
+) -> OwnedReply
+    ensures { IsRequestServed (device_asked device slot most) host.old.host host.new.host (owned_answer result) }
 {
     let Ok(mut room) = vec![in alloc; 0u8; most as usize] else {
         return refused(WireRefusal::OutOfMemory);
@@ -61,22 +61,22 @@ pub(crate) fn take(
     match host.take_from(SlotId(slot), device, &mut room) {
         Ok(count) => {
             room.truncate(count);
-            Answer::Bytes(room)
+            OwnedReply::Bytes(room)
         }
         Err(_) => refused(WireRefusal::NoSuchSlot),
     }
 }
 
 /// Says what is seen of a session.
-pub(crate) fn look(host: &mut Host, slot: u64) -> Answer
-    ensures { IsServed (Look slot) host.old.host host.new.host (answer_seen result) }
+pub(crate) fn look(host: &mut Host, slot: u64) -> OwnedReply
+    ensures { IsRequestServed (Look slot) host.old.host host.new.host (owned_answer result) }
 {
     let id = SlotId(slot);
     let Ok(cpu) = host.cpu(id) else {
         return refused(WireRefusal::NoSuchSlot);
     };
     match host.look(id) {
-        Ok(look) => Answer::Plain(WireReply::Looked(look_seen(cpu, &look))),
+        Ok(look) => OwnedReply::Plain(WireReply::Looked(look_seen(cpu, &look))),
         Err(_) => refused(WireRefusal::NoSuchSlot),
     }
 }
@@ -101,22 +101,22 @@ fn memory_bytes(
 }
 
 /// Gives bytes of the memory. Behind FFFFh comes 0000h.
-pub(crate) fn peek(host: &Host, alloc: Global, slot: u64, address: u16, length: u16) -> Answer
-    ensures { IsServed (Peek slot address length) host.now.host host.now.host (answer_seen result) }
+pub(crate) fn peek(host: &Host, alloc: Global, slot: u64, address: u16, length: u16) -> OwnedReply
+    ensures { IsRequestServed (Peek slot address length) host.now.host host.now.host (owned_answer result) }
 {
     let id = SlotId(slot);
     if host.cpu(id).is_err() {
         return refused(WireRefusal::NoSuchSlot);
     }
     match memory_bytes(host, alloc, id, address, length) {
-        Ok(bytes) => Answer::Bytes(bytes),
+        Ok(bytes) => OwnedReply::Bytes(bytes),
         Err(AllocError) => refused(WireRefusal::OutOfMemory),
     }
 }
 
 /// Closes a slot, and says what is seen of it. Its drives are not written yet.
-pub(crate) fn close(host: &mut Host, slot: u64, out: DriveNames<'_>) -> Answer
-    ensures { IsServed (Close slot (drive_names_of out.entry)) host.old.host host.new.host (answer_seen result) }
+pub(crate) fn close(host: &mut Host, slot: u64, out: DriveNames<'_>) -> OwnedReply
+    ensures { IsRequestServed (Close slot (drive_names_of out.entry)) host.old.host host.new.host (owned_answer result) }
 {
     let id = SlotId(slot);
     let Ok(cpu) = host.cpu(id) else {
@@ -126,14 +126,14 @@ pub(crate) fn close(host: &mut Host, slot: u64, out: DriveNames<'_>) -> Answer
         return refused(WireRefusal::FileFault);
     }
     match host.close(id) {
-        Ok(closed) => Answer::Plain(WireReply::Looked(look_seen(cpu, &closed.look))),
+        Ok(closed) => OwnedReply::Plain(WireReply::Looked(look_seen(cpu, &closed.look))),
         Err(_) => refused(WireRefusal::NoSuchSlot),
     }
 }
 
 /// Refuses to save a slot: no file is written yet.
-pub(crate) fn save(host: &Host, slot: u64, file: &str) -> Answer
-    ensures { IsServed (Save slot file.now) host.now.host host.now.host (answer_seen result) }
+pub(crate) fn save(host: &Host, slot: u64, file: &str) -> OwnedReply
+    ensures { IsRequestServed (Save slot file.now) host.now.host host.now.host (owned_answer result) }
 {
     if host.cpu(SlotId(slot)).is_err() {
         refused(WireRefusal::NoSuchSlot)

@@ -3,13 +3,13 @@ ghost use Rattle.std.specs.Prelude.{◌≡◌, IfOk, IfSome, chars, length, true
 ghost use Rattle.cpm_protocol.specs.Bytes.{is_byte_text};
 ghost use Rattle.cpm_protocol.specs.Requests.{Turn};
 ghost use Rattle.cpm_slots.specs.Host.{slot_at};
-ghost use Rattle.cpm_serve.specs.Answers.{answer_seen};
-ghost use Rattle.cpm_serve.specs.Served.{IsServed, asked_slot, outcome};
+ghost use Rattle.cpm_serve.specs.Owned.{owned_answer};
+ghost use Rattle.cpm_serve.specs.Served.{IsRequestServed, asked_slot, outcome};
 ghost use Rattle.cpm_serve.specs.Slot.{turn_bytes};
 ghost use Rattle.cpm_serve.specs.Turns.{IsMoved, IsSeen, IsWorked};
 
-use crate::answer::{Answer, OwnedTurn, refused};
 use crate::grant::grant_to_wait;
+use crate::owned::{OwnedReply, OwnedTurn, refused};
 use crate::seen::end_seen;
 use crate::slot::offer;
 use cpm_console::Device;
@@ -65,18 +65,18 @@ fn play(
     steps: u64,
     text: Vec<u8>,
     list: Vec<u8>,
-) -> Answer
+) -> OwnedReply
     requires text { length text.items ≡ turn_bytes }
     requires list { length list.items ≡ turn_bytes }
     ensures { IfSome (slot_at id.0 host.old.host.slots)
-        (λ s. outcome host.new.host (answer_seen result) ≡ asked_slot host.old.host id.0 (Turn id.0 keys.now steps)) }
+        (λ s. outcome host.new.host (owned_answer result) ≡ asked_slot host.old.host id.0 (Turn id.0 keys.now steps)) }
 {
     let accepted = offer(host, id, keys) as u64;
     let (executed, why) = work(host, id, steps);
     let text = move_out(host, id, Device::Console, text);
     let list = move_out(host, id, Device::List, list);
     let (waiting, end) = look_behind(host, id);
-    Answer::Turned(OwnedTurn {
+    OwnedReply::Turned(OwnedTurn {
         accepted,
         executed,
         why,
@@ -88,9 +88,9 @@ fn play(
 }
 
 /// Presses keys, grants steps to a wait, gives console and list bytes, and says what is seen.
-pub(crate) fn turn(host: &mut Host, alloc: Global, slot: u64, keys: &str, steps: u64) -> Answer
+pub(crate) fn turn(host: &mut Host, alloc: Global, slot: u64, keys: &str, steps: u64) -> OwnedReply
     requires { is_byte_text keys.now ≡ true }
-    ensures { IsServed (Turn slot (chars keys.now) steps) host.old.host host.new.host (answer_seen result) }
+    ensures { IsRequestServed (Turn slot (chars keys.now) steps) host.old.host host.new.host (owned_answer result) }
 {
     let id = SlotId(slot);
     if host.cpu(id).is_err() {

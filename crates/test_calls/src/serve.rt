@@ -152,7 +152,13 @@ fn sessions_are_opened_forked_and_closed(rt: HostRuntime) {
         r#"{"af":0,"af'":0,"bc":0,"bc'":0,"console":0,"count":0,"de":0,"#,
         r#""tag":9,"waiting":false}"#,
     );
-    replies(&rt, alloc, &mut server, r#"{"do": "look", "slot": 0}"#, NO_SUCH_SLOT);
+    replies(
+        &rt,
+        alloc,
+        &mut server,
+        r#"{"do": "look", "slot": 0}"#,
+        NO_SUCH_SLOT,
+    );
     replies(&rt, alloc, &mut server, OPENS, r#"{"slot":2}"#);
 }
 
@@ -178,7 +184,13 @@ fn what_needs_a_file_is_refused(rt: HostRuntime) {
             r#"{"refused":"FileFault","why":"the file can't be read or written"}"#,
         );
     }
-    replies(&rt, alloc, &mut server, r#"{"do": "key", "slot": 0, "keys": "X"}"#, r#"{"accepted":1}"#);
+    replies(
+        &rt,
+        alloc,
+        &mut server,
+        r#"{"do": "key", "slot": 0, "keys": "X"}"#,
+        r#"{"accepted":1}"#,
+    );
 }
 
 #[test]
@@ -187,14 +199,27 @@ fn keys_find_room_up_to_4096(rt: HostRuntime) {
     let mut server = server(&rt, alloc);
     replies(&rt, alloc, &mut server, OPENS, r#"{"slot":0}"#);
     replies(&rt, alloc, &mut server, OPENS, r#"{"slot":1}"#);
-    replies(&rt, alloc, &mut server, r#"{"do": "key", "slot": 1, "keys": "DIR\r"}"#, r#"{"accepted":4}"#);
+    replies(
+        &rt,
+        alloc,
+        &mut server,
+        r#"{"do": "key", "slot": 1, "keys": "DIR\r"}"#,
+        r#"{"accepted":4}"#,
+    );
     let mut line = String::new(alloc);
-    line.push_str(r#"{"do": "key", "slot": 1, "keys": ""#).expect(&rt, "memory");
+    line.push_str(r#"{"do": "key", "slot": 1, "keys": ""#)
+        .expect(&rt, "memory");
     for _ in 0..5000 {
         line.push('y').expect(&rt, "memory");
     }
     line.push_str(r#""}"#).expect(&rt, "memory");
-    replies(&rt, alloc, &mut server, line.as_str(), r#"{"accepted":4092}"#);
+    replies(
+        &rt,
+        alloc,
+        &mut server,
+        line.as_str(),
+        r#"{"accepted":4092}"#,
+    );
     replies(&rt, alloc, &mut server, line.as_str(), r#"{"accepted":0}"#);
     begins_and_ends(
         &rt,

@@ -2,7 +2,7 @@ use Rattle.std.proofs.Common.{◌∙◌, false, ap, refl, sym}
 use Rattle.cpm_protocol.specs.Requests.{Grant}
 use Rattle.cpm_protocol.specs.declared.request.GrantGoal.{GrantGoal}
 use Rattle.cpm_serve.specs.Served.{asked_slot}
-use Rattle.cpm_serve.proofs.ServedLemmas.{grant-served, same-outcome, until-served, wait-served}
+use Rattle.cpm_serve.proofs.ServedLemmas.{grant-served, same-outcome, until-served}
 use Rattle.cpm_serve.proofs.grant.grant.Goals as goal
 
 pub returns-in-Steps : goal.returns-in-Steps

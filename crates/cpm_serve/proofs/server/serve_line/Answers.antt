@@ -1,10 +1,9 @@
 use Rattle.std.proofs.Common.{◌≡◌, ◌∙◌, ap}
 use Rattle.std.proofs.lemmas.Result.{IfOk-weaker}
-use Rattle.std.specs.Prelude.{OnErr, Result, Ok, Err}
 use Rattle.serde_json.specs.View.{items_view, view}
-use Rattle.cpm_protocol.specs.Replies.{Wrong, many_json, reply_json}
+use Rattle.cpm_protocol.specs.Replies.{many_json}
 use Rattle.cpm_protocol.specs.Requests.{Many, One, fault_seen, line_asked, request_seen}
-use Rattle.cpm_serve.specs.Parts.{IsEventCut, IsValueCut}
+use Rattle.cpm_serve.specs.Parts.{IsValueCut}
 use Rattle.cpm_serve.proofs.LineLemmas.{asked_as, many-cut, many-kept, many-served, one-cut, one-served, wrong-cut}
 use Rattle.cpm_serve.proofs.ManyLemmas.{OnErr-weaker, on-err}
 use Rattle.cpm_serve.proofs.server.serve_line.Goals as goal
@@ -35,7 +34,7 @@ returns-in_ok-replies-in-Ok-Many-clause-served c =
     let rs = c.in_ok-replies-in-Ok-Many.replies.items in
     IfOk-weaker c.many_value.result _ _
     (λ v is. many-served d c.in-Ok-Many.values.now rs c.args.host.now.host c.serve_values.new.host.host (view v) e c.in_ok-replies-in-Ok-Many.ensures.served
-        (is ∙ ap (λ t. many_json t (items_view rs)) c.tag_shown-tag.ensures))
+    (is ∙ ap (λ t. many_json t (items_view rs)) c.tag_shown-tag.ensures))
     c.many_value.ensures
 
 pub returns-in_ok-replies-in-Ok-Many-clause-cut : goal.returns-in_ok-replies-in-Ok-Many-clause-cut

@@ -18,19 +18,19 @@ loop-key-preserved c =
     let id = c.args.id.0 in
     let one = accepted-step h c.key.new.self.host id key rest c.key.result c.key.ensures.reply c.key.ensures.host in
     let all : c.loop-key.accepted + accepted_in (key ∷ rest) (slot_at id h.slots) ≡ accepted_in keys (slot_at id c.args.host.now.host.slots) =
-        ap (λ xs. c.loop-key.accepted + accepted_in xs (slot_at id h.slots)) (sym first) ∙ c.loop-key.invariant.accepted in
+    ap (λ xs. c.loop-key.accepted + accepted_in xs (slot_at id h.slots)) (sym first) ∙ c.loop-key.invariant.accepted in
     let host : after_asks id (key_asks rest) c.key.new.self.host ≡ after_asks id (key_asks keys) c.args.host.now.host =
-        ap (after_asks id (key_asks rest)) c.key.ensures.host ∙ ap (λ xs. after_asks id (key_asks xs) h) (sym first) ∙ c.loop-key.invariant.host in
+    ap (after_asks id (key_asks rest)) c.key.ensures.host ∙ ap (λ xs. after_asks id (key_asks xs) h) (sym first) ∙ c.loop-key.invariant.host in
     let few = c.loop-key.invariant.few in
     elim c.if-is_ok.branch [
       | then-is_ok w ↦
-        let is : is_ok c.key.result ≡ true = sym c.is_ok.ensures.value ∙ w.if-is_ok.true in
-        let n = w.accepted-is in
-        let bit : cond {A = ℕ} (is_ok c.key.result) 1 0 ≡ 1 = ap (λ b. cond {A = ℕ} b 1 0) is in
-        record { host = host; accepted = omega (arith, one, all, n, bit); few = omega (arith, few, n) }
+          let is : is_ok c.key.result ≡ true = sym c.is_ok.ensures.value ∙ w.if-is_ok.true in
+          let n = w.accepted-is in
+          let bit : cond {A = ℕ} (is_ok c.key.result) 1 0 ≡ 1 = ap (λ b. cond {A = ℕ} b 1 0) is in
+          record { host = host; accepted = omega (arith, one, all, n, bit); few = omega (arith, few, n) }
       | else-is_ok w ↦
-        let is : is_ok c.key.result ≡ false = sym c.is_ok.ensures.value ∙ w.if-is_ok.false in
-        let n = w.accepted-is in
-        let bit : cond {A = ℕ} (is_ok c.key.result) 1 0 ≡ 0 = ap (λ b. cond {A = ℕ} b 1 0) is in
-        record { host = host; accepted = omega (arith, one, all, n, bit); few = omega (arith, few, n) }
+          let is : is_ok c.key.result ≡ false = sym c.is_ok.ensures.value ∙ w.if-is_ok.false in
+          let n = w.accepted-is in
+          let bit : cond {A = ℕ} (is_ok c.key.result) 1 0 ≡ 0 = ap (λ b. cond {A = ℕ} b 1 0) is in
+          record { host = host; accepted = omega (arith, one, all, n, bit); few = omega (arith, few, n) }
     ]

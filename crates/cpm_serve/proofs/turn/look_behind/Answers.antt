@@ -13,11 +13,11 @@ pub returns-in-Ok : goal.returns-in-Ok
 returns-in-Ok c =
     if-open (slot_at c.args.id.0 c.args.host.now.host.slots) (IsSeen (c.in-Ok.look.waiting, c.end_seen.result) c.args.host.now.host c.look.new.self.host)
     (λ s at.
-      let is = look-is c.args.host.now.host c.args.id.0 s c.in-Ok.look at c.in-Ok.ensures.reply in
-      record {
-        seen_is = ap₂ (λ (b : Bool) (e : WireEnd). (b, e)) (ap (λ (l : Look). l.waiting) is) (c.end_seen.ensures ∙ ap (λ (l : Look). end_seen l.ended) is);
-        host = ap (λ (x : HostWithStore). x.host) c.in-Ok.ensures.unchanged;
-      })
+    let is = look-is c.args.host.now.host c.args.id.0 s c.in-Ok.look at c.in-Ok.ensures.reply in
+    record {
+      seen_is = ap₂ (λ (b : Bool) (e : WireEnd). (b, e)) (ap (λ (l : Look). l.waiting) is) (c.end_seen.ensures ∙ ap (λ (l : Look). end_seen l.ended) is);
+      host = ap (λ (x : HostWithStore). x.host) c.in-Ok.ensures.unchanged;
+    })
 
 pub returns-in-Err : goal.returns-in-Err
 returns-in-Err c =

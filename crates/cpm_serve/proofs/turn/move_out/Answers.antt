@@ -19,9 +19,9 @@ returns c =
     let r = c.take_from.result in
     let n : length c.deref_mut.result.now ≡ turn_bytes = ap (λ (xs : List ℕ). length xs) c.deref_mut.ensures.value ∙ c.requires in
     let said : take_reply r out ≡ reply_at h id (Calls (take_call c.args.device turn_bytes)) =
-        subst (λ (k : ℕ). take_reply r out ≡ reply_at h id (Calls (take_call c.args.device k))) n c.take_from.ensures.reply in
+    subst (λ (k : ℕ). take_reply r out ≡ reply_at h id (Calls (take_call c.args.device k))) n c.take_from.ensures.reply in
     let host : c.take_from.new.self.host ≡ after_ask h id (Calls (take_call c.args.device turn_bytes)) =
-        subst (λ (k : ℕ). c.take_from.new.self.host ≡ after_ask h id (Calls (take_call c.args.device k))) n c.take_from.ensures.host in
+    subst (λ (k : ℕ). c.take_from.new.self.host ≡ after_ask h id (Calls (take_call c.args.device k))) n c.take_from.ensures.host in
     if-open (slot_at id h.slots) (IsMoved id c.args.device c.truncate.new.self.items h c.take_from.new.self.host)
     (λ s at. record {
       bytes_are = c.truncate.ensures.items ∙ ap (take c.unwrap_or-count.result) (take-front c.args.room.len out _ (c.take_from.ensures.length ∙ c.deref_mut.ensures.len))

@@ -3,7 +3,7 @@ ghost use Rattle.std.specs.Prelude.{◌≡◌, IfOk, option_map};
 ghost use Rattle.serde_json.specs.View.{view};
 ghost use Rattle.cpm_protocol.specs.Replies.{Refused, reply_json};
 ghost use Rattle.cpm_protocol.specs.Requests.{tag_of_code};
-ghost use Rattle.cpm_serve.specs.Answers.{answer_seen};
+ghost use Rattle.cpm_serve.specs.Owned.{owned_answer};
 
 use cpm_protocol::{GrantStop, Tag, TurnReply, WireEnd, WireRefusal, WireReply};
 use serde_json::Value;
@@ -23,7 +23,7 @@ pub(crate) struct OwnedTurn {
 
 /// A reply that owns its bytes.
 #[derive(Drop)]
-pub(crate) enum Answer {
+pub(crate) enum OwnedReply {
     /// A reply without bytes.
     Plain(WireReply<'static>),
     /// Bytes of a console, a list or a memory.
@@ -32,21 +32,21 @@ pub(crate) enum Answer {
 }
 
 /// A refusal.
-pub(crate) fn refused(refusal: WireRefusal) -> Answer
-    ensures { answer_seen result ≡ Refused refusal }
+pub(crate) fn refused(refusal: WireRefusal) -> OwnedReply
+    ensures { owned_answer result ≡ Refused refusal }
 {
-    Answer::Plain(WireReply::Refused(refusal))
+    OwnedReply::Plain(WireReply::Refused(refusal))
 }
 
-impl Answer {
+impl OwnedReply {
     /// The reply as a JSON value, with the tag of its request.
     pub(crate) fn value(&self, alloc: Global, tag: Option<Tag<'_>>) -> Result<Value, AllocError>
-        ensures { IfOk result (λ v. view v ≡ reply_json (option_map tag_of_code tag.entry) (answer_seen self.now)) }
+        ensures { IfOk result (λ v. view v ≡ reply_json (option_map tag_of_code tag.entry) (owned_answer self.now)) }
     {
         match self {
-            Answer::Plain(reply) => reply.value(alloc, tag),
-            Answer::Bytes(bytes) => WireReply::Text { bytes }.value(alloc, tag),
-            Answer::Turned(turn) => WireReply::Turned(TurnReply {
+            OwnedReply::Plain(reply) => reply.value(alloc, tag),
+            OwnedReply::Bytes(bytes) => WireReply::Text { bytes }.value(alloc, tag),
+            OwnedReply::Turned(turn) => WireReply::Turned(TurnReply {
                 accepted: turn.accepted,
                 executed: turn.executed,
                 why: turn.why,
