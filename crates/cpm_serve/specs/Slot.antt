@@ -1,6 +1,7 @@
 -- What a request that names a slot asks of it, and its reply. Both follow from the request, the slot's state and the system drive.
 -- All of it is own: docs/PROTOCOL.md.
-use Rattle.std.specs.Prelude.{ℕ, ◌-◌, ◌==◌, not, min, Bool, true, false, List, [], ◌∷◌, ◌++◌, length, map, take, Option, Some, None, Result, Ok, Err, if◌then◌else◌}
+use Rattle.std.specs.Prelude.{ℕ, ◌-◌, ◌==◌, not, min, Bool, true, false, List, [], ◌∷◌, ◌++◌, length, map, take, Option, Some, None, Result, Ok, Err}
+use Rattle.std.specs.Prelude.{if◌then◌else◌}
 use Rattle.cpm_console.specs.Terminal.{most_pending}
 use Rattle.cpm_console.specs.declared.device.Device.{Device}
 use Rattle.cpm_console.specs.declared.device.Device.TheVariants as device

@@ -307,8 +307,15 @@ fn many_are_done_one_after_another(rt: HostRuntime) {
         &rt,
         alloc,
         &mut server,
-        r#"{"do": "many", "requests": [{"do": "key", "slot": 0, "keys": "X", "tag": 1}, {"do": "look"}, {"do": "fork", "slot": 9}, {"do": "key", "slot": 0, "keys": "YZ"}, {"do": "many", "requests": []}], "tag": "both"}"#,
-        r#"{"replies":[{"accepted":1,"tag":1},{"error":"missing field","field":"slot"},{"refused":"NoSuchSlot","why":"no slot of that number is open"},{"accepted":2},{"error":"wrong field","field":"do"}],"tag":"both"}"#,
+        r#"{"do": "many", "requests": [{"do": "key", "slot": 0, "keys": "X", "tag": 1}, {"do": "fork", "slot": 9}], "tag": "both"}"#,
+        r#"{"replies":[{"accepted":1,"tag":1},{"refused":"NoSuchSlot","why":"no slot of that number is open"}],"tag":"both"}"#,
+    );
+    replies(
+        &rt,
+        alloc,
+        &mut server,
+        r#"{"do": "many", "requests": [{"do": "look"}, {"do": "many", "requests": []}, {"do": "key", "slot": 0, "keys": "YZ"}]}"#,
+        r#"{"replies":[{"error":"missing field","field":"slot"},{"error":"wrong field","field":"do"},{"accepted":2}]}"#,
     );
     begins_and_ends(
         &rt,
