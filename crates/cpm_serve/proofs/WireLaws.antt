@@ -1,8 +1,9 @@
 -- The laws of the wire.
-use Rattle.std.proofs.Common.{◌≡◌, ◌<◌, ◌≤◌, ℕ, List, [], ◌∷◌, ◌++◌, true, false, Bool, Option, Some, None, refl, sym, ap, ap₂, ◌∙◌, arith, if◌then◌else◌, length, map}
+use Rattle.std.proofs.Common.{subst, ◌≡◌, ◌<◌, ◌≤◌, ℕ, List, [], ◌∷◌, ◌++◌, true, false, Bool, Option, Some, None, refl, sym, ap, ap₂, ◌∙◌, arith, if◌then◌else◌, length, map}
 use Rattle.std.specs.Prelude.{Result, Ok, Err}
 use Rattle.std.proofs.lemmas.Bool.{eqb-true}
 use Rattle.serde_json.specs.Data.{Data}
+use Rattle.serde_json.specs.Written.{compact_text}
 use Rattle.cpm_geom.specs.Disk.{Disk}
 use Rattle.cpm_machine.specs.MachineState.{MachineState, opened_machine}
 use Rattle.cpm_machine.specs.declared.opening.OpenError.{OpenError}
@@ -132,8 +133,8 @@ wire-isolation h (e ∷ es) id below =
     isolated-more id h e es (request_asked e.value) (is_own id (request_asked e.value)) refl refl below (wire-isolation (event_served h e).host es id (omega (arith, below, more)))
 
 pub two-transcripts : TwoTranscripts
-two-transcripts h g i j es ds hi gj system slot asks =
-    (wire-isolation h es i hi).0 ∙ rw (system, slot, asks) (sym (wire-isolation g ds j gj).0)
+two-transcripts h g i j xs ys hi gj system slot asks =
+    ap (map compact_text) ((wire-isolation h (events_in xs) i hi).0 ∙ rw (system, slot, asks) (sym (wire-isolation g (events_in ys) j gj).0))
 
 -- ---- the headline
 
@@ -161,7 +162,13 @@ opened-alone h None s events b more =
 opened-alone h (Some fault) s events b more = absurd (omega (arith, more))
 
 pub wire-alone : WireAlone
-wire-alone system frames before cpu quota disks events more =
-    let h = host_served (new_host system frames) before in
-    opened-alone h (open_fault h quota (length disks)) (opened_machine cpu quota disks) events (AllBelow-events (new_host system frames) before tt) more
-    ∙ ap (λ (d : Disk). session_replies d (own_requests h.openings events) (Some (opened_machine cpu quota disks))) (system-served (new_host system frames) before)
+wire-alone system frames before cpu quota disks lines more =
+    let new = new_host system frames in
+    let h = host_after_lines new before in
+    let s = opened_machine cpu quota disks in
+    let is : h ≡ host_served new (events_in before) = lines-are-events new before in
+    let below : AllBelow h.openings h.slots = subst (λ (g : Host). AllBelow g.openings g.slots) (sym is) (AllBelow-events new (events_in before) tt) in
+    let drive : h.system ≡ system = ap (λ (g : Host). g.system) is ∙ system-served new (events_in before) in
+    ap (map compact_text)
+    (opened-alone h (open_fault h quota (length disks)) s (events_in lines) below more
+    ∙ ap (λ (d : Disk). session_replies d (own_requests h.openings (events_in lines)) (Some s)) drive)

@@ -1,5 +1,6 @@
 -- The laws of the wire, for every list of lines. All of it is own.
-use Rattle.std.specs.Prelude.{⊤, ◌≡◌, ◌<◌, ℕ, List, [], ◌∷◌, ◌++◌, Some, Err}
+use Rattle.std.specs.Prelude.{⊤, ◌≡◌, ◌<◌, ℕ, List, map, [], ◌∷◌, ◌++◌, Some, Err}
+use Rattle.serde_json.specs.Written.{compact_text}
 use Rattle.cpm_flags.specs.declared.regs.Cpu.{Cpu}
 use Rattle.cpm_geom.specs.Disk.{Disk}
 use Rattle.cpm_machine.specs.MachineState.{MachineState, opened_machine}
@@ -96,17 +97,22 @@ WireIsolation = (h : Host) (events : List WireEvent) (id : ℕ) → id < h.openi
     (own_replies id h events ≡ session_replies h.system (own_requests id events) (slot_at id h.slots))
     × (slot_at id (host_served h events).slots ≡ session_after h.system (own_requests id events) (slot_at id h.slots))
 
--- So two transcripts agree on the replies to a slot's own requests, its number left out, where they agree on those requests, on the slot before and on the
--- system drive: whatever other lines stand between.
-abbrev pub TwoTranscripts : Type 0
-TwoTranscripts = (h g : Host) (i j : ℕ) (es ds : List WireEvent) → i < h.openings → j < g.openings → h.system ≡ g.system →
-    slot_at i h.slots ≡ slot_at j g.slots → own_requests i es ≡ own_requests j ds → own_replies i h es ≡ own_replies j g ds
+-- the texts of the replies to a slot's own requests, in the replies to lines
+abbrev pub own_texts : ℕ → Host → List LineHeard → List (List ℕ)
+own_texts id h lines = map compact_text (own_replies id h (events_in lines))
 
--- The headline. A host is made, and anything is asked; a session is opened; and anything is asked. The replies to the session's own requests are a function
+-- So two transcripts agree on the replies to a slot's own requests, byte for byte, where they agree on those requests, its number left out, on the slot
+-- before and on the system drive: whatever other lines stand between.
+abbrev pub TwoTranscripts : Type 0
+TwoTranscripts = (h g : Host) (i j : ℕ) (xs ys : List LineHeard) → i < h.openings → j < g.openings → h.system ≡ g.system →
+    slot_at i h.slots ≡ slot_at j g.slots → own_requests i (events_in xs) ≡ own_requests j (events_in ys) → own_texts i h xs ≡ own_texts j g ys
+
+-- The headline. A host is made, and any lines come; a session is opened; and any lines come. The replies to the session's own requests are a function
 -- of its opening, these requests and the system drive.
 abbrev pub WireAlone : Type 0
-WireAlone = (system : Disk) (frames : ℕ) (before : List WireEvent) (cpu : Cpu) (quota : ℕ) (disks : List Disk) (events : List WireEvent) →
-    let h = host_served (new_host system frames) before in
-    let opened = opened_with_disks h cpu quota disks in
-    (h.openings < opened.host.openings) →
-    own_replies h.openings opened.host events ≡ session_replies system (own_requests h.openings events) (Some (opened_machine cpu quota disks))
+WireAlone = (system : Disk) (frames : ℕ) (before : List LineHeard) (cpu : Cpu) (quota : ℕ) (disks : List Disk) (lines : List LineHeard) →
+    let h = host_after_lines (new_host system frames) before in
+    let opened = (opened_with_disks h cpu quota disks).host in
+    let id = h.openings in
+    id < opened.openings →
+    own_texts id opened lines ≡ map compact_text (session_replies system (own_requests id (events_in lines)) (Some (opened_machine cpu quota disks)))

@@ -80,7 +80,8 @@ pub(crate) fn serve_values(
 {
     let mut replies = Vec::new(alloc);
     for value in values {
-        replies.push(serve_value(host, alloc, value)?)?;
+        let reply = serve_value(host, alloc, value)?;
+        replies.push(reply)?;
     }
     Ok(replies)
 }

@@ -10,21 +10,21 @@ loop-value-preserved c =
     let values = c.args.values.now in
     let i = c.loop-value.value-index in
     let x = c.value-item.result in
-    let r = c.in_ok-serve_value.field-0 in
+    let r = c.in_ok-reply.reply in
     subst (λ rs. AreServed (map view (take (i + 1) values)) c.args.host.now.host c.serve_value.new.host.host rs)
     (sym (ap (map view) c.in_ok-push.ensures.items ∙ map-append view c.loop-value.replies.items (r ∷ [])))
     (served-more (map view (take i values)) (map view (take (i + 1) values)) (view x) (map view c.loop-value.replies.items) (view r)
-    c.args.host.now.host c.loop-value.host.host c.serve_value.new.host.host c.loop-value.invariant c.in_ok-serve_value.ensures.served
+    c.args.host.now.host c.loop-value.host.host c.serve_value.new.host.host c.loop-value.invariant c.in_ok-reply.ensures.served
     (up-to view values i x c.loop-value-test.true c.value-item.is))
 
-pub returns-in_err-serve_value-clause-cut : goal.returns-in_err-serve_value-clause-cut
-returns-in_err-serve_value-clause-cut c =
+pub returns-in_err-reply-clause-cut : goal.returns-in_err-reply-clause-cut
+returns-in_err-reply-clause-cut c =
     let values = c.args.values.now in
     let i = c.loop-value.value-index in
     let x = c.value-item.result in
     on-err c.from_residual.result (AreServedUpTo (map view values) c.args.host.now.host c.serve_value.new.host.host)
     (cut-at (map view (take i values)) (map view values) (view x) (map view (drop (i + 1) values)) (map view c.loop-value.replies.items)
-    c.args.host.now.host c.loop-value.host.host c.serve_value.new.host.host c.loop-value.invariant c.in_err-serve_value.ensures.cut
+    c.args.host.now.host c.loop-value.host.host c.serve_value.new.host.host c.loop-value.invariant c.in_err-reply.ensures.cut
     (all-values view values i x c.loop-value-test.true c.value-item.is))
 
 pub returns-in_err-push-clause-cut : goal.returns-in_err-push-clause-cut
@@ -35,5 +35,5 @@ returns-in_err-push-clause-cut c =
     on-err c.from_residual-in_err-push.result (AreServedUpTo (map view values) c.args.host.now.host c.serve_value.new.host.host)
     (cut-at (map view (take i values)) (map view values) (view x) (map view (drop (i + 1) values)) (map view c.loop-value.replies.items)
     c.args.host.now.host c.loop-value.host.host c.serve_value.new.host.host c.loop-value.invariant
-    (cut-served (view x) (view c.in_ok-serve_value.field-0) c.loop-value.host.host c.serve_value.new.host.host c.in_ok-serve_value.ensures.served)
+    (cut-served (view x) (view c.in_ok-reply.reply) c.loop-value.host.host c.serve_value.new.host.host c.in_ok-reply.ensures.served)
     (all-values view values i x c.loop-value-test.true c.value-item.is))
