@@ -6,3 +6,4 @@ pub mod LineLemmas
 pub mod TurnLemmas
 pub mod OwnLemmas
 pub mod WireLaws
+pub mod OpenLemmas

@@ -4,6 +4,7 @@ use Rattle.cpm_flags.specs.declared.regs.Cpu.{Cpu}
 use Rattle.cpm_flags.specs.declared.regs.Cpu.TheVariants.{Z80}
 use Rattle.cpm_flags.specs.FlagByte.{packed}
 use Rattle.cpm_machine.specs.declared.opening.OpenError.{OpenError}
+use Rattle.cpm_machine.specs.declared.opening.Opening.{Opening}
 use Rattle.cpm_machine.specs.declared.opening.OpenError.TheVariants as opening
 use Rattle.cpm_machine.specs.declared.reply.End.{End}
 use Rattle.cpm_machine.specs.declared.reply.End.TheVariants as ends
@@ -14,7 +15,8 @@ use Rattle.cpm_machine.specs.declared.reply.Why.TheVariants as why
 use Rattle.cpm_slots.specs.declared.event.ForkError.{ForkError}
 use Rattle.cpm_slots.specs.declared.event.ForkError.TheVariants as fork
 use Rattle.cpm_slots.specs.declared.event.Refusal.{Refusal}
-use Rattle.cpm_protocol.specs.Replies.{Answered, Granted as GrantReply, Refused}
+use Rattle.cpm_slots.specs.declared.event.SlotId.{SlotId}
+use Rattle.cpm_protocol.specs.Replies.{Answered, Granted as GrantReply, Opened, Refused}
 use Rattle.cpm_protocol.specs.declared.reply.SessionLook.{SessionLook}
 use Rattle.cpm_protocol.specs.declared.word.GrantStop.{GrantStop}
 use Rattle.cpm_protocol.specs.declared.word.GrantStop.TheVariants as stop
@@ -94,3 +96,8 @@ grant_answer g = GrantReply g.executed (stop_seen g.why)
 abbrev pub grant_result : Result Granted Refusal → Answered
 grant_result (Ok g) = grant_answer g
 grant_result (Err fault) = Refused refusal.NoSuchSlot
+
+-- the reply to an opening that a host made, or refused and handed back
+abbrev pub open_result : Result SlotId (Opening × OpenError) → Answered
+open_result (Ok id) = Opened id.0
+open_result (Err e) = Refused (open_refusal e.1)

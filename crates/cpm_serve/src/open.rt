@@ -3,6 +3,7 @@ ghost use Rattle.std.specs.Prelude.{◌≡◌, IfOk, option_map};
 ghost use Rattle.cpm_geom.specs.Disk.{blank_disk};
 ghost use Rattle.cpm_protocol.specs.Requests.{Fork, Open, drive_names_of, text_if};
 ghost use Rattle.cpm_serve.specs.Owned.{owned_answer};
+ghost use Rattle.cpm_serve.specs.Seen.{open_result};
 ghost use Rattle.cpm_serve.specs.Served.{IsSessionOpened, IsRequestServed, disk_named, disks_named, disks_with};
 
 use crate::owned::{OwnedReply, refused};
@@ -10,7 +11,7 @@ use crate::seen::{fork_refusal, open_refusal};
 use cpm_flags::Cpu;
 use cpm_geom::{Format, Image};
 use cpm_protocol::{DriveNames, WireRefusal, WireReply};
-use cpm_slots::{Host, Opening, SlotId};
+use cpm_slots::{Host, OpenError, Opening, SlotId};
 use std::alloc::{AllocError, Global};
 
 /// The format of the blank disk that a name is of.
@@ -58,14 +59,22 @@ fn drives_named(alloc: Global, names: DriveNames<'_>) -> Result<Option<Vec<Image
     with_named(alloc, drives, names.d)
 }
 
+/// The reply to an opening.
+fn opened_reply(outcome: Result<SlotId, (Opening, OpenError)>) -> OwnedReply
+    ensures { owned_answer result ≡ open_result outcome }
+{
+    match outcome {
+        Ok(SlotId(slot)) => OwnedReply::Plain(WireReply::Opened { slot }),
+        Err((_, error)) => refused(open_refusal(error)),
+    }
+}
+
 /// Opens a session with these drives.
 fn open_with(host: &mut Host, alloc: Global, opening: Opening) -> OwnedReply
     ensures { IsSessionOpened opening.cpu opening.quota opening.drives.items host.old.host host.new.host (owned_answer result) }
 {
-    match host.open(alloc, opening) {
-        Ok(SlotId(slot)) => OwnedReply::Plain(WireReply::Opened { slot }),
-        Err((_, error)) => refused(open_refusal(error)),
-    }
+    let outcome = host.open(alloc, opening);
+    opened_reply(outcome)
 }
 
 /// Opens a session.
