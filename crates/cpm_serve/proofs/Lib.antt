@@ -7,3 +7,4 @@ pub mod TurnLemmas
 pub mod OwnLemmas
 pub mod WireLaws
 pub mod OpenLemmas
+pub mod TalkLemmas

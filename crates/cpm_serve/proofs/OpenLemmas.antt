@@ -1,7 +1,6 @@
 -- Openings, by what the host replied.
-use Rattle.std.proofs.Common.{◌≡◌, ◌∙◌, ℕ, Option, Some, None, true, false, refl, sym, ap}
+use Rattle.std.proofs.Common.{◌≡◌, ◌∙◌, Option, Some, None, true, false, refl, sym, ap}
 use Rattle.std.specs.Prelude.{IfErr, IfOk, OnErr, Result, Ok, Err}
-use Rattle.cpm_machine.specs.MachineState.{MachineState}
 use Rattle.cpm_machine.specs.Opening.{IsRefusal}
 use Rattle.cpm_machine.specs.declared.opening.OpenError.{OpenError}
 use Rattle.cpm_machine.specs.declared.opening.Opening.{Opening}

@@ -7,3 +7,4 @@ pub mod Lines
 pub mod Parts
 pub mod Own
 pub mod Laws
+pub mod Talk

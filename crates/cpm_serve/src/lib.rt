@@ -9,6 +9,8 @@ mod owned;
 mod seen;
 mod server;
 mod slot;
+mod talk;
 mod turn;
 
 pub use server::{MOST_LINE, Server};
+pub use talk::{TalkError, serve_lines};

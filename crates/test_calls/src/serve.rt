@@ -2,7 +2,7 @@
 
 use crate::same::same;
 use cpm_geom::{Format, Image};
-use cpm_serve::{MOST_LINE, Server};
+use cpm_serve::{MOST_LINE, Server, serve_lines};
 use cpm_slots::Host;
 use std::alloc::Global;
 use std::process::Abort;
@@ -324,5 +324,21 @@ fn many_are_done_one_after_another(rt: HostRuntime) {
         r#"{"do": "look", "slot": 0}"#,
         r#"{"af":2,"af'":0,"bc":0,"#,
         r#""keys":3,"list":0,"pages":0,"pc":58374,"r":0,"sp":60414,"waiting":false}"#,
+    );
+}
+
+#[test]
+fn lines_are_read_and_replies_written(rt: HostRuntime) {
+    let alloc = rt.alloc();
+    let mut server = server(&rt, alloc);
+    let mut input: &[u8] =
+        b"{\"do\": \"open\", \"cpu\": \"z80\", \"quota\": 16, \"drives\": [\"blank\"]}\r\n\n{\"do\": \"key\", \"slot\": 0, \"keys\": \"DIR\"}";
+    let mut out = Vec::new(alloc);
+    let served = serve_lines(&mut server, alloc, &mut input, &mut out);
+    same(&rt, served.is_ok(), true);
+    same(
+        &rt,
+        out.as_slice(),
+        b"{\"slot\":0}\n{\"at\":1,\"error\":\"no JSON\"}\n{\"accepted\":3}\n",
     );
 }
