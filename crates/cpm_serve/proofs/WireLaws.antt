@@ -4,6 +4,7 @@ use Rattle.std.specs.Prelude.{Result, Ok, Err}
 use Rattle.std.proofs.lemmas.Bool.{eqb-true}
 use Rattle.serde_json.specs.Data.{Data}
 use Rattle.serde_json.specs.Written.{compact_text}
+use Rattle.cpm_flags.specs.declared.regs.Cpu.{Cpu}
 use Rattle.cpm_geom.specs.Disk.{Disk}
 use Rattle.cpm_machine.specs.MachineState.{MachineState, opened_machine}
 use Rattle.cpm_machine.specs.declared.opening.OpenError.{OpenError}
@@ -11,12 +12,12 @@ use Rattle.cpm_slots.specs.Account.{slot_after}
 use Rattle.cpm_slots.specs.Host.{AllBelow, Host, new_host, slot_at, after_ask, with_added}
 use Rattle.cpm_slots.specs.Serving.{Ask, serve_slot}
 use Rattle.cpm_slots.proofs.SlotLaws.{AllBelow-added, AllBelow-with, slot_at-new}
-use Rattle.cpm_protocol.specs.Replies.{reply_json}
-use Rattle.cpm_protocol.specs.Requests.{AskedFault, WireAsked, request_asked}
-use Rattle.cpm_serve.specs.Laws.{IsFold, LinesAreEvents, Transcripts, TwoTranscripts, WireAlone, WireIsolation, WrongLines, WrongRequests, events_in}
+use Rattle.cpm_protocol.specs.Replies.{Opened, reply_json}
+use Rattle.cpm_protocol.specs.Requests.{AskedFault, FourNames, Open, WireAsked, request_asked}
+use Rattle.cpm_serve.specs.Laws.{AnswersAlone, IsFold, LinesAreEvents, own_texts, Transcripts, TwoTranscripts, WireAlone, WireIsolation, WrongLines, WrongRequests, events_in}
 use Rattle.cpm_serve.specs.Lines.{Asks, Broken, IsLineServed, Long, Unread, WireEvent, event_reply, event_served, events_of, host_after_line, host_after_lines, host_served, replies_to_lines, request_served, tag_shown, values_asked}
 use Rattle.cpm_serve.specs.Own.{OwnRequest, asks_slot, is_own, own_asked, own_replies, own_requests, session_after, session_answer, session_asks, session_replies, unnumbered}
-use Rattle.cpm_serve.specs.Served.{added_if, after_asks, open_fault, served_if}
+use Rattle.cpm_serve.specs.Served.{Served, added_if, after_asks, disks_named, open_fault, opened_named, served_if}
 use Rattle.cpm_serve.specs.Slot.{slot_named}
 use Rattle.cpm_serve.proofs.ManyLemmas.{host-append}
 use Rattle.cpm_serve.proofs.OwnLemmas.{asked-host, asked-reply, asks-openings, not-asked, own-slot, served_if-is}
@@ -154,21 +155,38 @@ system-served : (h : Host) (events : List WireEvent) → (host_served h events).
 system-served h [] = refl
 system-served h (e ∷ es) = system-served (event_served h e).host es ∙ event-system h e
 
-opened-alone : (h : Host) (fault : Option OpenError) (s : MachineState) (events : List WireEvent) → AllBelow h.openings h.slots → h.openings < (added_if fault h s).host.openings →
-    own_replies h.openings (added_if fault h s).host events ≡ session_replies h.system (own_requests h.openings events) (Some s)
-opened-alone h None s events b more =
-    (wire-isolation (with_added h s) events h.openings (omega (arith, more))).0
-    ∙ ap (session_replies h.system (own_requests h.openings events)) (slot_at-new h.openings s h.slots b)
-opened-alone h (Some fault) s events b more = absurd (omega (arith, more))
+-- an opening that is replied a number is of known disks, and adds its slot
+opened-by_fault : (h : Host) (fault : Option OpenError) (s : MachineState) (id : ℕ) (behind : List WireEvent) → AllBelow h.openings h.slots → (added_if fault h s).reply ≡ Opened id →
+    own_replies id (added_if fault h s).host behind ≡ session_replies h.system (own_requests id behind) (Some s)
+opened-by_fault h None s id behind below said =
+    let number : h.openings ≡ id = cc in
+    subst (λ n. own_replies n (with_added h s) behind ≡ session_replies h.system (own_requests n behind) (Some s)) number
+    ((wire-isolation (with_added h s) behind h.openings (omega arith)).0
+    ∙ ap (session_replies h.system (own_requests h.openings behind)) (slot_at-new h.openings s h.slots below))
+opened-by_fault h (Some fault) s id behind below said = absurd cc
+
+opened-by_names : (h : Host) (cpu : Cpu) (quota : ℕ) (names : FourNames) (disks : Option (List Disk)) (id : ℕ) (behind : List WireEvent) → disks_named names ≡ disks → AllBelow h.openings h.slots →
+    (opened_named h cpu quota disks).reply ≡ Opened id → AnswersAlone h.system cpu quota names (own_requests id behind) (own_texts id (opened_named h cpu quota disks).host behind)
+opened-by_names h cpu quota names None id behind is below said = absurd cc
+opened-by_names h cpu quota names (Some disks) id behind is below said = record {
+  disks = disks;
+  named = is;
+  replied = ap (map compact_text) (opened-by_fault h (open_fault h quota (length disks)) (opened_machine cpu quota disks) id behind below said);
+}
+
+opened-by_event : (h : Host) (lacked : Bool) (cpu : Cpu) (quota : ℕ) (names : FourNames) (id : ℕ) (behind : List WireEvent) → AllBelow h.openings h.slots →
+    (served_if lacked h (Open cpu quota names)).reply ≡ Opened id → AnswersAlone h.system cpu quota names (own_requests id behind) (own_texts id (served_if lacked h (Open cpu quota names)).host behind)
+opened-by_event h true cpu quota names id behind below said = absurd cc
+opened-by_event h false cpu quota names id behind below said = opened-by_names h cpu quota names (disks_named names) id behind refl below said
 
 pub wire-alone : WireAlone
-wire-alone system frames before cpu quota disks lines more =
+wire-alone system frames before opening behind cpu quota names id asked said =
     let new = new_host system frames in
-    let h = host_after_lines new before in
-    let s = opened_machine cpu quota disks in
-    let is : h ≡ host_served new (events_in before) = lines-are-events new before in
-    let below : AllBelow h.openings h.slots = subst (λ (g : Host). AllBelow g.openings g.slots) (sym is) (AllBelow-events new (events_in before) tt) in
-    let drive : h.system ≡ system = ap (λ (g : Host). g.system) is ∙ system-served new (events_in before) in
-    ap (map compact_text)
-    (opened-alone h (open_fault h quota (length disks)) s (events_in lines) below more
-    ∙ ap (λ (d : Disk). session_replies d (own_requests h.openings (events_in lines)) (Some s)) drive)
+    let h = host_served new before in
+    let lacked = opening.lacked in
+    let is : request_served lacked h (request_asked opening.value) ≡ served_if lacked h (Open cpu quota names) = ap (request_served lacked h) asked in
+    let reply : (served_if lacked h (Open cpu quota names)).reply ≡ Opened id = ap (λ (x : Served). x.reply) (sym is) ∙ said in
+    let below = AllBelow-events new before tt in
+    subst (λ (d : Disk). AnswersAlone d cpu quota names (own_requests id behind) (own_texts id (event_served h opening).host behind)) (system-served new before)
+    (subst (λ (x : Served). AnswersAlone h.system cpu quota names (own_requests id behind) (own_texts id x.host behind)) (sym is)
+    (opened-by_event h lacked cpu quota names id behind below reply))

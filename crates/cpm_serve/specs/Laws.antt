@@ -1,20 +1,20 @@
 -- The laws of the wire, for every list of lines. All of it is own.
-use Rattle.std.specs.Prelude.{⊤, ◌≡◌, ◌<◌, ℕ, List, map, [], ◌∷◌, ◌++◌, Some, Err}
+use Rattle.std.specs.Prelude.{⊤, ◌≡◌, ◌<◌, ℕ, List, map, [], ◌∷◌, ◌++◌, Some, Ok, Err}
 use Rattle.serde_json.specs.Written.{compact_text}
 use Rattle.cpm_flags.specs.declared.regs.Cpu.{Cpu}
 use Rattle.cpm_geom.specs.Disk.{Disk}
 use Rattle.cpm_machine.specs.MachineState.{MachineState, opened_machine}
 use Rattle.cpm_slots.specs.Host.{Host, new_host, slot_at}
-use Rattle.cpm_protocol.specs.Replies.{Accepted, Answered, Granted, Looked, Refused, Text, TurnAnswer, Turned}
-use Rattle.cpm_protocol.specs.Requests.{AskedFault, WireAsked, Grant, Key, ListTake, Look, Take, Turn, line_asked, request_asked}
+use Rattle.cpm_protocol.specs.Replies.{Accepted, Answered, Granted, Opened, Looked, Refused, Text, TurnAnswer, Turned}
+use Rattle.cpm_protocol.specs.Requests.{AskedFault, FourNames, Open, WireAsked, Grant, Key, ListTake, Look, Take, Turn, line_asked, request_asked}
 use Rattle.cpm_protocol.specs.declared.reply.SessionLook.{SessionLook}
 use Rattle.cpm_protocol.specs.declared.request.GrantGoal.TheVariants as goal
 use Rattle.cpm_protocol.specs.declared.word.WireRefusal.{WireRefusal}
 use Rattle.cpm_serve.specs.Lines.{Asks, Broken, LineHeard, Long, Unread, WireEvent, event_served, events_of, host_after_line, host_after_lines, host_served}
 use Rattle.cpm_serve.specs.Lines.{AreLinesHeard, AreLinesServed, replies_to_lines}
-use Rattle.cpm_serve.specs.Own.{own_replies, own_requests, session_after, session_replies}
+use Rattle.cpm_serve.specs.Own.{OwnRequest, own_replies, own_requests, session_after, session_replies}
 use Rattle.cpm_serve.specs.Parts.{AreAskedBy}
-use Rattle.cpm_serve.specs.Served.{opened_with_disks, served}
+use Rattle.cpm_serve.specs.Served.{disks_named, served}
 use Rattle.cpm_serve.specs.Slot.{turn_bytes}
 
 -- ---- what changes nothing
@@ -97,22 +97,27 @@ WireIsolation = (h : Host) (events : List WireEvent) (id : ℕ) → id < h.openi
     (own_replies id h events ≡ session_replies h.system (own_requests id events) (slot_at id h.slots))
     × (slot_at id (host_served h events).slots ≡ session_after h.system (own_requests id events) (slot_at id h.slots))
 
--- the texts of the replies to a slot's own requests, in the replies to lines
-abbrev pub own_texts : ℕ → Host → List LineHeard → List (List ℕ)
-own_texts id h lines = map compact_text (own_replies id h (events_in lines))
+-- the texts of the replies to a slot's own requests
+abbrev pub own_texts : ℕ → Host → List WireEvent → List (List ℕ)
+own_texts id h events = map compact_text (own_replies id h events)
 
 -- So two transcripts agree on the replies to a slot's own requests, byte for byte, where they agree on those requests, its number left out, on the slot
 -- before and on the system drive: whatever other lines stand between.
 abbrev pub TwoTranscripts : Type 0
 TwoTranscripts = (h g : Host) (i j : ℕ) (xs ys : List LineHeard) → i < h.openings → j < g.openings → h.system ≡ g.system →
-    slot_at i h.slots ≡ slot_at j g.slots → own_requests i (events_in xs) ≡ own_requests j (events_in ys) → own_texts i h xs ≡ own_texts j g ys
+    slot_at i h.slots ≡ slot_at j g.slots → own_requests i (events_in xs) ≡ own_requests j (events_in ys) →
+    own_texts i h (events_in xs) ≡ own_texts j g (events_in ys)
 
--- The headline. A host is made, and any lines come; a session is opened; and any lines come. The replies to the session's own requests are a function
--- of its opening, these requests and the system drive.
+-- the replies to a session's own requests are those of the session by itself, from its opening with these drives on
+pub record AnswersAlone (system : Disk) (cpu : Cpu) (quota : ℕ) (names : FourNames) (own : List OwnRequest) (texts : List (List ℕ)) : Type 0 where
+  pub disks : List Disk
+  pub named : disks_named names ≡ Some disks
+  pub replied : texts ≡ map compact_text (session_replies system own (Some (opened_machine cpu quota disks)))
+
+-- The headline. A host is made, and anything is asked; a session is opened, and its number is replied; and anything is asked. The replies to the session's
+-- own requests are a function of its opening, these requests and the system drive.
 abbrev pub WireAlone : Type 0
-WireAlone = (system : Disk) (frames : ℕ) (before : List LineHeard) (cpu : Cpu) (quota : ℕ) (disks : List Disk) (lines : List LineHeard) →
-    let h = host_after_lines (new_host system frames) before in
-    let opened = (opened_with_disks h cpu quota disks).host in
-    let id = h.openings in
-    id < opened.openings →
-    own_texts id opened lines ≡ map compact_text (session_replies system (own_requests id (events_in lines)) (Some (opened_machine cpu quota disks)))
+WireAlone = (system : Disk) (frames : ℕ) (before : List WireEvent) (opening : WireEvent) (behind : List WireEvent) (cpu : Cpu) (quota : ℕ) (names : FourNames) (id : ℕ) →
+    let h = host_served (new_host system frames) before in
+    request_asked opening.value ≡ Ok (Open cpu quota names) → (event_served h opening).reply ≡ Opened id →
+    AnswersAlone system cpu quota names (own_requests id behind) (own_texts id (event_served h opening).host behind)
