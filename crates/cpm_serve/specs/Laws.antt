@@ -117,7 +117,8 @@ pub record AnswersAlone (system : Disk) (cpu : Cpu) (quota : ℕ) (names : FourN
 -- The headline. A host is made, and anything is asked; a session is opened, and its number is replied; and anything is asked. The replies to the session's
 -- own requests are a function of its opening, these requests and the system drive.
 abbrev pub WireAlone : Type 0
-WireAlone = (system : Disk) (frames : ℕ) (before : List WireEvent) (opening : WireEvent) (behind : List WireEvent) (cpu : Cpu) (quota : ℕ) (names : FourNames) (id : ℕ) →
+WireAlone = (system : Disk) (frames : ℕ) (before : List WireEvent) (opening : WireEvent) (behind : List WireEvent)
+    (cpu : Cpu) (quota : ℕ) (names : FourNames) (id : ℕ) →
     let h = host_served (new_host system frames) before in
     request_asked opening.value ≡ Ok (Open cpu quota names) → (event_served h opening).reply ≡ Opened id →
     AnswersAlone system cpu quota names (own_requests id behind) (own_texts id (event_served h opening).host behind)
