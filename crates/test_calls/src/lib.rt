@@ -16,6 +16,8 @@ mod runs;
 #[cfg(test)]
 mod same;
 #[cfg(test)]
+mod serve;
+#[cfg(test)]
 mod streams;
 #[cfg(test)]
 mod texts;

@@ -1,0 +1,10 @@
+pub mod AskLemmas
+pub mod ServedLemmas
+pub mod ByteKeys
+pub mod ManyLemmas
+pub mod LineLemmas
+pub mod TurnLemmas
+pub mod OwnLemmas
+pub mod WireLaws
+pub mod OpenLemmas
+pub mod TalkLemmas

@@ -1,0 +1,47 @@
+use Rattle.std.proofs.Common.{◌≡◌, ◌∙◌, ◌++◌, ◌∷◌, [], ℕ, List, arith, ap, subst}
+use Rattle.std.specs.Prelude.{string_bytes}
+use Rattle.std.specs.Io.BufRead.{strip_last}
+use Rattle.std.specs.Io.KnownBytes.{Appends}
+use Rattle.cpm_serve.specs.Lines.{IsLineServed}
+use Rattle.cpm_serve.specs.Talk.{ReadsLines}
+use Rattle.cpm_serve.proofs.TalkLemmas.{talk_begun, talk_ended, talk_full, talk_more, talk_unwritten}
+use Rattle.cpm_serve.proofs.talk.serve_lines.Goals as goal
+
+pub loop-line-init : goal.loop-line-init
+loop-line-init g c = talk_begun (g.R.Read.remaining c.args.input.now) c.args.server.now.host.host (g.W.Write.contents c.args.out.now)
+
+pub returns-in-Ok-None-clause-talked : goal.returns-in-Ok-None-clause-talked
+returns-in-Ok-None-clause-talked g c =
+    talk_ended (g.R.Read.remaining c.args.input.now) (g.R.Read.remaining c.loop-line.input) c.args.server.now.host.host c.loop-line.server.host.host
+    (g.W.Write.contents c.args.out.now) (g.W.Write.contents c.loop-line.out) c.loop-line._line c.loop-line.invariant
+    (rw c.in-Ok-None.field-0-is at c.in-Ok-None.ensures) (let t = c.loop-line-test.true in omega (arith, t))
+
+pub returns-in-Err-write_reply-clause-partly : goal.returns-in-Err-write_reply-clause-partly
+returns-in-Err-write_reply-clause-partly g c =
+    let line = strip_last 0x0A c.in-Ok-Some.line.items in
+    let e : c.without_newline.result.now ≡ line = c.without_newline.ensures ∙ ap (strip_last 0x0A) c.deref.ensures.value in
+    let read : ReadsLines (g.R.Read.remaining c.loop-line.input) (g.R.Read.remaining c.next_line.new.input) (line ∷ []) = rw c.in-Ok-Some.field-0-is at c.in-Ok-Some.ensures in
+    talk_unwritten (g.R.Read.remaining c.args.input.now) (g.R.Read.remaining c.loop-line.input) (g.R.Read.remaining c.next_line.new.input)
+    c.args.server.now.host.host c.loop-line.server.host.host c.serve.new.self.host.host (g.W.Write.contents c.args.out.now) (g.W.Write.contents c.loop-line.out) c.loop-line._line
+    line (string_bytes c.in-Ok.reply) c.loop-line.invariant read
+    (subst (λ (l : List ℕ). IsLineServed l c.loop-line.server.host.host c.serve.new.self.host.host (string_bytes c.in-Ok.reply)) e c.in-Ok.ensures.served)
+
+pub loop-line-preserved : goal.loop-line-preserved
+loop-line-preserved g c =
+    let line = strip_last 0x0A c.in-Ok-Some.line.items in
+    let e : c.without_newline.result.now ≡ line = c.without_newline.ensures ∙ ap (strip_last 0x0A) c.deref.ensures.value in
+    let read : ReadsLines (g.R.Read.remaining c.loop-line.input) (g.R.Read.remaining c.next_line.new.input) (line ∷ []) = rw c.in-Ok-Some.field-0-is at c.in-Ok-Some.ensures in
+    let written : Appends (g.W.Write.contents c.loop-line.out) (g.W.Write.contents c.write_reply.new.out) (string_bytes c.in-Ok.reply ++ 0x0A ∷ []) =
+    subst (λ (t : List ℕ). Appends (g.W.Write.contents c.loop-line.out) (g.W.Write.contents c.write_reply.new.out) (t ++ 0x0A ∷ [])) c.as_str.ensures.value c.in_default-write_reply.ensures in
+    talk_more (g.R.Read.remaining c.args.input.now) (g.R.Read.remaining c.loop-line.input) (g.R.Read.remaining c.next_line.new.input)
+    c.args.server.now.host.host c.loop-line.server.host.host c.serve.new.self.host.host
+    (g.W.Write.contents c.args.out.now) (g.W.Write.contents c.loop-line.out) (g.W.Write.contents c.write_reply.new.out) c.loop-line._line
+    line (string_bytes c.in-Ok.reply) c.loop-line.invariant read
+    (subst (λ (l : List ℕ). IsLineServed l c.loop-line.server.host.host c.serve.new.self.host.host (string_bytes c.in-Ok.reply)) e c.in-Ok.ensures.served)
+    written
+
+pub returns-clause-talked : goal.returns-clause-talked
+returns-clause-talked g c =
+    talk_full (g.R.Read.remaining c.args.input.now) (g.R.Read.remaining c.loop-line.input) c.args.server.now.host.host c.loop-line.server.host.host
+    (g.W.Write.contents c.args.out.now) (g.W.Write.contents c.loop-line.out) c.loop-line._line c.loop-line.invariant
+    (let f = c.loop-line-test.false in let t = c.loop-line.auto._line-end in omega (arith, f, t))

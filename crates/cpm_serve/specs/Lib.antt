@@ -1,0 +1,10 @@
+pub mod Seen
+pub mod Slot
+pub mod Served
+pub mod Turns
+pub mod Owned
+pub mod Lines
+pub mod Parts
+pub mod Own
+pub mod Laws
+pub mod Talk

@@ -1,0 +1,61 @@
+-- Lines that are read, and replies that are written. All of it is own: docs/PROTOCOL.md.
+use Rattle.std.specs.Prelude.{⊤, ◌≡◌, ◌⊎◌, ℕ, ◌==◌, if◌then◌else◌, List, [], ◌∷◌, ◌++◌, map, take, Option, Some, None, IfSome, Vec}
+use Rattle.std.specs.declared.alloc.Global.{Global}
+use Rattle.std.specs.Io.BufRead.{strip_last}
+use Rattle.std.specs.Io.KnownBytes.{Appends}
+use Rattle.cpm_slots.specs.Host.{Host}
+use Rattle.cpm_serve.specs.Lines.{AreLinesServed, IsLineCut}
+
+-- ---- lines
+
+abbrev pub put_first : ℕ → List (List ℕ) → List (List ℕ)
+put_first b [] = (b ∷ []) ∷ []
+put_first b (line ∷ lines) = (b ∷ line) ∷ lines
+
+-- the lines of a text, each with the newline that ends it; the last may have none
+abbrev pub kept_lines : List ℕ → List (List ℕ)
+kept_lines [] = []
+kept_lines (b ∷ bs) = if b == 0x0A then (b ∷ []) ∷ kept_lines bs else put_first b (kept_lines bs)
+
+-- and without it
+abbrev pub wire_lines : List ℕ → List (List ℕ)
+wire_lines text = map (strip_last 0x0A) (kept_lines text)
+
+-- as many lines are served at most
+abbrev pub most_wire_lines : ℕ
+most_wire_lines = 18446744073709551615
+
+-- texts as lines
+abbrev pub reply_lines : List (List ℕ) → List ℕ
+reply_lines [] = []
+reply_lines (text ∷ texts) = text ++ 0x0A ∷ reply_lines texts
+
+-- ---- what is promised of a talk
+
+-- these lines were read of a reader, whose bytes are known or not
+abbrev pub ReadsLines : (old new : Option (List ℕ)) → List (List ℕ) → Type 0
+ReadsLines None new lines = ⊤
+ReadsLines (Some text) None lines = ⊥
+ReadsLines (Some text) (Some rest) lines = wire_lines text ≡ lines ++ wire_lines rest
+
+-- the next line was read, with its newline, or there was none
+abbrev pub IsLineRead : (old new : Option (List ℕ)) → Option (Vec ℕ Global) → Type 0
+IsLineRead old new None = IfSome old (λ text. wire_lines text ≡ [])
+IsLineRead old new (Some line) = ReadsLines old new (strip_last 0x0A line.items ∷ [])
+
+-- A host was served all lines of a text, as far as it is known: each was served, and what was written is the replies, a line each.
+pub record HasTalked (input : Option (List ℕ)) (old new : Host) (before after : Option (List ℕ)) : Type 0 where
+  pub lines : List (List ℕ)
+  pub texts : List (List ℕ)
+  pub all : IfSome input (λ text. lines ≡ take most_wire_lines (wire_lines text))
+  pub served : AreLinesServed lines old new texts
+  pub written : Appends before after (reply_lines texts)
+
+-- It was served some, from the first on: the reader or the writer failed, or there was no memory for a line or for its reply.
+pub record HasTalkedPartly (input : Option (List ℕ)) (old new : Host) : Type 0 where
+  pub lines : List (List ℕ)
+  pub texts : List (List ℕ)
+  pub front : IfSome input (λ text. (rest : List (List ℕ)) × (wire_lines text ≡ lines ++ rest))
+  pub mid : Host
+  pub served : AreLinesServed lines old mid texts
+  pub last : (new ≡ mid) ⊎ ((line : List ℕ) × IsLineCut line mid new)

@@ -1,0 +1,16 @@
+//! The host behind its wire, as a machine: a line is read, and a line is replied. `docs/PROTOCOL.md` is the protocol.
+#![tactic(auto)]
+
+mod grant;
+pub mod laws;
+mod many;
+mod open;
+mod owned;
+mod seen;
+mod server;
+mod slot;
+mod talk;
+mod turn;
+
+pub use server::{MOST_LINE, Server};
+pub use talk::{TalkError, serve_lines};
