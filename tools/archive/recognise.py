@@ -1,0 +1,236 @@
+"""What a file of an archive is: an image, the tracks of a disk, a zip file or a program; and how that is known.
+
+An image has no head, so its format is found by its length and its directory: of all formats that could have it, those are left by which each
+entry of the directory can be one. The best of them has the fewest entries that look odd, and the fewest files that look as if they were read
+by another format.
+"""
+
+import hashlib
+import io
+import struct
+import zipfile
+import zlib
+from typing import NamedTuple
+
+from archive import Refusal, counted
+from containers import MOST, Unreadable, kind_of, room_with, run_command, tracks_of
+from diskdefs import known_formats
+from directories import File, Reading
+
+NATIVE = "ibm-3740", "cpmhost-large"
+# how many members of a zip file are looked at
+MOST_MEMBERS = 4096
+# the last parts of names by which a file is said to be an image, so that one of an unknown length isn't taken for a file of a zip file
+IMAGES = b"img ima image raw cpm dsk imd td0 edsk cqm hdk".split()
+MOST_PROGRAM = 0xFF00
+PACKED = (b"\x1f\x8b", "gzip"), (b"BZh", "bzip2"), (b"\xfd7zXZ", "xz"), (b"7z\xbc\xaf", "7z"), (b"Rar!", "rar"), (b"\x28\xb5\x2f\xfd", "zstd")
+
+
+class Found(NamedTuple):
+    """What a file was taken for: an image as it is, or files; or why it isn't taken."""
+
+    source: bytes
+    digest: str
+    taken: str = ""
+    known: str = ""
+    image: bytes | None = None
+    files: list | None = None
+    why: str = ""
+
+
+class Formats:
+    """The formats that are looked for, in the order in which they are taken where two fit alike."""
+
+    def __init__(self, files, preferred):
+        known, self.are_installed = known_formats(files)
+        lost = [it for it in preferred if it not in known]
+        if lost:
+            raise Refusal(f"there is no format {lost[0]} in the definitions of cpmtools")
+        self.preferred = [known[it] for it in preferred]
+        self.all = list(known.values())
+        self.native = [known[it] for it in NATIVE]
+        self.lengths = {it.length for it in self.all}
+
+    def candidates(self, image, tracks):
+        """The formats of this length; and those that such an image may have that ends before its format does, or has tracks behind it."""
+        size = len(image)
+        yield [it for it in self.all if it.length == size]
+        if tracks:
+            yield [it for it in self.all if it.length != size and is_shaped(it, tracks)]
+        yield [it for it in self.all if it.length > size]
+
+    def readings(self, image, tracks):
+        """The readings by which an image has files, the best one first; each with its rank, and what tells its contents."""
+        for forms in self.candidates(image, tracks):
+            found = []
+            for order, form in enumerate(forms):
+                reading = Reading(form, image)
+                if reading.extents and not reading.fault:
+                    contents, strange = reading.contents()
+                    spare = len(image) - reading.end if form.length > len(image) else 0
+                    rank = form not in self.preferred, bool(tracks) and not is_shaped(form, tracks), reading.loose, reading.odd, strange, spare
+                    found.append((rank, order, reading, contents))
+            if found:
+                return sorted(found, key=lambda it: it[:2])
+        return []
+
+
+def is_shaped(form, tracks):
+    return form.sector == tracks.sector and form.sectors in (tracks.sectors, tracks.sectors * tracks.heads)
+
+
+# ---- images
+
+
+def fsck(form, image):
+    """What fsck.cpm says, in words that go on a sentence; nothing where it can't be asked."""
+    if form.offset % form.sector or len(image) > MOST:
+        return ""
+    boot = f"  boottrk {form.reserved // form.sectors}\n" + (f"  bootsec {form.reserved}\n" if form.reserved % form.sectors else "")
+    skew = "  skewtab " + ",".join(map(str, form.skew)) if form.has_skew else "  skew 0"
+    cylinders = form.tracks + -(-form.offset // (form.sectors * form.sector))
+    with room_with(image) as room:
+        # (Debian's cpmtools goes by libdsk, which else makes two sides of an odd number of tracks)
+        with open(f"{room}/.libdskrc", "w", encoding="ascii") as file:
+            file.write(f"[import]\ndescription=import\nsides=alt\ncylinders={cylinders}\nheads=1\nsectors={form.sectors}\nsecbase=1\n")
+            file.write(f"secsize={form.sector}\ndatarate=DD\nrwgap=42\nfmtgap=82\nrecmode=MFM\n")
+        with open(f"{room}/diskdefs", "w", encoding="ascii") as file:
+            file.write(f"diskdef import\n  seclen {form.sector}\n  tracks {form.tracks}\n  sectrk {form.sectors}\n  blocksize {form.block}\n")
+            file.write(f"  maxdir {form.entries}\n  dirblks {form.directory}\n{boot}{skew}\n  offset {form.offset}\n")
+            file.write(f"  logicalextents {form.extents}\n  os {form.system}\n  libdsk:format import\nend\n")
+        try:
+            status, printed = run_command(room, "fsck.cpm", "-T", "raw", "-f", "import", "-n", "image")
+        except Unreadable:
+            return ""
+    faults = [it for it in printed.splitlines() if it.startswith("Error")]
+    if faults or status < 0 or "Phase 2" not in printed:
+        return f", and fsck.cpm finds {len(faults)} faults, first: {faults[0]}" if faults else ", and fsck.cpm gives up"
+    return ", and fsck.cpm finds no fault"
+
+
+def image_found(formats, source, digest, image, tracks=None, kind=""):
+    """What an image is taken for, whose bytes stood there or were made of tracks."""
+    said = f"its head; {tracks}; " if tracks else f"{len(image):,} bytes; "
+    taken = f"{kind} of " if kind else ""
+    native = next((it for it in formats.native if it.length == len(image) and (not tracks or is_shaped(it, tracks))), None)
+    fault = native and Reading(native, image).fault
+    readings = [] if native and not fault and not formats.preferred else formats.readings(image, tracks)
+    # (an image of cpmhost's own is one, unless another format is told or alone can be)
+    if native and not (readings and (fault or readings[0][2].form in formats.preferred and readings[0][2].form != native)):
+        known = f"but {fault}" if fault else f"its directory is in order{fsck(native, image)}"
+        return Found(source, digest, taken + native.name, said + known, image=bytes(image))
+    if not readings:
+        return nothing_found(formats, source, digest, image, said)
+    rank, _, best, contents = readings[0]
+    said += f"all entries of its directory are possible{fsck(best.form, image)}"
+    said += "; it ends before its format does, and has all of its files" if best.form.length > len(image) else ""
+    others = [it.form.name for other, _, it, its in readings if other == rank and its != contents]
+    said += f"; --prefer {' or '.join(others)} would read other bytes, and fits as well" if others else ""
+    return Found(source, digest, taken + best.form.name, said, files=best.files)
+
+
+def nothing_found(formats, source, digest, image, said):
+    """An image by which no format has files."""
+    if len(image) <= MOST and not bytes(image).strip(b"\xe5"):
+        return Found(source, digest, "a blank disk", f"{said}all of them E5h", files=[])
+    if not formats.are_installed:
+        return Found(source, digest, why=f"{said}the formats of cpmtools aren't here (Debian's package cpmtools), and --diskdefs names none")
+    faults = [(it.name, Reading(it, image)) for it in formats.all if it.length == len(image)]
+    if not faults:
+        return Found(source, digest, why=f"{said}no format that is known has this length, or a directory here whose entries are possible")
+    told = "; ".join(f"{name}: {it.fault or 'no files'}" for name, it in faults[:3])
+    return Found(source, digest, why=f"{said}{len(faults)} formats have this length, and none fits ({told})")
+
+
+# ---- other files
+
+
+def members_of(data):
+    """The members of a zip file, each with its bytes or why it isn't taken."""
+    left = MOST
+    try:
+        with zipfile.ZipFile(io.BytesIO(data)) as file:
+            listed = [it for it in file.infolist() if not it.is_dir()]
+            for it in listed[:MOST_MEMBERS]:
+                found = member_of(file, it, left)
+                left -= len(found) if isinstance(found, bytes) else 0
+                yield it.filename.encode("utf-8", "surrogateescape"), found
+    except (zipfile.BadZipFile, OSError, ValueError, struct.error, OverflowError) as error:
+        raise Unreadable(f"it is a zip file that is cut or damaged: {error}")
+    if len(listed) > MOST_MEMBERS:
+        raise Unreadable(f"it has {len(listed):,} members, and only the first {MOST_MEMBERS:,} were looked at")
+
+
+def member_of(file, it, left):
+    """The bytes of a member, of which no more are unpacked than are left to be; or why there are none."""
+    if it.external_attr >> 28 == 0o12:
+        return "it is a link"
+    try:
+        with file.open(it) as member:
+            data = member.read(left + 1)
+    except (zipfile.BadZipFile, zlib.error, OSError, EOFError, ValueError, RuntimeError, NotImplementedError, struct.error) as error:
+        return f"it can't be unpacked: {error}"
+    except Exception as error:  # (bzip2 and LZMA have their own)
+        return f"it can't be unpacked: {type(error).__name__}"
+    return data if len(data) <= left else f"no more than {MOST:,} bytes of a zip file are unpacked"
+
+
+def zip_found(formats, source, digest, data):
+    """What the members of a zip file are: images each by itself, and all others as files."""
+    files, is_empty = [], True
+    try:
+        for name, member in members_of(data):
+            inner = source + b"/" + name
+            if isinstance(member, str):
+                yield Found(inner, "", why=member)
+            elif member[:4] == b"PK\3\4" or is_image(formats, name, member):
+                yield from recognised(formats, inner, hashlib.sha256(member).hexdigest(), member, is_member=True)
+            else:
+                last = name.replace(b"\\", b"/").rpartition(b"/")[2]
+                files.append(File(0, last, len(member), lambda member=member: member, path=name))
+            is_empty = False
+    except Unreadable as error:
+        yield Found(source, digest, "a zip file", why=str(error))
+        is_empty = False
+    if files or is_empty:
+        yield Found(source, digest, "a zip file", f"its head; {counted(len(files), 'file')} in it, other than images", files=files)
+
+
+def is_image(formats, name, data):
+    """Whether a member of a zip file is an image, and no file for one."""
+    if kind_of(data[:16]) or name.lower().rpartition(b".")[2] in IMAGES:
+        return True
+    return len(data) in formats.lengths and bool(formats.readings(data, None))
+
+
+def is_program(name, data):
+    return name.lower().endswith(b".com") and len(data) <= MOST_PROGRAM
+
+
+def recognised(formats, source, digest, data, is_member=False):
+    """What a file is, by its name and its bytes; a zip file may be several things."""
+    head = bytes(data[:16])
+    kind = kind_of(head)
+    packed = next((what for it, what in PACKED if head.startswith(it)), None)
+    try:
+        if not head:
+            yield Found(source, digest, why="it is empty")
+        elif kind:
+            tracks = tracks_of(data, kind[1])
+            yield image_found(formats, source, digest, tracks.image, tracks, kind[0])
+        elif head[:4] in (b"PK\3\4", b"PK\5\6"):
+            if is_member or len(data) > MOST:
+                raise Unreadable("it is a zip file in a zip file" if is_member else f"it is a zip file of more than {MOST:,} bytes")
+            yield from zip_found(formats, source, digest, data)
+        elif is_program(source, data):
+            if head[:2] == b"MZ":
+                raise Unreadable("it begins as a program of MS-DOS")
+            name, whole = source.rpartition(b"/")[2], bytes(data)
+            file = File(0, name, len(whole), lambda: whole, path=name)
+            yield Found(source, digest, "a program", f"its name, and {counted(len(whole), 'byte')}", files=[file])
+        elif packed and len(data) not in formats.lengths:
+            raise Unreadable(f"it is packed by {packed}: unpack it first")
+        else:
+            yield image_found(formats, source, digest, data)
+    except Unreadable as error:
+        yield Found(source, digest, kind[0] if kind else "", why=str(error))
