@@ -7,9 +7,7 @@ by another format.
 
 import hashlib
 import io
-import struct
 import zipfile
-import zlib
 from typing import NamedTuple
 
 from archive import Refusal, counted
@@ -18,6 +16,8 @@ from diskdefs import known_formats
 from directories import File, Reading
 
 NATIVE = "ibm-3740", "cpmhost-large"
+# these come before others that fit alike, as that of the Osborne before its like of another machine
+FAMILIAR = "kpii", "kpiv", "osborne1", "pcw", "cf2dd", "cpcsys", "cpcdata", "zena", "mds-dd", "z80pack-hd", "z80pack-hdb", "8megAltairSIMH"
 # how many members of a zip file are looked at
 MOST_MEMBERS = 4096
 # the last parts of names by which a file is said to be an image, so that one of an unknown length isn't taken for a file of a zip file
@@ -47,7 +47,8 @@ class Formats:
         if lost:
             raise Refusal(f"there is no format {lost[0]} in the definitions of cpmtools")
         self.preferred = [known[it] for it in preferred]
-        self.all = list(known.values())
+        first = [known[it] for it in (*NATIVE, *FAMILIAR) if it in known]
+        self.all = [*first, *(it for it in known.values() if it not in first)]
         self.native = [known[it] for it in NATIVE]
         self.lengths = {it.length for it in self.all}
 
@@ -102,9 +103,10 @@ def fsck(form, image):
             status, printed = run_command(room, "fsck.cpm", "-T", "raw", "-f", "import", "-n", "image")
         except Unreadable:
             return ""
-    faults = [it for it in printed.splitlines() if it.startswith("Error")]
+    # (dates aren't copied, and version 2.23 finds wrong ones where there are none)
+    faults = [it for it in printed.splitlines() if it.startswith("Error") and " date " not in it]
     if faults or status < 0 or "Phase 2" not in printed:
-        return f", and fsck.cpm finds {len(faults)} faults, first: {faults[0]}" if faults else ", and fsck.cpm gives up"
+        return f", and fsck.cpm finds {counted(len(faults), 'fault')}, first {faults[0]}" if faults else ", and fsck.cpm gives up"
     return ", and fsck.cpm finds no fault"
 
 
@@ -137,7 +139,7 @@ def nothing_found(formats, source, digest, image, said):
         return Found(source, digest, why=f"{said}the formats of cpmtools aren't here (Debian's package cpmtools), and --diskdefs names none")
     faults = [(it.name, Reading(it, image)) for it in formats.all if it.length == len(image)]
     if not faults:
-        return Found(source, digest, why=f"{said}no format that is known has this length, or a directory here whose entries are possible")
+        return Found(source, digest, why=f"{said}no known format has this length, or a directory that could be here")
     told = "; ".join(f"{name}: {it.fault or 'no files'}" for name, it in faults[:3])
     return Found(source, digest, why=f"{said}{len(faults)} formats have this length, and none fits ({told})")
 
@@ -146,43 +148,42 @@ def nothing_found(formats, source, digest, image, said):
 
 
 def members_of(data):
-    """The members of a zip file, each with its bytes or why it isn't taken."""
+    """The members of a zip file: their names, their bytes, and why one isn't taken."""
     left = MOST
     try:
         with zipfile.ZipFile(io.BytesIO(data)) as file:
             listed = [it for it in file.infolist() if not it.is_dir()]
             for it in listed[:MOST_MEMBERS]:
-                found = member_of(file, it, left)
-                left -= len(found) if isinstance(found, bytes) else 0
-                yield it.filename.encode("utf-8", "surrogateescape"), found
-    except (zipfile.BadZipFile, OSError, ValueError, struct.error, OverflowError) as error:
-        raise Unreadable(f"it is a zip file that is cut or damaged: {error}")
+                data, why = member_of(file, it, left)
+                left -= len(data)
+                yield it.filename.encode("utf-8", "surrogateescape"), data, why
+    except Exception as error:  # (of many kinds, by what is wrong)
+        raise Unreadable(f"it is a zip file that is cut or damaged: {error or type(error).__name__}")
     if len(listed) > MOST_MEMBERS:
         raise Unreadable(f"it has {len(listed):,} members, and only the first {MOST_MEMBERS:,} were looked at")
 
 
 def member_of(file, it, left):
-    """The bytes of a member, of which no more are unpacked than are left to be; or why there are none."""
+    """The bytes of a member, of which no more are unpacked than are left to be, and why it isn't taken."""
     if it.external_attr >> 28 == 0o12:
-        return "it is a link"
+        return b"", "it is a link"
     try:
         with file.open(it) as member:
             data = member.read(left + 1)
-    except (zipfile.BadZipFile, zlib.error, OSError, EOFError, ValueError, RuntimeError, NotImplementedError, struct.error) as error:
-        return f"it can't be unpacked: {error}"
-    except Exception as error:  # (bzip2 and LZMA have their own)
-        return f"it can't be unpacked: {type(error).__name__}"
-    return data if len(data) <= left else f"no more than {MOST:,} bytes of a zip file are unpacked"
+    except Exception as error:  # (of many kinds, by how it is packed)
+        return b"", f"it can't be unpacked: {error or type(error).__name__}"
+    # (what is too much uses up what was left, so that many such members take no longer than one)
+    return data[:left], f"no more than {MOST:,} bytes of a zip file are unpacked" if len(data) > left else ""
 
 
 def zip_found(formats, source, digest, data):
     """What the members of a zip file are: images each by itself, and all others as files."""
     files, is_empty = [], True
     try:
-        for name, member in members_of(data):
+        for name, member, why in members_of(data):
             inner = source + b"/" + name
-            if isinstance(member, str):
-                yield Found(inner, "", why=member)
+            if why:
+                yield Found(inner, "", why=why)
             elif member[:4] == b"PK\3\4" or is_image(formats, name, member):
                 yield from recognised(formats, inner, hashlib.sha256(member).hexdigest(), member, is_member=True)
             else:
