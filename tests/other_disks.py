@@ -96,6 +96,20 @@ def write_geometries(room):
             file.write(GEOMETRY.format(name, name, *numbers))
 
 
+def imd(image, tracks, sectors, size, first=None):
+    """An IMD of one side whose sectors stand in another order on each track, those of one byte packed; `first` is how the first track is, if not so."""
+    data = bytearray(b"IMD 1.18: 01/01/1980 00:00:00\r\nby hand\r\n\x1a")
+    for track in range(tracks):
+        count, length = first if first and track == 0 else (sectors, size)
+        numbers = random.Random(track).sample(range(1, count + 1), count)
+        data += bytes((0 if length == 128 else 3, track, 0, count, (length // 128).bit_length() - 1, *numbers))
+        for number in numbers:
+            start = track * sectors * size + (number - 1) * length
+            sector = image[start : start + length]
+            data += bytes((2, sector[0])) if len(set(sector)) == 1 else b"\1" + sector
+    return bytes(data)
+
+
 def make(disk, room, is_whole=True):
     """Makes a disk in the current folder; as mkfs.cpm leaves it, without the end that no file has, unless it is to be whole."""
     tools = Cpmtools(None)

@@ -113,7 +113,8 @@ class Images:
             for name, data in (("empty", b""), ("blank.img", BLANK)):
                 with open(f"{self.room}/{name}", "wb") as out:
                     out.write(data)
-            self.tried[key] = self.run("disk", "put", "blank.img", b"empty=" + file.name, "--user", str(file.user))
+            refused = self.run("disk", "put", "blank.img", b"empty=" + file.name, "--user", str(file.user))
+            self.tried[key] = refused and f"disk put refuses it: {refused}"
         return self.tried[key]
 
     def sorted_out(self, files):

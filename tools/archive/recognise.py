@@ -112,20 +112,22 @@ def fsck(form, image):
 
 def image_found(formats, source, digest, image, tracks=None, kind=""):
     """What an image is taken for, whose bytes stood there or were made of tracks."""
-    said = f"its head; {tracks}; " if tracks else f"{len(image):,} bytes; "
+    like = sum(it.length == len(image) for it in formats.all)
+    many = f", the length of {counted(like, 'format')}" if like else ""
+    said = f"its head; {tracks}; " if tracks else f"{len(image):,} bytes{many}; "
     taken = f"{kind} of " if kind else ""
     native = next((it for it in formats.native if it.length == len(image) and (not tracks or is_shaped(it, tracks))), None)
     fault = native and Reading(native, image).fault
     readings = [] if native and not fault and not formats.preferred else formats.readings(image, tracks)
     # (an image of cpmhost's own is one, unless another format is told or alone can be)
     if native and not (readings and (fault or readings[0][2].form in formats.preferred and readings[0][2].form != native)):
-        known = f"but {fault}" if fault else f"its directory is in order{fsck(native, image)}"
+        known = f"but {fault}" if fault else f"its directory fits{fsck(native, image)}"
         return Found(source, digest, taken + native.name, said + known, image=bytes(image))
     if not readings:
         return nothing_found(formats, source, digest, image, said)
     rank, _, best, contents = readings[0]
-    said += f"all entries of its directory are possible{fsck(best.form, image)}"
-    said += "; it ends before its format does, and has all of its files" if best.form.length > len(image) else ""
+    said += f"its directory fits{fsck(best.form, image)}"
+    said += "; it ends before its format does, behind all of its files" if best.form.length > len(image) else ""
     others = [it.form.name for other, _, it, its in readings if other == rank and its != contents]
     said += f"; --prefer {' or '.join(others)} would read other bytes, and fits as well" if others else ""
     return Found(source, digest, taken + best.form.name, said, files=best.files)
@@ -139,9 +141,9 @@ def nothing_found(formats, source, digest, image, said):
         return Found(source, digest, why=f"{said}the formats of cpmtools aren't here (Debian's package cpmtools), and --diskdefs names none")
     faults = [(it.name, Reading(it, image)) for it in formats.all if it.length == len(image)]
     if not faults:
-        return Found(source, digest, why=f"{said}no known format has this length, or a directory that could be here")
+        return Found(source, digest, why=f"{said}no known format has this length, or a directory that is here")
     told = "; ".join(f"{name}: {it.fault or 'no files'}" for name, it in faults[:3])
-    return Found(source, digest, why=f"{said}{len(faults)} formats have this length, and none fits ({told})")
+    return Found(source, digest, why=f"{said}the directory of none fits ({told})")
 
 
 # ---- other files
