@@ -26,6 +26,8 @@ class File(NamedTuple):
     system: bool = False
     # what it is called where it comes from, if that isn't its user and its name
     path: bytes = b""
+    # why it can't be read
+    why: str = ""
 
     @property
     def shown(self):
@@ -65,58 +67,77 @@ class Reading:
 
     def __init__(self, form, image):
         self.form, self.image = form, image
-        # the first thing that can't be, or nothing
-        self.fault = None
-        self.extents = {}
+        # the entries of files, and how many there are
+        self.extents, self.entries = {}, 0
+        # the first thing that can't be, the entries that can't be, and why a file with such an entry isn't read
+        self.fault, self.faulty, self.lost = None, 0, {}
         # entries whose blocks aren't as many as their records need, and those with odd names
         self.loose = self.odd = 0
-        # the end of what the files have in the image
-        self.end = 0
-        self.owners = {}
+        # the end of what the files have in the image, and the file that has a block
+        self.end, self.owners = 0, {}
         self.read_entries()
 
     def read_entries(self):
         form = self.form
         data = b"".join(form.read_block(self.image, it) for it in range(form.directory))[: 32 * form.entries]
         if len(data) < 32 * form.entries:
-            self.fault = "the image ends before its directory does"
-        for place in range(len(data) // 32):
+            self.fault, self.faulty = "the image ends before its directory does", form.entries
+            return
+        for place in range(form.entries):
             entry = data[32 * place : 32 * place + 32]
-            if self.fault:
-                return
-            if entry[0] != UNUSED and not self.is_no_file(entry):
-                why = self.add(entry)
-                self.fault = why and f"entry {place} of its directory {why}"
-        entries = sum(map(len, self.extents.values()))
-        if not self.fault and (8 * self.loose > entries or 2 * self.odd > entries):
-            self.fault = f"of {entries} entries {self.loose} have not as many blocks as their records need, and {self.odd} have odd names"
+            if entry[0] == UNUSED or self.is_no_file(entry):
+                continue
+            self.entries += 1
+            if why := self.why_not(entry):
+                self.fault = self.fault or f"entry {place} of its directory {why}"
+                self.faulty += 1
+        if 8 * self.loose > self.entries or 2 * self.odd > self.entries:
+            self.fault = self.fault or f"{self.loose} of {self.entries} entries have other than their records' blocks, and {self.odd} odd names"
+            self.faulty = self.entries
+
+    @property
+    def is_nearly_sound(self):
+        """Whether most entries can be, so that the others are damaged."""
+        return 8 * self.faulty <= self.entries and len(self.extents) > len(self.lost)
 
     def is_no_file(self, entry):
         """Whether an entry is a label, time stamps, or a password of CP/M 3."""
         return entry[0] in (LABEL, STAMPS) or self.form.system == "3" and 16 <= entry[0] < 32
 
-    def add(self, entry):
+    def why_not(self, entry):
         """Adds an entry of a file; why it can't be one."""
-        form, extent = self.form, extent_of(self.form, entry)
         if entry[0] > 31:
             return f"has the status {entry[0]:02X}h"
+        extent = extent_of(self.form, entry)
+        file = extent.user, extent.name
+        groups = self.extents.setdefault(file, {})
         if entry[12] > 31 or entry[15] > 128:
-            return "has an extent or a count of records that none can have"
-        groups = self.extents.setdefault((extent.user, extent.name), {})
-        if groups.setdefault(extent.group, extent) is not extent:
-            return "is of the same extent as another"
-        needed = -(-RECORD * extent.records // form.block)
+            why = "has an extent or a count of records that none can have"
+        elif groups.setdefault(extent.group, extent) is not extent:
+            why = "is of the same extent as another"
+        else:
+            why = self.why_not_blocks(file, extent)
+        if why:
+            self.lost.setdefault(file, f"an entry {why}")
+        needed = -(-RECORD * extent.records // self.form.block)
+        self.loose += any(extent.blocks[needed:]) or needed > len(extent.blocks) or bool(needed and not extent.blocks[needed - 1])
+        self.odd += not extent.name or extent.name[:1] == b"." or any(not 0x21 <= it < 0x7F or 0x61 <= it <= 0x7A for it in extent.name)
+        return why
+
+    def why_not_blocks(self, file, extent):
+        """Gives a file the blocks of an entry; why it can't have them."""
+        form = self.form
         for block in filter(None, extent.blocks):
             if not form.directory <= block < form.blocks:
                 return f"has block {block}, which no file can have"
-            if self.owners.setdefault(block, extent) is not extent or extent.blocks.count(block) > 1:
+            if block in self.owners:
+                self.lost.setdefault(self.owners[block], f"an entry has block {block}, which stands there twice")
                 return f"has block {block}, which stands there twice"
+            self.owners[block] = file
             end = form.end_of(block)
             if end > len(self.image):
                 return f"has block {block}, and the image ends before it does"
             self.end = max(self.end, end)
-        self.loose += any(extent.blocks[needed:]) or needed > len(extent.blocks) or bool(needed and not extent.blocks[needed - 1])
-        self.odd += not extent.name or extent.name[:1] == b"." or any(not 0x21 <= it < 0x7F or 0x61 <= it <= 0x7A for it in extent.name)
         return None
 
     # ---- its files
@@ -128,10 +149,13 @@ class Reading:
 
     def file_of(self, user, name):
         groups = self.extents[user, name]
+        if not groups:
+            return File(user, name, 0, bytes, why=self.lost[user, name])
         last, first = groups[max(groups)], groups[min(groups)]
         room = self.form.extents * EXTENT
         size = last.group * room + RECORD * last.records
-        return File(user, name, size, lambda most=None: self.data_of(groups, room, size, most), first.read_only, first.system)
+        why = self.lost.get((user, name), "")
+        return File(user, name, size, lambda most=None: self.data_of(groups, room, size, most), first.read_only, first.system, why=why)
 
     def data_of(self, groups, room, size, most):
         """The bytes of a file in whole records, or the first of them; what was never written is zeros."""
@@ -149,7 +173,7 @@ class Reading:
     def contents(self):
         """A digest of the files, and how many look as if they were read by another format than theirs."""
         digest, strange = hashlib.sha256(), 0
-        for file in self.files[:LOOKED_AT]:
+        for file in [it for it in self.files if not it.why][:LOOKED_AT]:
             data = file.read(LOOKED_INTO)
             digest.update(repr((file.user, file.name, file.size)).encode() + data)
             strange += looks_strange(file, data)

@@ -165,3 +165,44 @@ def known_formats(files):
         for it in formats_of(text):
             found.setdefault(it.name, it)
     return found, bool(files or installed)
+
+
+# ---- what the commands of cpmtools are told of a format
+
+
+def definition(name, form):
+    """The definition of a format, under a name; libdsk's geometry of that name goes with it."""
+    boot = f"  bootsec {form.reserved}\n" if form.reserved % form.sectors else ""
+    skew = f"skewtab {','.join(map(str, form.skew))}" if form.has_skew else "skew 0"
+    return f"""diskdef {name}
+  seclen {form.sector}
+  tracks {form.tracks}
+  sectrk {form.sectors}
+  blocksize {form.block}
+  maxdir {form.entries}
+  dirblks {form.directory}
+  boottrk {form.reserved // form.sectors}
+{boot}  {skew}
+  offset {form.offset}
+  logicalextents {form.extents}
+  os {form.system}
+  libdsk:format {name}
+end
+"""
+
+
+def geometry(name, form):
+    """The geometry of a format, for libdsk, by which Debian's cpmtools goes: without it, it makes two sides of an odd number of tracks."""
+    return f"""[{name}]
+description={name}
+sides=alt
+cylinders={form.tracks + -(-form.offset // (form.sectors * form.sector))}
+heads=1
+sectors={form.sectors}
+secbase=1
+secsize={form.sector}
+datarate=DD
+rwgap=42
+fmtgap=82
+recmode=MFM
+"""

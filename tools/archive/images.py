@@ -122,7 +122,9 @@ class Images:
         taken, why, names, left = [], {}, set(), MOST
         for at, file in enumerate(files):
             name = file.user, file.name.upper()
-            if not fitting(LARGE, [file]):
+            if file.why:
+                why[at] = file.why
+            elif not fitting(LARGE, [file]):
                 why[at] = f"it has {file.size:,} bytes, and the large disk takes {LARGE[0] * LARGE[1]:,} at most"
             elif file.size > left:
                 why[at] = f"no more than {MOST:,} bytes of files are taken of one file"

@@ -12,7 +12,7 @@ from typing import NamedTuple
 
 from archive import Refusal, counted
 from containers import MOST, Unreadable, kind_of, room_with, run_command, tracks_of
-from diskdefs import known_formats
+from diskdefs import definition, geometry, known_formats
 from directories import File, Reading
 
 NATIVE = "ibm-3740", "cpmhost-large"
@@ -53,27 +53,34 @@ class Formats:
         self.lengths = {it.length for it in self.all}
 
     def candidates(self, image, tracks):
-        """The formats of this length; and those that such an image may have that ends before its format does, or has tracks behind it."""
+        """The formats of this length, also if some entries are damaged; and others, since an image may end early, or have tracks behind its last one."""
         size = len(image)
-        yield [it for it in self.all if it.length == size]
+        same = [it for it in self.all if it.length == size]
+        yield same, False
+        yield same, True
         if tracks:
-            yield [it for it in self.all if it.length != size and is_shaped(it, tracks)]
-        yield [it for it in self.all if it.length > size]
+            yield [it for it in self.all if it.length != size and is_shaped(it, tracks)], False
+        yield [it for it in self.all if it.length > size], False
 
     def readings(self, image, tracks):
         """The readings by which an image has files, the best one first; each with its rank, and what tells its contents."""
-        for forms in self.candidates(image, tracks):
+        for forms, is_damaged in self.candidates(image, tracks):
             found = []
             for order, form in enumerate(forms):
                 reading = Reading(form, image)
-                if reading.extents and not reading.fault:
-                    contents, strange = reading.contents()
-                    spare = len(image) - reading.end if form.length > len(image) else 0
-                    rank = form not in self.preferred, bool(tracks) and not is_shaped(form, tracks), reading.loose, reading.odd, strange, spare
-                    found.append((rank, order, reading, contents))
+                if reading.extents and (reading.is_nearly_sound if is_damaged else not reading.fault):
+                    found.append((*self.ranked(reading, tracks), order, reading))
             if found:
-                return sorted(found, key=lambda it: it[:2])
+                return sorted(found, key=lambda it: (it[0], it[2]))
         return []
+
+    def ranked(self, reading, tracks):
+        """The rank of a reading, which is less for a better one, and what tells its contents."""
+        form, size = reading.form, len(reading.image)
+        contents, strange = reading.contents()
+        spare = size - reading.end if form.length > size else 0
+        is_other = bool(tracks) and not is_shaped(form, tracks)
+        return (form not in self.preferred, is_other, reading.faulty, reading.loose, reading.odd, strange, spare), contents
 
 
 def is_shaped(form, tracks):
@@ -87,18 +94,10 @@ def fsck(form, image):
     """What fsck.cpm says, in words that go on a sentence; nothing where it can't be asked."""
     if form.offset % form.sector or len(image) > MOST:
         return ""
-    boot = f"  boottrk {form.reserved // form.sectors}\n" + (f"  bootsec {form.reserved}\n" if form.reserved % form.sectors else "")
-    skew = "  skewtab " + ",".join(map(str, form.skew)) if form.has_skew else "  skew 0"
-    cylinders = form.tracks + -(-form.offset // (form.sectors * form.sector))
     with room_with(image) as room:
-        # (Debian's cpmtools goes by libdsk, which else makes two sides of an odd number of tracks)
-        with open(f"{room}/.libdskrc", "w", encoding="ascii") as file:
-            file.write(f"[import]\ndescription=import\nsides=alt\ncylinders={cylinders}\nheads=1\nsectors={form.sectors}\nsecbase=1\n")
-            file.write(f"secsize={form.sector}\ndatarate=DD\nrwgap=42\nfmtgap=82\nrecmode=MFM\n")
-        with open(f"{room}/diskdefs", "w", encoding="ascii") as file:
-            file.write(f"diskdef import\n  seclen {form.sector}\n  tracks {form.tracks}\n  sectrk {form.sectors}\n  blocksize {form.block}\n")
-            file.write(f"  maxdir {form.entries}\n  dirblks {form.directory}\n{boot}{skew}\n  offset {form.offset}\n")
-            file.write(f"  logicalextents {form.extents}\n  os {form.system}\n  libdsk:format import\nend\n")
+        for name, text in (("diskdefs", definition("import", form)), (".libdskrc", geometry("import", form))):
+            with open(f"{room}/{name}", "w", encoding="ascii") as file:
+                file.write(text)
         try:
             status, printed = run_command(room, "fsck.cpm", "-T", "raw", "-f", "import", "-n", "image")
         except Unreadable:
@@ -120,15 +119,17 @@ def image_found(formats, source, digest, image, tracks=None, kind=""):
     fault = native and Reading(native, image).fault
     readings = [] if native and not fault and not formats.preferred else formats.readings(image, tracks)
     # (an image of cpmhost's own is one, unless another format is told or alone can be)
-    if native and not (readings and (fault or readings[0][2].form in formats.preferred and readings[0][2].form != native)):
+    best = readings[0][3] if readings else None
+    is_other = best and best.form != native and (best.form in formats.preferred or fault and not best.fault)
+    if native and not is_other:
         known = f"but {fault}" if fault else f"its directory fits{fsck(native, image)}"
         return Found(source, digest, taken + native.name, said + known, image=bytes(image))
-    if not readings:
+    if not best:
         return nothing_found(formats, source, digest, image, said)
-    rank, _, best, contents = readings[0]
-    said += f"its directory fits{fsck(best.form, image)}"
+    damaged = f", but {best.faulty} of {best.entries} entries that can't be (first, {best.fault})" if best.fault else ""
+    said += f"its directory fits{damaged}{fsck(best.form, image)}"
     said += "; it ends before its format does, behind all of its files" if best.form.length > len(image) else ""
-    others = [it.form.name for other, _, it, its in readings if other == rank and its != contents]
+    others = [it.form.name for rank, contents, _, it in readings if rank == readings[0][0] and contents != readings[0][1]]
     said += f"; --prefer {' or '.join(others)} would read other bytes, and fits as well" if others else ""
     return Found(source, digest, taken + best.form.name, said, files=best.files)
 
