@@ -1,8 +1,10 @@
-"""Disks of other machines, for tests: their images are made by mkfs.cpm and cpmcp of cpmtools, and those with heads by dsktrans of libdsk."""
+"""Disks of other machines, for tests: their images are made by mkfs.cpm and cpmcp of cpmtools, and those with heads by dsktrans of libdsk. And zip files."""
 
+import io
 import os
 import random
 import subprocess
+import zipfile
 from typing import NamedTuple
 
 from lib import Cpmtools, Item, read, stop, write
@@ -78,6 +80,7 @@ DISKS = [
     Disk("pcw.img", "pcw", 184320, FEW),
     Disk("pcw.dsk", "pcw", 184320, FEW, "dsk", "pcw180"),
     Disk("pcw720.img", "cf2dd", 737280, FEW + MORE),
+    Disk("pcw720.edsk", "cf2dd", 737280, FEW + MORE, "edsk", "pcw720"),
     Disk("cpc.edsk", "cpcdata", 184320, FEW, "edsk", "cpcdata"),
     Disk("cpcsys.dsk", "cpcsys", 184320, FEW + MORE[:1], "dsk", "cpcsys"),
     Disk("ibm8dd.img", "zena", 512512, FEW + MORE + MANY[:30]),
@@ -132,3 +135,25 @@ def make(disk, room, is_whole=True):
         if ran.returncode or b"Sector" not in ran.stdout + ran.stderr and not os.path.getsize(disk.name):
             stop(f"dsktrans makes no {disk.name}: {(ran.stdout + ran.stderr)[-200:]}")
     return data
+
+
+# ---- zip files
+
+
+def bomb():
+    """A zip file of a member that unpacks to more than is taken."""
+    out = io.BytesIO()
+    with zipfile.ZipFile(out, "w", zipfile.ZIP_DEFLATED) as file:
+        with file.open("bomb.txt", "w") as member:
+            for _ in range(65):
+                member.write(bytes(1 << 20))
+        for number in range(20):
+            file.writestr(f"small{number}.txt", b"x")
+    return out.getvalue()
+
+
+def nested():
+    out = io.BytesIO()
+    with zipfile.ZipFile(out, "w") as file:
+        file.writestr("inner.zip", bomb()[:100])
+    return out.getvalue()

@@ -153,18 +153,15 @@ def formats_of(text):
             continue
 
 
-def known_formats(files):
-    """The formats by their names: cpmhost's own, those of these files, and those of cpmtools. Whether cpmtools' are among them."""
-    installed = [it for it in PLACES if os.path.exists(it)][:1]
-    texts = [OWN]
-    for name in [*files, *installed]:
-        with open(name, encoding="utf-8", errors="replace") as file:
-            texts.append(file.read())
-    found = {}
-    for text in texts:
-        for it in formats_of(text):
-            found.setdefault(it.name, it)
-    return found, bool(files or installed)
+def read_formats(name):
+    """The formats of a file of definitions."""
+    with open(name, encoding="utf-8", errors="replace") as file:
+        return list(formats_of(file.read()))
+
+
+def installed_formats():
+    """The formats of cpmtools, or none where it isn't installed."""
+    return next((read_formats(it) for it in PLACES if os.path.exists(it)), [])
 
 
 # ---- what the commands of cpmtools are told of a format

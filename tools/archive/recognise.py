@@ -12,10 +12,9 @@ from typing import NamedTuple
 
 from archive import Refusal, counted
 from containers import MOST, Unreadable, kind_of, room_with, run_command, tracks_of
-from diskdefs import definition, geometry, known_formats
+from diskdefs import OWN, definition, formats_of, geometry, installed_formats, read_formats
 from directories import File, Reading
 
-NATIVE = "ibm-3740", "cpmhost-large"
 # these come before others that fit alike, as that of the Osborne before its like of another machine
 FAMILIAR = "kpii", "kpiv", "osborne1", "pcw", "cf2dd", "cpcsys", "cpcdata", "zena", "mds-dd", "z80pack-hd", "z80pack-hdb", "8megAltairSIMH"
 # how many members of a zip file are looked at
@@ -42,15 +41,18 @@ class Formats:
     """The formats that are looked for, in the order in which they are taken where two fit alike."""
 
     def __init__(self, files, preferred):
-        known, self.are_installed = known_formats(files)
+        self.native, given, installed = list(formats_of(OWN)), [it for name in files for it in read_formats(name)], installed_formats()
+        self.are_installed = bool(given or installed)
+        familiar = [it for name in FAMILIAR for it in installed if it.name == name]
+        known = {}
+        for it in (*self.native, *given, *familiar, *installed):
+            known.setdefault(it.name, it)
+        self.all = list(known.values())
+        self.lengths = {it.length for it in self.all}
         lost = [it for it in preferred if it not in known]
         if lost:
             raise Refusal(f"there is no format {lost[0]} in the definitions of cpmtools")
         self.preferred = [known[it] for it in preferred]
-        first = [known[it] for it in (*NATIVE, *FAMILIAR) if it in known]
-        self.all = [*first, *(it for it in known.values() if it not in first)]
-        self.native = [known[it] for it in NATIVE]
-        self.lengths = {it.length for it in self.all}
 
     def candidates(self, image, tracks):
         """The formats of this length, also if some entries are damaged; and others, since an image may end early, or have tracks behind its last one."""
