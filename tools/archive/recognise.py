@@ -139,7 +139,7 @@ def image_found(formats, source, digest, image, tracks=None, kind=""):
 def nothing_found(formats, source, digest, image, said):
     """An image by which no format has files."""
     if len(image) <= MOST and not bytes(image).strip(b"\xe5"):
-        return Found(source, digest, "a blank disk", f"{said}all of them E5h", files=[])
+        return Found(source, digest, "a blank disk", f"{said}every byte is E5h", files=[])
     if not formats.are_installed:
         return Found(source, digest, why=f"{said}the formats of cpmtools aren't here (Debian's package cpmtools), and --diskdefs names none")
     faults = [(it.name, Reading(it, image)) for it in formats.all if it.length == len(image)]
@@ -159,9 +159,9 @@ def members_of(data):
         with zipfile.ZipFile(io.BytesIO(data)) as file:
             listed = [it for it in file.infolist() if not it.is_dir()]
             for it in listed[:MOST_MEMBERS]:
-                data, why = member_of(file, it, left)
-                left -= len(data)
-                yield it.filename.encode("utf-8", "surrogateescape"), data, why
+                member, why = member_of(file, it, left)
+                left -= len(member)
+                yield it.filename.encode("utf-8", "surrogateescape"), member, why
     except Exception as error:  # (of many kinds, by what is wrong)
         raise Unreadable(f"it is a zip file that is cut or damaged: {error or type(error).__name__}")
     if len(listed) > MOST_MEMBERS:
@@ -169,16 +169,20 @@ def members_of(data):
 
 
 def member_of(file, it, left):
-    """The bytes of a member, of which no more are unpacked than are left to be, and why it isn't taken."""
+    """The bytes of a member, of which no more are unpacked than are left to be, and why it isn't taken. (What is wrong with it, or too much, uses
+    up what is left as well, so that many such members take no longer than one.)"""
     if it.external_attr >> 28 == 0o12:
         return b"", "it is a link"
+    if it.compress_type not in (zipfile.ZIP_STORED, zipfile.ZIP_DEFLATED):
+        return b"", "it is packed in another way than by deflate"
+    data = bytearray()
     try:
         with file.open(it) as member:
-            data = member.read(left + 1)
-    except Exception as error:  # (of many kinds, by how it is packed)
-        return b"", f"it can't be unpacked: {error or type(error).__name__}"
-    # (what is too much uses up what was left, so that many such members take no longer than one)
-    return data[:left], f"no more than {MOST:,} bytes of a zip file are unpacked" if len(data) > left else ""
+            while len(data) <= left and (part := member.read(min(65536, left + 1 - len(data)))):
+                data += part
+    except Exception as error:  # (of many kinds, by what is wrong)
+        return bytes(data[:left]), f"it can't be unpacked: {error or type(error).__name__}"
+    return bytes(data[:left]), f"no more than {MOST:,} bytes of a zip file are unpacked" if len(data) > left else ""
 
 
 def zip_found(formats, source, digest, data):
