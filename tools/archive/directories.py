@@ -79,7 +79,8 @@ class Reading:
 
     def read_entries(self):
         form = self.form
-        data = b"".join(form.read_block(self.image, it) for it in range(form.directory))[: 32 * form.entries]
+        blocks = range(-(-32 * form.entries // form.block))
+        data = b"".join(form.read_block(self.image, it) for it in blocks)[: 32 * form.entries]
         if len(data) < 32 * form.entries:
             self.fault, self.faulty = "the image ends before its directory does", form.entries
             return

@@ -130,7 +130,7 @@ def format_of(fields):
     offset = bytes_of(fields.get("offset", "0"), sectors * sector, sector)
     found = Format(fields["name"], sector, tracks, sectors, block, entries, directory, reserved, offset, skew, 0, fields.get("os", "2.2"))
     extents = int(fields.get("logicalextents", 0)) or max(1, 16 // found.width * block // 16384)
-    if not 0 < directory < found.blocks:
+    if not 0 < directory < found.blocks or extents < 1 or 32 * entries > directory * block:
         raise ValueError
     return found._replace(extents=extents)
 

@@ -99,6 +99,8 @@ class Images:
         name = self.name_for(found.source)
         with open(f"{self.folder}/{name}", "xb") as file:
             file.write(found.image)
+            file.flush()
+            os.fsync(file.fileno())
         digest = hashlib.sha256(found.image).hexdigest()
         yield Row(found.source, found.digest, found.taken, found.known, image=name, bytes=len(found.image), digest=digest)
 
