@@ -140,6 +140,10 @@ def one_by_one(folder, listed):
 # ---- results
 
 
+def counted(number, word):
+    return f"{number:,} {word}{'s' * (number != 1)}"
+
+
 def shown(words):
     """A text as a line of a terminal or a page has it: `?` for characters that control, or that turn what stands around them."""
     return "".join("?" if unicodedata.category(it) in HIDDEN else it for it in words)
