@@ -1,8 +1,10 @@
 //! Checkpoints: one that was laid out by hand from the tables of docs/SAVED.md, each cut of it, and each length that lies.
 
+ghost use Rattle.std.specs.Prelude.{◌<◌};
+
 use crate::same::{same, same_at};
 use cpm_checkpoint::laws::{read_is_written, written_is_read};
-use cpm_checkpoint::{Checkpoint, CheckpointError, CheckpointSession};
+use cpm_checkpoint::{Checkpoint, CheckpointError, CheckpointSession, MOST_SESSIONS};
 use std::alloc::{AllocError, Global};
 use std::process::Abort;
 use std::test::Fail;
@@ -69,6 +71,7 @@ fn is_damaged(rt: &impl Abort, alloc: Global, case: usize, bytes: &[u8], at: usi
 #[test]
 fn the_example_is_written(rt: HostRuntime) -> Result<(), Fail> {
     let checkpoint = example(rt.alloc())?;
+    assert!(rt; checkpoint.sessions.len() <= MOST_SESSIONS);
     let bytes = checkpoint.bytes(rt.alloc())?;
     same(&rt, bytes.as_slice(), EXAMPLE.as_slice());
     Ok(())
@@ -108,7 +111,13 @@ fn each_length_that_lies_is_refused(rt: HostRuntime) {
 /// A length that is one too small or too great moves what is behind it.
 #[test]
 fn lengths_beside_the_right_ones_are_refused(rt: HostRuntime) {
-    for (place, byte, at) in [(60, 1, 77), (60, 3, 79), (70, 1, 87), (78, 0, 86), (78, 2, 86)] {
+    for (place, byte, at) in [
+        (60, 1, 77),
+        (60, 3, 79),
+        (70, 1, 87),
+        (78, 0, 86),
+        (78, 2, 86),
+    ] {
         is_damaged(&rt, rt.alloc(), place, &with_byte(place, byte), at);
     }
 }
@@ -116,7 +125,15 @@ fn lengths_beside_the_right_ones_are_refused(rt: HostRuntime) {
 /// Other bytes at the places where just some may stand.
 #[test]
 fn other_marks_are_refused(rt: HostRuntime) {
-    for (place, byte) in [(42, 2), (43, 2), (43, 0xff), (41, 65), (41, 0xff), (8, 0), (8, 2)] {
+    for (place, byte) in [
+        (42, 2),
+        (43, 2),
+        (43, 0xff),
+        (41, 65),
+        (41, 0xff),
+        (8, 0),
+        (8, 2),
+    ] {
         is_damaged(&rt, rt.alloc(), place, &with_byte(place, byte), place);
     }
     is_damaged(&rt, rt.alloc(), 3, &with_byte(3, 0x68), 0);
