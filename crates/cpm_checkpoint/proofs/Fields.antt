@@ -82,7 +82,8 @@ one_byte [] size = absurd (omega (arith, size))
 one_byte (b ∷ []) size = refl
 one_byte (b ∷ c ∷ bs) size = absurd (omega (arith, size))
 
-pub byte_takes : (limit : ℕ) (rest : Unread) (p : ℕ × Unread) → AreByteValues rest.bytes → byte_read limit rest ≡ Ok p → Takes rest.bytes (p.0 ∷ []) p.1 × (p.0 < limit)
+pub byte_takes : (limit : ℕ) (rest : Unread) (p : ℕ × Unread) → AreByteValues rest.bytes → byte_read limit rest ≡ Ok p
+    → Takes rest.bytes (p.0 ∷ []) p.1 × (p.0 < limit)
 unfolding byte_read
 byte_takes limit rest p all e =
     let a = then_ok (bytes_taken 1 rest) (λ found. if_so (λ (b : ℕ). nat_lt b limit) rest (head_byte found.0, found.1)) p e in
@@ -129,7 +130,8 @@ long_takes rest p all e =
 
 -- ---- a run
 
-pub run_again : (bytes rest : List ℕ) (at : ℕ) → IsByteRun bytes → run_read (unread_at at (run bytes ++ rest)) ≡ Ok (bytes, unread_at (at + 8 + length bytes) rest)
+pub run_again : (bytes rest : List ℕ) (at : ℕ) → IsByteRun bytes
+    → run_read (unread_at at (run bytes ++ rest)) ≡ Ok (bytes, unread_at (at + 8 + length bytes) rest)
 unfolding run_read
 run_again bytes rest at of =
     ap (λ (xs : List ℕ). long_read (unread_at at xs) >>= λ count. bytes_taken count.0 count.1) (append_assoc (long (length bytes)) bytes rest)
@@ -150,13 +152,15 @@ run_takes rest p all e =
 
 -- ---- just these bytes
 
-pub these_take : (wanted : List ℕ) (rest : Unread) (p : List ℕ × Unread) → AreByteValues rest.bytes → these_read wanted rest ≡ Ok p → Takes rest.bytes wanted p.1
+pub these_take : (wanted : List ℕ) (rest : Unread) (p : List ℕ × Unread) → AreByteValues rest.bytes → these_read wanted rest ≡ Ok p
+    → Takes rest.bytes wanted p.1
 unfolding these_read
 these_take wanted rest p all e =
     let a = then_ok (bytes_taken (length wanted) rest) (if_so (λ (bytes : List ℕ). pointwise nat_eq bytes wanted) rest) p e in
     let t = bytes_take (length wanted) rest a.0 all a.1 in
     let w = if_ok (pointwise nat_eq a.0.0 wanted) a.0 p rest.at a.2 in
-    subst (λ (q : List ℕ × Unread). Takes rest.bytes wanted q.1) w.1 (subst (λ (xs : List ℕ). Takes rest.bytes xs a.0.1) ((bytes_eq-Decides a.0.0 wanted).0 w.0) t.0)
+    let same : a.0.0 ≡ wanted = (bytes_eq-Decides a.0.0 wanted).0 w.0 in
+    subst (λ (q : List ℕ × Unread). Takes rest.bytes wanted q.1) w.1 (subst (λ (xs : List ℕ). Takes rest.bytes xs a.0.1) same t.0)
 
 pub these_again : (wanted rest : List ℕ) (at : ℕ) → these_read wanted (unread_at at (wanted ++ rest)) ≡ Ok (wanted, unread_at (at + length wanted) rest)
 unfolding these_read

@@ -1,35 +1,20 @@
 -- Values of the code have bytes: their numbers are of 64 bits, and their bytes are bytes.
-use Rattle.std.proofs.Common.{◌≡◌, ◌∙◌, ◌<◌, ◌≤◌, ◌+◌, ℕ, zero, suc, List, [], ◌∷◌, ◌++◌, length, get_or, take, Option, Ok, Err}
-use Rattle.std.proofs.Common.{ap, arith, option_map, subst, sym}
+use Rattle.std.proofs.Common.{◌≡◌, ◌∙◌, ◌<◌, ◌≤◌, ℕ, zero, suc, List, [], ◌∷◌, length, get_or, Ok, Err}
+use Rattle.std.proofs.Common.{ap, arith, option_map}
 use Rattle.std.specs.Prelude.{IfOk, Result}
 use Rattle.std.specs.Global.{Vec}
-use Rattle.std.specs.List.{AllByRecursion}
-use Rattle.std.proofs.lemmas.List.{length-map, map_more}
-use Rattle.cpm_checkpoint.specs.CheckpointBytes.{AreByteValues, CheckpointValue, IsCheckpoint, IsSessionIfAny, SessionValue, checkpoint_bytes, checkpoint_value, most_sessions}
-use Rattle.cpm_checkpoint.specs.CheckpointBytes.{session_value, session_values}
+use Rattle.std.proofs.lemmas.List.{length-map}
+use Rattle.cpm_checkpoint.specs.CheckpointBytes.{AreByteValues, CheckpointValue, IsCheckpoint, checkpoint_bytes, checkpoint_value, most_sessions}
+use Rattle.cpm_checkpoint.specs.CheckpointBytes.{session_value}
 use Rattle.cpm_checkpoint.specs.CheckpointReading.{IsWholeParsed, checkpoint_read}
 use Rattle.cpm_checkpoint.specs.declared.checkpoint.Checkpoint.{Checkpoint}
 use Rattle.cpm_checkpoint.specs.declared.checkpoint.CheckpointError.{CheckpointError}
-use Rattle.cpm_checkpoint.specs.declared.checkpoint.CheckpointSession.{CheckpointSession}
 use Rattle.cpm_checkpoint.proofs.Sessions.{read_written, written_read}
 
 pub all_bytes : (xs : List ℕ) → ((i : ℕ) → get_or xs i 0 < 256) → AreByteValues xs
 all_bytes [] h k d within = absurd (omega (arith, within))
 all_bytes (x ∷ xs) h zero d within = h 0
 all_bytes (x ∷ xs) h (suc k) d within = all_bytes xs (λ (i : ℕ). h (suc i)) k d (omega (arith, within))
-
-push_fits : (os : List (Option SessionValue)) (o : Option SessionValue) → AllByRecursion IsSessionIfAny os → IsSessionIfAny o
-    → AllByRecursion IsSessionIfAny (os ++ o ∷ [])
-push_fits [] o all here = (here, tt)
-push_fits (p ∷ os) o all here = (all.0, push_fits os o all.1 here)
-
--- one session more
-pub fits_more : (sessions : List (Option CheckpointSession)) (i : ℕ) (d : Option CheckpointSession) → i < length sessions
-    → AllByRecursion IsSessionIfAny (session_values (take i sessions)) → IsSessionIfAny (option_map session_value (get_or sessions i d))
-    → AllByRecursion IsSessionIfAny (session_values (take (i + 1) sessions))
-fits_more sessions i d low all here =
-    subst (AllByRecursion IsSessionIfAny) (sym (map_more (option_map session_value) sessions i d low))
-    (push_fits (session_values (take i sessions)) (option_map session_value (get_or sessions i d)) all here)
 
 -- what is read of bytes is written as these, and has 64 sessions at most
 pub is_written : (bytes : List ℕ) (r : Result Checkpoint CheckpointError) → AreByteValues bytes → IsWholeParsed checkpoint_value (checkpoint_read bytes) r

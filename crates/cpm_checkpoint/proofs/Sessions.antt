@@ -6,12 +6,14 @@ use Rattle.std.specs.List.{AllByRecursion, flat_map}
 use Rattle.std.proofs.lemmas.Bool.{eqb-true}
 use Rattle.std.proofs.lemmas.List.{append-nil, nil_from_length}
 use Rattle.std.proofs.lemmas.List.Concat.{flat_map-cons}
-use Rattle.cpm_checkpoint.specs.CheckpointBytes.{AreByteValues, CheckpointValue, IsCheckpoint, IsSession, IsSessionIfAny, SessionValue, checkpoint_bytes, long, checkpoint_magic}
-use Rattle.cpm_checkpoint.specs.CheckpointBytes.{marked_bytes, run, session_bytes, checkpoint_version}
-use Rattle.cpm_checkpoint.specs.CheckpointReading.{Unread, all_read, begun_read, beginning_read, byte_read, bytes_taken, checkpoint_read}
-use Rattle.cpm_checkpoint.specs.CheckpointReading.{long_read, marked_read, parts_read, unread_at, run_read, session_read, sessions_read, these_read}
+use Rattle.cpm_checkpoint.specs.CheckpointBytes.{AreByteValues, CheckpointValue, IsCheckpoint, IsSession, IsSessionIfAny, SessionValue}
+use Rattle.cpm_checkpoint.specs.CheckpointBytes.{checkpoint_bytes, checkpoint_magic, long}
+use Rattle.cpm_checkpoint.specs.CheckpointBytes.{checkpoint_version, marked_bytes, run, session_bytes}
+use Rattle.cpm_checkpoint.specs.CheckpointReading.{Unread, all_read, beginning_read, begun_read, byte_read, bytes_taken, checkpoint_read}
+use Rattle.cpm_checkpoint.specs.CheckpointReading.{long_read, marked_read, parts_read, run_read, session_read, sessions_read, these_read, unread_at}
 use Rattle.cpm_checkpoint.specs.Laws.{ReadIsWritten, WrittenIsRead}
-use Rattle.cpm_checkpoint.proofs.Fields.{◌>>=◌, Takes, byte_again, byte_takes, bytes_again, bytes_take, if_ok, long_again, long_takes, ok_is, run_again, run_takes}
+use Rattle.cpm_checkpoint.proofs.Fields.{◌>>=◌, Takes, byte_again, byte_takes, bytes_again, bytes_take, if_ok, long_again, long_takes, ok_is}
+use Rattle.cpm_checkpoint.proofs.Fields.{run_again, run_takes}
 use Rattle.cpm_checkpoint.proofs.Fields.{takes_then, then_ok, these_again, these_take}
 
 abbrev session_of : (pressed done : ℕ) (console list saving : List ℕ) → SessionValue
@@ -22,7 +24,8 @@ checkpoint_of beginning sessions = record { beginning = beginning; sessions = se
 
 -- ---- a session
 
-session_takes : (rest : Unread) (p : SessionValue × Unread) → AreByteValues rest.bytes → session_read rest ≡ Ok p → Takes rest.bytes (session_bytes p.0) p.1 × IsSession p.0
+session_takes : (rest : Unread) (p : SessionValue × Unread) → AreByteValues rest.bytes → session_read rest ≡ Ok p
+    → Takes rest.bytes (session_bytes p.0) p.1 × IsSession p.0
 unfolding session_read
 session_takes rest p all e =
     let a = then_ok (long_read rest) (λ pressed. long_read pressed.1 >>= λ done. run_read done.1 >>= λ console. run_read console.1 >>= λ list.
@@ -52,7 +55,8 @@ session_takes rest p all e =
 abbrev place_behind : ℕ → SessionValue → ℕ
 place_behind at s = at + 8 + 8 + 8 + length s.console + 8 + length s.list + 8 + length s.saving
 
-session_again : (s : SessionValue) (rest : List ℕ) (at : ℕ) → IsSession s → session_read (unread_at at (session_bytes s ++ rest)) ≡ Ok (s, unread_at (place_behind at s) rest)
+session_again : (s : SessionValue) (rest : List ℕ) (at : ℕ) → IsSession s
+    → session_read (unread_at at (session_bytes s ++ rest)) ≡ Ok (s, unread_at (place_behind at s) rest)
 unfolding session_read
 session_again s rest at of =
     let saving = run s.saving ++ rest in
@@ -99,7 +103,8 @@ marked_takes rest p all e =
     let t = byte_takes 2 rest a.0 all a.1 in
     begun_takes a.0.0 a.0.1 p t.1 t.0.behind_bytes a.2 rest.bytes t.0.parts
 
-marked_again : (o : Option SessionValue) (rest : List ℕ) (at : ℕ) → IsSessionIfAny o → (end : ℕ) × (marked_read (unread_at at (marked_bytes o ++ rest)) ≡ Ok (o, unread_at end rest))
+marked_again : (o : Option SessionValue) (rest : List ℕ) (at : ℕ) → IsSessionIfAny o
+    → (end : ℕ) × (marked_read (unread_at at (marked_bytes o ++ rest)) ≡ Ok (o, unread_at end rest))
 unfolding marked_read begun_read
 marked_again None rest at of = (at + 1, rw (byte_again 2 0 rest at (omega arith)) refl)
 marked_again (Some s) rest at of =
@@ -107,12 +112,16 @@ marked_again (Some s) rest at of =
 
 -- ---- sessions
 
+-- so many sessions are taken from the front of bytes
+abbrev AreTaken : ℕ → List ℕ → List (Option SessionValue) → Unread → Type 0
+AreTaken count bytes os behind = Takes bytes (flat_map marked_bytes os) behind × (length os ≡ count) × AllByRecursion IsSessionIfAny os
+
 sessions_take : (count : ℕ) (rest : Unread) (p : List (Option SessionValue) × Unread) → AreByteValues rest.bytes → sessions_read count rest ≡ Ok p
-    → Takes rest.bytes (flat_map marked_bytes p.0) p.1 × (length p.0 ≡ count) × AllByRecursion IsSessionIfAny p.0
+    → AreTaken count rest.bytes p.0 p.1
 unfolding sessions_read
 sessions_take zero rest p all e =
     let none : List (Option SessionValue) × Unread = ([], rest) in
-    subst (λ (q : List (Option SessionValue) × Unread). Takes rest.bytes (flat_map marked_bytes q.0) q.1 × (length q.0 ≡ 0) × AllByRecursion IsSessionIfAny q.0)
+    subst (λ (q : List (Option SessionValue) × Unread). AreTaken 0 rest.bytes q.0 q.1)
     {x = none} (ok_is none p e) (record { parts = refl; behind_bytes = all }, refl, tt)
 sessions_take (suc count) rest p all e =
     let a = then_ok (marked_read rest) (λ first. sessions_read count first.1 >>= λ others. Ok (first.0 ∷ others.0, others.1)) p e in
@@ -121,7 +130,7 @@ sessions_take (suc count) rest p all e =
     let others = sessions_take count a.0.1 b.0 first.0.behind_bytes b.1 in
     let both = takes_then rest.bytes (marked_bytes a.0.0) (flat_map marked_bytes b.0.0) a.0.1 b.0.1 first.0 others.0 in
     let answer : List (Option SessionValue) × Unread = (a.0.0 ∷ b.0.0, b.0.1) in
-    subst (λ (q : List (Option SessionValue) × Unread). Takes rest.bytes (flat_map marked_bytes q.0) q.1 × (length q.0 ≡ suc count) × AllByRecursion IsSessionIfAny q.0)
+    subst (λ (q : List (Option SessionValue) × Unread). AreTaken (suc count) rest.bytes q.0 q.1)
     {x = answer} (ok_is answer p b.2) (rw flat_map-cons both, ap suc others.1, (first.1, others.2))
 
 sessions_again : (os : List (Option SessionValue)) (rest : List ℕ) (at : ℕ) → AllByRecursion IsSessionIfAny os
@@ -146,13 +155,18 @@ beginning_takes rest p all e =
     let one = these_take checkpoint_magic rest a.0 all a.1 in
     let two = these_take checkpoint_version a.0.1 b.0 one.behind_bytes b.1 in
     let three = bytes_take 32 b.0.1 p two.behind_bytes b.2 in
-    (takes_then rest.bytes checkpoint_magic (checkpoint_version ++ p.0) a.0.1 p.1 one (takes_then a.0.1.bytes checkpoint_version p.0 b.0.1 p.1 two three.0), three.1, three.2)
+    let from_two = takes_then a.0.1.bytes checkpoint_version p.0 b.0.1 p.1 two three.0 in
+    (takes_then rest.bytes checkpoint_magic (checkpoint_version ++ p.0) a.0.1 p.1 one from_two, three.1, three.2)
 
 beginning_again : (digest rest : List ℕ) (at : ℕ) → length digest ≡ 32
     → beginning_read (unread_at at (checkpoint_magic ++ (checkpoint_version ++ (digest ++ rest)))) ≡ Ok (digest, unread_at (at + 8 + 1 + 32) rest)
 unfolding beginning_read
 beginning_again digest rest at size =
-    rw (these_again checkpoint_magic (checkpoint_version ++ (digest ++ rest)) at, these_again checkpoint_version (digest ++ rest) (at + 8), bytes_again digest rest (at + 8 + 1) 32 size) refl
+    rw (
+      these_again checkpoint_magic (checkpoint_version ++ (digest ++ rest)) at,
+      these_again checkpoint_version (digest ++ rest) (at + 8),
+      bytes_again digest rest (at + 8 + 1) 32 size,
+    ) refl
 
 parts_take : (rest : Unread) (p : CheckpointValue × Unread) → AreByteValues rest.bytes → parts_read rest ≡ Ok p
     → Takes rest.bytes (checkpoint_bytes p.0) p.1 × IsCheckpoint p.0

@@ -3,7 +3,7 @@ use Rattle.std.specs.Prelude.{◌≡◌, ⊤, ◌+◌, ℕ, zero, suc, Bool, ◌
 use Rattle.std.specs.Prelude.{List, [], ◌∷◌, length, take, drop, Option, Some, None, Result, Ok, Err}
 use Rattle.std.specs.Cmp.Lexicographic.{pointwise}
 use Rattle.std.specs.Int.{from_le_bytes, w64}
-use Rattle.cpm_checkpoint.specs.CheckpointBytes.{CheckpointValue, SessionValue, checkpoint_magic, most_sessions, checkpoint_version}
+use Rattle.cpm_checkpoint.specs.CheckpointBytes.{CheckpointValue, SessionValue, checkpoint_magic, checkpoint_version, most_sessions}
 use Rattle.cpm_checkpoint.specs.declared.checkpoint.CheckpointError.{CheckpointError}
 use Rattle.cpm_checkpoint.specs.declared.checkpoint.CheckpointError.TheVariants.{Damaged, OutOfMemory}
 

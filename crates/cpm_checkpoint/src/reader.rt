@@ -1,12 +1,12 @@
 //! Bytes that are read from the front, a value at a time.
 
 ghost use Rattle.std.specs.Prelude.{◌≡◌, ◌≤◌, ◌<◌, IfOk, Err, drop, length, ◌==◌};
-ghost use Rattle.cpm_checkpoint.specs.CheckpointReading.{IsParsed, bytes_taken, byte_read, long_read, run_read};
+ghost use Rattle.cpm_checkpoint.specs.CheckpointReading.{IsParsed, byte_read, bytes_taken, long_read, run_read, these_read};
 
 use crate::checkpoint::CheckpointError;
 use std::marker::Model;
 
-/// Bytes that are read from the front. A value that can't be read changes nothing.
+/// Bytes that are read from the front.
 #[derive(Drop)]
 pub struct CheckpointReader<'a> {
     bytes: &'a [u8],
@@ -68,6 +68,20 @@ impl<'a> CheckpointReader<'a> {
         let mut bytes = [0; N];
         bytes.copy_from_slice(self.take(N)?);
         Ok(bytes)
+    }
+
+    /// Just these bytes.
+    #[tactic(auto, unfolding(crate::specs::CheckpointReading::these_read))]
+    pub fn these<const N: usize>(&mut self, wanted: &[u8; N]) -> Result<(), CheckpointError>
+        ensures { IsParsed (λ _. wanted.now) (these_read wanted.now self.old) self.new result }
+    {
+        let at = self.at;
+        let bytes: [u8; N] = self.array()?;
+        if bytes == *wanted {
+            Ok(())
+        } else {
+            Err(CheckpointError::Damaged { at })
+        }
     }
 
     /// A byte below a limit.

@@ -1,50 +1,22 @@
 //! Checkpoints that are read of bytes.
 
 ghost use Rattle.std.specs.Prelude.{◌≡◌, ◌≤◌, IfOk, option_map};
-ghost use Rattle.cpm_checkpoint.specs.CheckpointBytes.{checkpoint_value, checkpoint_magic, session_value, session_values, checkpoint_version};
-ghost use Rattle.cpm_checkpoint.specs.CheckpointReading.{IsParsed, IsWholeParsed, begun_read, beginning_read, checkpoint_read};
-ghost use Rattle.cpm_checkpoint.specs.CheckpointReading.{marked_read, parts_read, session_read, sessions_read, these_read};
+ghost use Rattle.cpm_checkpoint.specs.CheckpointBytes.{checkpoint_value, session_value, session_values};
+ghost use Rattle.cpm_checkpoint.specs.CheckpointReading.{IsParsed, IsWholeParsed, beginning_read, begun_read, checkpoint_read};
+ghost use Rattle.cpm_checkpoint.specs.CheckpointReading.{marked_read, parts_read, session_read, sessions_read};
 
 use crate::checkpoint::{Checkpoint, CheckpointError, CheckpointSession, MOST_SESSIONS};
 use crate::reader::CheckpointReader;
 use crate::writing::{MAGIC, VERSION};
 use std::alloc::Global;
 
-/// Reads the bytes with which a checkpoint begins.
-#[tactic(auto, unfolding(crate::specs::CheckpointReading::these_read))]
-fn read_magic(reader: &mut CheckpointReader<'_>) -> Result<(), CheckpointError>
-    ensures { IsParsed (λ _. checkpoint_magic) (these_read checkpoint_magic reader.old) reader.new result }
-{
-    let at = reader.at();
-    let bytes: [u8; 8] = reader.array()?;
-    if bytes == MAGIC {
-        Ok(())
-    } else {
-        Err(CheckpointError::Damaged { at })
-    }
-}
-
-/// Reads the number of the format.
-#[tactic(auto, unfolding(crate::specs::CheckpointReading::these_read))]
-fn read_version(reader: &mut CheckpointReader<'_>) -> Result<(), CheckpointError>
-    ensures { IsParsed (λ _. checkpoint_version) (these_read checkpoint_version reader.old) reader.new result }
-{
-    let at = reader.at();
-    let bytes: [u8; 1] = reader.array()?;
-    if bytes == [VERSION] {
-        Ok(())
-    } else {
-        Err(CheckpointError::Damaged { at })
-    }
-}
-
 /// Reads what is before the sessions, and gives the digest.
 #[tactic(auto, unfolding(crate::specs::CheckpointReading::beginning_read))]
 fn read_beginning(reader: &mut CheckpointReader<'_>) -> Result<[u8; 32], CheckpointError>
     ensures { IsParsed (λ b. b) (beginning_read reader.old) reader.new result }
 {
-    read_magic(reader)?;
-    read_version(reader)?;
+    reader.these(&MAGIC)?;
+    reader.these(&[VERSION])?;
     reader.array()
 }
 
@@ -111,7 +83,10 @@ fn read_sessions(
 
 /// Reads all parts.
 #[tactic(auto, unfolding(crate::specs::CheckpointReading::parts_read))]
-fn read_parts(alloc: Global, reader: &mut CheckpointReader<'_>) -> Result<Checkpoint, CheckpointError>
+fn read_parts(
+    alloc: Global,
+    reader: &mut CheckpointReader<'_>,
+) -> Result<Checkpoint, CheckpointError>
     ensures { IsParsed checkpoint_value (parts_read reader.old) reader.new result }
 {
     let beginning = read_beginning(reader)?;

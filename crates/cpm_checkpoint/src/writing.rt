@@ -2,9 +2,9 @@
 
 ghost use Rattle.std.specs.Prelude.{◌≡◌, ◌<◌, ◌≤◌, ◌^◌, ◌++◌, IfOk, OnOk, length, option_map};
 ghost use Rattle.std.specs.List.{AllByRecursion, flat_map};
-ghost use Rattle.cpm_checkpoint.specs.CheckpointBytes.{AreByteValues, IsCheckpoint, IsByteRun, IsSession, IsSessionIfAny};
-ghost use Rattle.cpm_checkpoint.specs.CheckpointBytes.{checkpoint_bytes, checkpoint_value, checkpoint_magic, marked_bytes, most_sessions};
-ghost use Rattle.cpm_checkpoint.specs.CheckpointBytes.{long, run, session_bytes, session_value, session_values, checkpoint_version};
+ghost use Rattle.cpm_checkpoint.specs.CheckpointBytes.{AreByteValues, IsByteRun, IsCheckpoint, IsSession, IsSessionIfAny};
+ghost use Rattle.cpm_checkpoint.specs.CheckpointBytes.{checkpoint_bytes, checkpoint_magic, checkpoint_value, marked_bytes, most_sessions};
+ghost use Rattle.cpm_checkpoint.specs.CheckpointBytes.{checkpoint_version, long, run, session_bytes, session_value, session_values};
 
 use crate::checkpoint::{Checkpoint, CheckpointSession};
 use std::alloc::{AllocError, Global};

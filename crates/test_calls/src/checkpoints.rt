@@ -1,8 +1,10 @@
 //! Checkpoints: one that was laid out by hand from the tables of docs/SAVED.md, each cut of it, and each length that lies.
 
+ghost use Rattle.std.specs.Prelude.{◌<◌};
+
 use crate::same::{same, same_at};
 use cpm_checkpoint::laws::{read_is_written, written_is_read};
-use cpm_checkpoint::{Checkpoint, CheckpointError, CheckpointSession};
+use cpm_checkpoint::{Checkpoint, CheckpointError, CheckpointSession, MOST_SESSIONS};
 use std::alloc::{AllocError, Global};
 use std::process::Abort;
 use std::test::Fail;
@@ -69,6 +71,7 @@ fn is_damaged(rt: &impl Abort, alloc: Global, case: usize, bytes: &[u8], at: usi
 #[test]
 fn the_example_is_written(rt: HostRuntime) -> Result<(), Fail> {
     let checkpoint = example(rt.alloc())?;
+    assert!(rt; checkpoint.sessions.len() <= MOST_SESSIONS);
     let bytes = checkpoint.bytes(rt.alloc())?;
     same(&rt, bytes.as_slice(), EXAMPLE.as_slice());
     Ok(())
