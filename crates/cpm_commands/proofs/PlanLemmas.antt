@@ -11,7 +11,7 @@ use Rattle.cpm_batch.specs.Outputs.{SessionOutput, files_of, files_of_all, image
 use Rattle.cpm_batch.specs.Reads.{AreImagesRead, AreInputsRead, AreRead, IsForkedSaidRead, IsInputReadOf, IsSaidRead}
 use Rattle.cpm_checkpoint.specs.declared.checkpoint.Checkpoint.{Checkpoint}
 use Rattle.cpm_command_line.specs.declared.task.RunTask.{RunTask}
-use Rattle.cpm_config.specs.Files.{NamedFile, all_named, all_named_if_any, named_if_any, output_files}
+use Rattle.cpm_config.specs.Files.{OutputName, all_named, all_named_if_any, named_if_any, output_files}
 use Rattle.cpm_config.specs.Rules.{texts_of_strings}
 use Rattle.cpm_config.specs.declared.config.Config.{Config}
 use Rattle.cpm_config.specs.declared.config.Origin.{Origin}
@@ -111,10 +111,10 @@ module _ (P : StoreName → Type 0) where
       image_such role (option_map string_bytes (slice_get names place)) (slice_index_or drives place None) (name_such role names place such)
 
   -- the files of a session, by the list that names them
-  AreSuchNamed : List NamedFile → Type 0
+  AreSuchNamed : List OutputName → Type 0
   AreSuchNamed fs = AreSuch (map planned_file fs)
 
-  named_apart : (fs gs : List NamedFile) → AreSuchNamed (fs ++ gs) → AreSuchNamed fs × AreSuchNamed gs
+  named_apart : (fs gs : List OutputName) → AreSuchNamed (fs ++ gs) → AreSuchNamed fs × AreSuchNamed gs
   named_apart [] gs such = (tt, such)
   named_apart (f ∷ fs) gs such = let rest = named_apart fs gs such.1 in ((such.0, rest.0), rest.1)
 

@@ -6,7 +6,7 @@ use Rattle.cpm_batch.specs.Sources.{key_file, key_source}
 use Rattle.cpm_batch.specs.declared.source.Replay.{Replay}
 use Rattle.cpm_checkpoint.specs.declared.checkpoint.Checkpoint.{Checkpoint}
 use Rattle.cpm_command_line.specs.declared.task.RunTask.{RunTask}
-use Rattle.cpm_config.specs.Files.{NamedFile, output_files}
+use Rattle.cpm_config.specs.Files.{OutputName, output_files}
 use Rattle.cpm_config.specs.Rules.{IsRead, session_view}
 use Rattle.cpm_config.specs.declared.config.Config.{Config}
 use Rattle.cpm_config.specs.declared.config.Origin.{Origin}
@@ -69,7 +69,7 @@ role_of field.Out = Image
 role_of field.Save = Saving
 role_of key = Plain
 
-abbrev pub planned_file : NamedFile → PlannedName
+abbrev pub planned_file : OutputName → PlannedName
 planned_file f = planned f.name (role_of f.key)
 
 -- what it writes
@@ -122,15 +122,15 @@ pub record IsAsked (tells_name : StoreName → Bool → Type 0) (stood : Option 
 -- ---- the run
 
 -- its sessions ran so
-pub record HasRunAll {F : Type 0} (store : StoreActs F) (tells_name : F → StoreName → Bool → Type 0) (stood : Option Checkpoint) (task : RunTask) (config : Config)
-    (replays : List Replay) (scripts : List (String Global)) (report : Report) (io : Streams) (old new : F) : Type 0 where
+pub record HasRunAll {F : Type 0} (store : StoreActs F) (tells_name : F → StoreName → Bool → Type 0) (stood : Option Checkpoint)
+    (task : RunTask) (config : Config) (replays : List Replay) (scripts : List (String Global)) (report : Report) (io : Streams) (old new : F) : Type 0 where
   pub options : RunOptions
   pub asked : IsAsked (tells_name old) stood task config.sessions.items replays scripts options
   pub ran : HasRun store config options report io old new
 
 -- the run was refused, and has come so far
-pub record IsRunRefused {F : Type 0} (store : StoreActs F) (tells_name : F → StoreName → Bool → Type 0) (stood : Option Checkpoint) (task : RunTask) (config : Config)
-    (replays : List Replay) (scripts : List (String Global)) (io : Streams) (old new : F) (e : HostError) : Type 0 where
+pub record IsRunRefused {F : Type 0} (store : StoreActs F) (tells_name : F → StoreName → Bool → Type 0) (stood : Option Checkpoint)
+    (task : RunTask) (config : Config) (replays : List Replay) (scripts : List (String Global)) (io : Streams) (old new : F) (e : HostError) : Type 0 where
   pub options : RunOptions
   pub asked : IsAsked (tells_name old) stood task config.sessions.items replays scripts options
   pub error : RunError
@@ -138,8 +138,8 @@ pub record IsRunRefused {F : Type 0} (store : StoreActs F) (tells_name : F → S
   pub stopped : IsRunRefusal store config options io old new error
 
 -- or memory was refused before it, and nothing was read or written
-abbrev pub IsRunAllStopped : {F : Type 0} → StoreActs F → (F → StoreName → Bool → Type 0) → Option Checkpoint → RunTask → Config → List Replay → List (String Global) → Streams
-    → F → F → HostError → Type 0
+abbrev pub IsRunAllStopped : {F : Type 0} → StoreActs F → (F → StoreName → Bool → Type 0) → Option Checkpoint → RunTask → Config → List Replay
+    → List (String Global) → Streams → F → F → HostError → Type 0
 IsRunAllStopped {F} store tells_name stood task config replays scripts io old new e =
     ((e ≡ OutOfMemory) × (new ≡ old) × AreUntouched io) ⊎ IsRunRefused store tells_name stood task config replays scripts io old new e
 
@@ -176,8 +176,8 @@ pub record IsRunPrepared {F : Type 0} (does : F → StoreAccess → F → Type 0
 -- And then its sessions ran, what they left got its names, and each is reported; the bytes at which one ended that are no instruction were told; and the
 -- record of what was typed was ended.
 pub record HasRunSessions {F : Type 0} (store : StoreActs F) (sees_to : F → Plan → Option HostError → F → Type 0)
-    (gives_names : F → Option HostError → F → Type 0) (tells_name : F → StoreName → Bool → Type 0) (stood : Option Checkpoint) (ended : Option HostError → Type 0)
-    (told : List SessionReport → Type 0) (task : RunTask) (old new : F) (unread left : TypingState)
+    (gives_names : F → Option HostError → F → Type 0) (tells_name : F → StoreName → Bool → Type 0) (stood : Option Checkpoint)
+    (ended : Option HostError → Type 0) (told : List SessionReport → Type 0) (task : RunTask) (old new : F) (unread left : TypingState)
     (before printed unrecorded record_now : Option (List ℕ)) : Type 0 where
   pub config : Config
   pub replays : List Replay
@@ -195,8 +195,8 @@ pub record HasRunSessions {F : Type 0} (store : StoreActs F) (sees_to : F → Pl
 
 -- How far it came that was refused. Before its sessions ran no stream was read or written. Once they ran the record of what was typed was ended.
 pub data IsRunStopped {F : Type 0} (store : StoreActs F) (sees_to : F → Plan → Option HostError → F → Type 0)
-    (gives_names : F → Option HostError → F → Type 0) (tells_name : F → StoreName → Bool → Type 0) (stood : Option Checkpoint) (ended : Option HostError → Type 0)
-    (told : List SessionReport → Type 0) (task : RunTask) (old new : F) (unread left : TypingState)
+    (gives_names : F → Option HostError → F → Type 0) (tells_name : F → StoreName → Bool → Type 0) (stood : Option Checkpoint)
+    (ended : Option HostError → Type 0) (told : List SessionReport → Type 0) (task : RunTask) (old new : F) (unread left : TypingState)
     (before printed unrecorded record_now : Option (List ℕ)) (e : HostError) : Type 0 where
   -- it has no configuration
   NoConfig : IsConfigRefused store.does task.config.now old new e → AreUntouched (streams unread left before printed unrecorded record_now)

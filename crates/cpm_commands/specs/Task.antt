@@ -44,7 +44,8 @@ pub record FileActs (F : Type 0) : Type 1 where
   pub lists : F → StoreName → List StoreName → Type 0
   pub unlists : F → StoreName → HostError → Type 0
 
--- where the sessions of a run stood, how the record of what is typed ended, and what was told: of files that are left out of drives, and at last of a program, and of sessions
+-- where the sessions of a run stood; how the record of what is typed ended; and what was told: of files that are left out of drives, and at last of a
+-- program, and of sessions
 pub record ToldActs : Type 1 where
   pub stood : Option Checkpoint
   pub ended : Option HostError → Type 0

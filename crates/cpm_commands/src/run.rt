@@ -301,12 +301,12 @@ fn run_asked<'a, F: CommandFiles, P: Typist, W: Write, R: KeyRecord, T: Sessions
     record: &mut R,
     watcher: &mut T,
 ) -> Result<Report, HostError>
-    ensures ran { IfOk result (λ report. HasRunAll (record { does = F.does; files = F.files }) F.tells_name (option_map (λ c. c.now) stood.entry) task.now config.now
-        replays.entry.now scripts.entry.now report
+    ensures ran { IfOk result (λ report. HasRunAll (record { does = F.does; files = F.files }) F.tells_name
+        (option_map (λ c. c.now) stood.entry) task.now config.now replays.entry.now scripts.entry.now report
         (streams (P.typing typist.old) (P.typing typist.new) (W.contents out.old) (W.contents out.new) (R.contents «record».old) (R.contents «record».new))
         files.old files.new) }
-    ensures refusal { IfErr result (IsRunAllStopped (record { does = F.does; files = F.files }) F.tells_name (option_map (λ c. c.now) stood.entry) task.now config.now
-        replays.entry.now scripts.entry.now
+    ensures refusal { IfErr result (IsRunAllStopped (record { does = F.does; files = F.files }) F.tells_name
+        (option_map (λ c. c.now) stood.entry) task.now config.now replays.entry.now scripts.entry.now
         (streams (P.typing typist.old) (P.typing typist.new) (W.contents out.old) (W.contents out.new) (R.contents «record».old) (R.contents «record».new))
         files.old files.new) }
 {
@@ -339,12 +339,12 @@ fn run_all<F: CommandFiles, P: Typist, W: Write, R: KeyRecord, T: SessionsWatche
     record: &mut R,
     watcher: &mut T,
 ) -> Result<Report, HostError>
-    ensures ran { IfOk result (λ report. HasRunAll (record { does = F.does; files = F.files }) F.tells_name (option_map (λ c. c.now) stood.entry) task.now config.now
-        replays.now scripts.now report
+    ensures ran { IfOk result (λ report. HasRunAll (record { does = F.does; files = F.files }) F.tells_name
+        (option_map (λ c. c.now) stood.entry) task.now config.now replays.now scripts.now report
         (streams (P.typing typist.old) (P.typing typist.new) (W.contents out.old) (W.contents out.new) (R.contents «record».old) (R.contents «record».new))
         files.old files.new) }
-    ensures refusal { IfErr result (IsRunAllStopped (record { does = F.does; files = F.files }) F.tells_name (option_map (λ c. c.now) stood.entry) task.now config.now
-        replays.now scripts.now
+    ensures refusal { IfErr result (IsRunAllStopped (record { does = F.does; files = F.files }) F.tells_name
+        (option_map (λ c. c.now) stood.entry) task.now config.now replays.now scripts.now
         (streams (P.typing typist.old) (P.typing typist.new) (W.contents out.old) (W.contents out.new) (R.contents «record».old) (R.contents «record».new))
         files.old files.new) }
 {
@@ -372,11 +372,13 @@ pub fn run_sessions<
     watcher: &mut T,
 ) -> Result<(), HostError>
     ensures ran { OnOk result (HasRunSessions (record { does = F.does; files = F.files }) F.sees_to F.gives_names F.tells_name
-        (option_map (λ c. c.now) stood.entry) (HasEndedRecord R.ends R.contents (R.contents «record».new) «record».new) (λ sessions. HasToldIllegal T.tells sessions watcher.new)
+        (option_map (λ c. c.now) stood.entry)
+        (HasEndedRecord R.ends R.contents (R.contents «record».new) «record».new) (λ sessions. HasToldIllegal T.tells sessions watcher.new)
         task.now files.old files.new (P.typing typist.old) (P.typing typist.new) (W.contents out.old) (W.contents out.new)
         (R.contents «record».old) (R.contents «record».new)) }
     ensures refusal { IfErr result (IsRunStopped (record { does = F.does; files = F.files }) F.sees_to F.gives_names F.tells_name
-        (option_map (λ c. c.now) stood.entry) (HasEndedRecord R.ends R.contents (R.contents «record».new) «record».new) (λ sessions. HasToldIllegal T.tells sessions watcher.new)
+        (option_map (λ c. c.now) stood.entry)
+        (HasEndedRecord R.ends R.contents (R.contents «record».new) «record».new) (λ sessions. HasToldIllegal T.tells sessions watcher.new)
         task.now files.old files.new (P.typing typist.old) (P.typing typist.new) (W.contents out.old) (W.contents out.new)
         (R.contents «record».old) (R.contents «record».new)) }
 {

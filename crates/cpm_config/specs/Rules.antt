@@ -9,7 +9,7 @@ use Rattle.toml.specs.Parse.{parse_document}
 use Rattle.cpm_flags.specs.declared.regs.Cpu.{Cpu}
 use Rattle.cpm_flags.specs.declared.regs.Cpu.TheVariants.{I8080, Z80}
 use Rattle.cpm_config.specs.Entries.{ConfigEntries, OriginEntries, Opens, Forks, Restores, SessionEntries, Text, config_in, config_key, top}
-use Rattle.cpm_config.specs.Files.{NamedFile, output_files}
+use Rattle.cpm_config.specs.Files.{OutputName, output_files}
 use Rattle.cpm_config.specs.declared.config.Config.{Config}
 use Rattle.cpm_config.specs.declared.config.Origin.{Origin}
 use Rattle.cpm_config.specs.declared.config.Origin.TheVariants as origin
@@ -212,7 +212,7 @@ session_names n [] = []
 session_names n (s ∷ ss) = (config_key n field.Name, s.name) ∷ session_names (n + 1) ss
 
 -- the name of a file of the session with this number
-abbrev pub file_placed : ℕ → NamedFile → PlacedName
+abbrev pub file_placed : ℕ → OutputName → PlacedName
 file_placed n f = (config_key n f.key, f.name)
 
 -- the files that a session writes

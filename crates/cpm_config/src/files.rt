@@ -1,6 +1,6 @@
 //! The files that a session writes, in one list.
 ghost use Rattle.std.specs.Prelude.{◌≡◌, ◌++◌, ◌∷◌, [], IfOk, OnOk, map, option_map, string_bytes};
-ghost use Rattle.cpm_config.specs.Files.{all_named, all_named_if_any, file_view, named_file, named_if_any, output_files};
+ghost use Rattle.cpm_config.specs.Files.{all_named, all_named_if_any, file_view, named_output_at, named_if_any, output_files};
 ghost use Rattle.cpm_config.specs.Rules.{session_view, texts_of_strings};
 
 use crate::config::SessionConfig;
@@ -17,7 +17,7 @@ pub struct SessionFile<'a> {
 
 /// Adds a file.
 fn add<'a>(files: &mut Vec<SessionFile<'a>>, key: Field, name: &'a str) -> Result<(), AllocError>
-    ensures { OnOk result (map file_view files.new.items ≡ map file_view files.old.items ++ named_file key name.now ∷ []) }
+    ensures { OnOk result (map file_view files.new.items ≡ map file_view files.old.items ++ named_output_at key name.now ∷ []) }
 {
     files.push(SessionFile { key, name })?;
     Ok(())

@@ -80,11 +80,11 @@ abbrev pub HasAppended : (before after : Option (List ℕ)) → (List ℕ → Ty
 HasAppended before after IsSuch = (text : List ℕ) × Appends before after text × IsSuch text
 
 -- it can't be written
-abbrev pub IsUnwritten : HostError → Type 0
-IsUnwritten (OutputUnwritable reason) = ⊤
-IsUnwritten _ = ⊥
+abbrev pub IsOutputRefused : HostError → Type 0
+IsOutputRefused (OutputUnwritable reason) = ⊤
+IsOutputRefused _ = ⊥
 
 -- all of it can't be written; or memory was refused, and nothing is
 abbrev pub IsUntold : {W : Type 0} → (before after : W) → HostError → Type 0
 IsUntold before after OutOfMemory = after ≡ before
-IsUntold before after e = IsUnwritten e
+IsUntold before after e = IsOutputRefused e

@@ -2,7 +2,7 @@
 ghost use Rattle.std.specs.Prelude.{◌≡◌, IfErr, IfOk, OnOk, string_bytes};
 ghost use Rattle.std.specs.Io.KnownBytes.{Appends};
 ghost use Rattle.cpm_batch.specs.Savings.{saving_view};
-ghost use Rattle.cpm_host.specs.SavedText.{AreDrivesTold, HasAppended, IsDriveToldIfAny, IsSavedTold, IsUntold, IsUnwritten, machine_text};
+ghost use Rattle.cpm_host.specs.SavedText.{AreDrivesTold, HasAppended, IsDriveToldIfAny, IsSavedTold, IsUntold, IsOutputRefused, machine_text};
 ghost use Rattle.cpm_host.specs.SavedText.{processor_word, program_words, waiting_words};
 
 use crate::error::HostError;
@@ -64,7 +64,7 @@ fn machine_text(alloc: Global, saved: &SavedMachine) -> Result<String, AllocErro
 /// Writes a text.
 fn write_text<W: Write>(out: &mut W, text: &[u8]) -> Result<(), HostError>
     ensures written { OnOk result (Appends (W.contents out.old) (W.contents out.new) text.now) }
-    ensures refusal { IfErr result IsUnwritten }
+    ensures refusal { IfErr result IsOutputRefused }
 {
     match out.write_all(text) {
         Ok(()) => Ok(()),

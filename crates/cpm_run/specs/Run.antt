@@ -139,7 +139,7 @@ pub record IsLeftFrom (system : Disk) (inputs : List SettledSession) (standing :
   pub savings : AreRestorable system (rest_if inputs from)
 
 -- so it is where this was given of where they stood
-pub record IsLeftBy (system : Disk) (given : Option Checkpoint) (inputs : List SettledSession) (reports : List ReportEntry) (left : List SessionOutput)
+pub record IsLeftAsGiven (system : Disk) (given : Option Checkpoint) (inputs : List SettledSession) (reports : List ReportEntry) (left : List SessionOutput)
     : Type 0 where
   pub from : Option RunStanding
   pub kept : IsKeptBy given from

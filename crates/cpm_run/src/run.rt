@@ -7,7 +7,7 @@ ghost use Rattle.cpm_store.specs.Writes.{StopsAt, named_output};
 ghost use Rattle.cpm_batch.specs.Outputs.{left_by};
 ghost use Rattle.cpm_run.specs.Playing.{ArePressable, IsSlotRefusal};
 ghost use Rattle.cpm_run.specs.Refusing.{IsDeviceFault, IsRunRefusal, IsWriteRefusal};
-ghost use Rattle.cpm_run.specs.Run.{HasPlayedAll, HasRun, HasWrittenOutputs, IsLeftBy, config_fault, report_view, top_fault};
+ghost use Rattle.cpm_run.specs.Run.{HasPlayedAll, HasRun, HasWrittenOutputs, IsLeftAsGiven, config_fault, report_view, top_fault};
 ghost use Rattle.cpm_run.specs.Settled.{settled_view, starts_of, streams};
 ghost use Rattle.cpm_run.specs.Settling.{AreSound};
 
@@ -92,7 +92,7 @@ fn play_sessions<'a, T: RunWatcher>(
     requires quantum { 1 ≤ config.now.quantum }
     requires keys { ArePressable system (map settled_view inputs.items) }
     requires sessions { map (λ i. i.session) (map settled_view inputs.items) ≡ config.now.sessions.items }
-    ensures left { IfOk result (λ p. IsLeftBy system (option_map (λ c. c.now) options.entry.kept) (map settled_view inputs.entry.items)
+    ensures left { IfOk result (λ p. IsLeftAsGiven system (option_map (λ c. c.now) options.entry.kept) (map settled_view inputs.entry.items)
         (map report_view p.0.items) (map left_by p.1.items)) }
     ensures refusal { IfErr result (IsSlotRefusal config.entry.now.sessions.items (new_host system config.entry.now.frames)
         (starts_of (map settled_view inputs.entry.items))) }

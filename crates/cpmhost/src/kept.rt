@@ -3,9 +3,11 @@
 use crate::files::{unreadable, unwritable};
 use crate::held::{LockableFiles, Mark};
 use crate::output::{Outputs, PERMISSIONS};
+use crate::patient::PatientError;
+use crate::refused::PathLine;
 use cpm_checkpoint::{Checkpoint, CheckpointError};
 use cpm_host::{HostError, Task, shown};
-use std::io::ErrorKind;
+use std::io::{ErrorKind, Write};
 use std::{fs, io};
 
 /// The file of a run's checkpoints.
@@ -53,11 +55,6 @@ impl CheckpointFile {
         }))
     }
 
-    /// The name of the file.
-    pub fn name(&self) -> &str {
-        self.name.as_str()
-    }
-
     /// The checkpoint in the file, if it is there. It is refused where the file has something else.
     pub fn load(&mut self, rt: &impl LockableFiles) -> Result<Option<Checkpoint>, HostError> {
         let bytes = match fs::read(rt, self.name.as_str()) {
@@ -97,20 +94,35 @@ impl CheckpointFile {
         self.done.saturating_sub(self.last) >= self.every
     }
 
-    /// Keeps one, whole, in place of that before. Why it can't is told the first time only.
-    pub fn write(&mut self, rt: &impl LockableFiles, bytes: &[u8]) -> Result<(), io::Error> {
+    /// Keeps one, whole, in place of that before. Why it can't is told the first time.
+    pub fn keep(&mut self, rt: &impl LockableFiles, bytes: &[u8]) {
         self.last = self.done;
-        let written = self.try_write(rt, bytes);
-        if written.is_ok() {
-            self.mark = Mark::at(rt, self.name.as_str()).ok();
-            self.has_failed = false;
-            return Ok(());
+        match self.try_write(rt, bytes) {
+            Ok(()) => {
+                self.mark = Mark::at(rt, self.name.as_str()).ok();
+                self.has_failed = false;
+            }
+            Err(reason) if !self.has_failed => {
+                self.has_failed = true;
+                let path = PathLine(self.name.as_str());
+                let _ = eprintln!(PatientError::new(rt);
+                    "cpmhost: can't keep where the sessions stand in '{path}': {reason}"
+                );
+            }
+            Err(_) => {}
         }
-        if self.has_failed {
-            return Ok(());
-        }
-        self.has_failed = true;
-        written
+    }
+
+    /// Tells whether a run goes on from the checkpoint in the file, which may be another's.
+    pub fn tell_kept(&self, rt: &impl LockableFiles, goes_on: bool) {
+        let path = PathLine(self.name.as_str());
+        let _ = if goes_on {
+            eprintln!(PatientError::new(rt); "cpmhost: goes on from '{path}'")
+        } else {
+            eprintln!(PatientError::new(rt);
+                "cpmhost: '{path}' is of another run, so this one begins anew"
+            )
+        };
     }
 
     fn try_write(&self, rt: &impl LockableFiles, bytes: &[u8]) -> io::Result<()> {
@@ -135,5 +147,16 @@ impl CheckpointFile {
         {
             let _ = fs::remove_file(rt, self.name.as_str());
         }
+    }
+}
+
+/// The checkpoint from which a run goes on, if it keeps any and there is one.
+pub fn load_if_any(
+    rt: &impl LockableFiles,
+    checkpoints: &mut Option<CheckpointFile>,
+) -> Result<Option<Checkpoint>, HostError> {
+    match checkpoints {
+        Some(file) => file.load(rt),
+        None => Ok(None),
     }
 }

@@ -150,17 +150,13 @@ impl<'a, R: LockableFiles> Teller<'a, R> {
         }
     }
 
-    /// Tells a person that the disks at which one typed are written nowhere.
-    pub fn tell_dropped_disks(&mut self) {
-        if self.is_read() {
+    /// Ends a task that was done: tells a person where disks at which one typed are written nowhere; and a run needs its checkpoints no more.
+    pub fn end_task(&mut self, drops_disks: bool) {
+        if drops_disks && self.is_read() {
             self.tell(
                 &"hint: its disks are dropped; --out-disk IMAGE or --out-folder FOLDER keeps them",
             );
         }
-    }
-
-    /// Ends the checkpoints of a run that has ended: they are needed no more.
-    pub fn end_checkpoints(&mut self) {
         if let Some(checkpoints) = &self.checkpoints {
             checkpoints.remove(self.rt);
         }
@@ -334,17 +330,9 @@ impl<R: LockableFiles> RunWatcher for Teller<'_, R> {
 
     fn tell_kept(&mut self, goes_on: bool) {
         self.end_stage();
-        let Some(checkpoints) = &self.checkpoints else {
-            return;
-        };
-        let path = PathLine(checkpoints.name());
-        let _ = if goes_on {
-            eprintln!(PatientError::new(self.rt); "cpmhost: goes on from '{path}'")
-        } else {
-            eprintln!(PatientError::new(self.rt);
-                "cpmhost: '{path}' is of another run, so this one begins anew"
-            )
-        };
+        if let Some(checkpoints) = &self.checkpoints {
+            checkpoints.tell_kept(self.rt, goes_on);
+        }
     }
 
     fn wants_checkpoint(&self) -> bool {
@@ -355,16 +343,9 @@ impl<R: LockableFiles> RunWatcher for Teller<'_, R> {
     }
 
     fn keep_checkpoint(&mut self, bytes: &[u8]) {
-        let Some(checkpoints) = &mut self.checkpoints else {
-            return;
-        };
-        let Err(reason) = checkpoints.write(self.rt, bytes) else {
-            return;
-        };
-        let path = PathLine(checkpoints.name());
-        let _ = eprintln!(PatientError::new(self.rt);
-            "cpmhost: can't keep where the sessions stand in '{path}': {reason}"
-        );
+        if let Some(checkpoints) = &mut self.checkpoints {
+            checkpoints.keep(self.rt, bytes);
+        }
     }
 }
 

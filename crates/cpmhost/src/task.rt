@@ -6,7 +6,7 @@ use crate::batch::Batch;
 use crate::bounds::FileRules;
 use crate::files::MachineFiles;
 use crate::held::LockableFiles;
-use crate::kept::CheckpointFile;
+use crate::kept::{CheckpointFile, load_if_any};
 use crate::output::Outputs;
 use crate::paced::PacedTypist;
 use crate::patient::{PatientInput, PatientOutput, StandardInput};
@@ -142,10 +142,7 @@ fn do_over<'a, R: LockableFiles + StandardInput, P: Typist>(
     let form = Form::of(has_progress(task), terminals.is_error_terminal);
     let pace = pace_of_program(task);
     let mut checkpoints = CheckpointFile::of(rt, outputs, task)?;
-    let stood = match &mut checkpoints {
-        Some(file) => file.load(rt)?,
-        None => None,
-    };
+    let stood = load_if_any(rt, &mut checkpoints)?;
     let mut teller = Teller::new(
         rt,
         form,
@@ -173,11 +170,8 @@ fn do_over<'a, R: LockableFiles + StandardInput, P: Typist>(
     if has_shown_escape.get() && takes_raw(task) {
         teller.tell_shown_escape();
     }
-    if done.is_ok() && drops_disks(task) {
-        teller.tell_dropped_disks();
-    }
     if done.is_ok() {
-        teller.end_checkpoints();
+        teller.end_task(drops_disks(task));
     }
     done
 }
