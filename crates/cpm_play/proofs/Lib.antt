@@ -24,4 +24,6 @@ pub mod CuedLemmas
 pub mod FollowLemmas
 pub mod PlainLemmas
 pub mod WantingLemmas
+pub mod CreditLemmas
 pub mod PollLemmas
+pub mod LiveEndLemmas

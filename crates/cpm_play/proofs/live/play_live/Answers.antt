@@ -6,7 +6,8 @@ use Rattle.cpm_play.specs.Sitting.{sitting}
 use Rattle.cpm_play.specs.Typist.{IsHeard}
 use Rattle.cpm_play.specs.declared.typist.Heard.TheVariants as heard
 use Rattle.cpm_play.proofs.GoingLemmas.{going-ending, going-given, going-left, going-printed, going-shown, going-waiting}
-use Rattle.cpm_play.proofs.LiveLemmas.{listened-failed, listened-still, live-done, live-ended, live-key, live-not-given, live-quit, live-start, live-still, live-turn, live-unheard, live-unshown, live-watched, fewer-asks, is-wanted, not-wanted, patient-wanted, room-used, takes-first}
+use Rattle.cpm_play.proofs.LiveEndLemmas.{fewer-asks, room-used, takes-first}
+use Rattle.cpm_play.proofs.LiveLemmas.{listened-failed, listened-still, live-done, live-ended, live-key, live-not-given, live-quit, live-start, live-still, live-turn, live-unheard, live-unshown, live-watched, is-wanted, not-wanted, patient-wanted}
 use Rattle.cpm_play.proofs.PollLemmas.{leaves-least}
 use Rattle.cpm_play.proofs.WantingLemmas.{busy-here, few-here, idle-here, none-here, wanted-here}
 use Rattle.cpm_play.proofs.live.play_live.Goals as goal

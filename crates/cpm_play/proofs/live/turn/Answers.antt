@@ -1,5 +1,5 @@
 use Rattle.std.proofs.Common.{◌<◌, arith}
-use Rattle.cpm_play.proofs.LiveLemmas.{not-moved, unmoved}
+use Rattle.cpm_play.proofs.LiveEndLemmas.{not-moved, unmoved}
 use Rattle.cpm_play.proofs.PollLemmas.{turn-counted}
 use Rattle.cpm_play.proofs.WantingLemmas.{turn-watched}
 use Rattle.cpm_play.proofs.live.turn.Goals as goal
