@@ -1,8 +1,9 @@
 -- Lines that are read, and replies that are written. All of it is own: docs/PROTOCOL.md.
-use Rattle.std.specs.Prelude.{⊤, ◌≡◌, ◌⊎◌, ℕ, ◌==◌, if◌then◌else◌, List, [], ◌∷◌, ◌++◌, map, take, Option, Some, None, IfSome, Vec}
+use Rattle.std.specs.Prelude.{⊤, ◌≡◌, ◌⊎◌, ℕ, ◌-◌, ◌==◌, ◌||◌, Bool, true, false, length, if◌then◌else◌}
+use Rattle.std.specs.Prelude.{List, [], ◌∷◌, ◌++◌, map, take, Option, Some, None, IfSome, Vec}
 use Rattle.std.specs.declared.alloc.Global.{Global}
-use Rattle.std.specs.Io.BufRead.{strip_last}
-use Rattle.std.specs.Io.KnownBytes.{Appends}
+use Rattle.std.specs.Io.BufRead.{drop_through, strip_last, take_through}
+use Rattle.std.specs.Io.KnownBytes.{Appends, Consumes}
 use Rattle.cpm_slots.specs.Host.{Host}
 use Rattle.cpm_serve.specs.Lines.{AreLinesServed, IsLineCut}
 
@@ -38,10 +39,32 @@ ReadsLines None new lines = ⊤
 ReadsLines (Some text) None lines = ⊥
 ReadsLines (Some text) (Some rest) lines = wire_lines text ≡ lines ++ wire_lines rest
 
--- the next line was read, with its newline, or there was none
+-- so many bytes are kept of a line with its newline: two more than a line may have, so that what is cut is too long
+abbrev pub most_kept : ℕ
+most_kept = 1048578
+
+abbrev pub has_newline : List ℕ → Bool
+has_newline [] = false
+has_newline (b ∷ bs) = (b == 0x0A) || has_newline bs
+
+-- Bytes were read on in a line, of which the first are kept: none of them is a newline, or the line ended. Then they are all up to and including its
+-- newline, or all that there are.
+pub record IsReadOn (old new : Option (List ℕ)) (line now : List ℕ) (ended : Bool) : Type 0 where
+  pub chunk : List ℕ
+  pub kept : now ≡ line ++ take (most_kept - length line) chunk
+  pub read : Consumes old new chunk
+  pub none : ended ≡ false → has_newline chunk ≡ false
+  pub end : ended ≡ true → IfSome old (λ text. (chunk ≡ take_through 0x0A text) × (new ≡ Some (drop_through 0x0A text)))
+
+-- the next line was read, with its newline, or there was none; the first bytes of it are kept
+pub record IsLineKept (old new : Option (List ℕ)) (kept : List ℕ) : Type 0 where
+  pub whole : List ℕ
+  pub read : ReadsLines old new (strip_last 0x0A whole ∷ [])
+  pub first : kept ≡ take most_kept whole
+
 abbrev pub IsLineRead : (old new : Option (List ℕ)) → Option (Vec ℕ Global) → Type 0
 IsLineRead old new None = IfSome old (λ text. wire_lines text ≡ [])
-IsLineRead old new (Some line) = ReadsLines old new (strip_last 0x0A line.items ∷ [])
+IsLineRead old new (Some line) = IsLineKept old new line.items
 
 -- A host was served all lines of a text, as far as it is known: each was served, and what was written is the replies, a line each.
 pub record HasTalked (input : Option (List ℕ)) (old new : Host) (before after : Option (List ℕ)) : Type 0 where

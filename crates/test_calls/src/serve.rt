@@ -342,3 +342,21 @@ fn lines_are_read_and_replies_written(rt: HostRuntime) {
         b"{\"slot\":0}\n{\"at\":1,\"error\":\"no JSON\"}\n{\"accepted\":3}\n",
     );
 }
+
+#[test]
+fn a_line_that_is_too_long_is_passed_over(rt: HostRuntime) {
+    let alloc = rt.alloc();
+    let mut server = server(&rt, alloc);
+    let mut text = vec![in alloc; b' '; 3 * MOST_LINE].expect(&rt, "memory");
+    text.extend_from_slice(b"\n{\"do\": \"look\"}\n")
+        .expect(&rt, "memory");
+    let mut input: &[u8] = &text;
+    let mut out = Vec::new(alloc);
+    let served = serve_lines(&mut server, alloc, &mut input, &mut out);
+    same(&rt, served.is_ok(), true);
+    same(
+        &rt,
+        out.as_slice(),
+        b"{\"error\":\"line too long\"}\n{\"error\":\"missing field\",\"field\":\"slot\"}\n",
+    );
+}
