@@ -79,7 +79,7 @@ fn tell_drive<W: Write>(
     drive: &Option<Image>,
     out: &mut W,
 ) -> Result<(), HostError>
-    ensures told { OnOk result (HasAppended (W.contents out.old) (W.contents out.new) (IsDriveToldIfAny letter.now drive.now)) }
+    ensures { OnOk result (HasAppended (W.contents out.old) (W.contents out.new) (IsDriveToldIfAny letter.now drive.now)) }
 {
     let Some(image) = drive else {
         return Ok(());
@@ -100,7 +100,7 @@ fn tell_drives<W: Write>(
     drives: &[Option<Image>; 4],
     out: &mut W,
 ) -> Result<(), HostError>
-    ensures told { OnOk result (HasAppended (W.contents out.old) (W.contents out.new) (AreDrivesTold drives.now)) }
+    ensures { OnOk result (HasAppended (W.contents out.old) (W.contents out.new) (AreDrivesTold drives.now)) }
 {
     let [first, second, third, fourth] = drives;
     tell_drive(alloc, "A", first, out)?;
@@ -111,7 +111,7 @@ fn tell_drives<W: Write>(
 
 /// Tells all of it.
 fn tell_machine<W: Write>(alloc: Global, saved: SavedMachine, out: &mut W) -> Result<(), HostError>
-    ensures told { OnOk result (HasAppended (W.contents out.old) (W.contents out.new) (IsSavedTold (saving_view saved))) }
+    ensures { OnOk result (HasAppended (W.contents out.old) (W.contents out.new) (IsSavedTold (saving_view saved))) }
 {
     let text = machine_text(alloc, &saved)?;
     write_text(out, text.as_bytes())?;
