@@ -1,7 +1,7 @@
 -- What is read and written was planned.
 use Rattle.std.specs.Prelude.{⊤, Vec, slice_get, slice_index_or}
 use Rattle.std.specs.List.{concat, flat_map, zip}
-use Rattle.std.proofs.Common.{◌≡◌, ◌∙◌, ◌&&◌, ◌==◌, ℕ, zero, suc, Bool, true, false, if◌then◌else◌, List, [], ◌∷◌, ◌++◌, ap, arith, drop, get_or, length, map, refl, string_bytes, subst, sym}
+use Rattle.std.proofs.Common.{◌≡◌, ◌∙◌, ◌&&◌, ◌==◌, ℕ, zero, suc, Bool, true, false, if◌then◌else◌, List, [], ◌∷◌, ◌++◌, ap, ap₂, arith, drop, get_or, length, map, refl, string_bytes, subst, sym}
 use Rattle.std.proofs.Common.{Option, is_some, Some, None, option_map, String, Global, All}
 use Rattle.std.proofs.lemmas.List.Elements.{All-append, All-cons, All-contains_itself, All-head, All-map, All-nil, All-tail}
 use Rattle.cpm_batch.specs.Inputs.{SessionInput, known_of, own_count}
@@ -26,7 +26,9 @@ use Rattle.cpm_host.specs.declared.error.HostError.{HostError}
 use Rattle.cpm_machine.specs.MachineState.{MachineState}
 use Rattle.cpm_machine.specs.Saving.{Saving}
 use Rattle.cpm_run.proofs.RunLemmas.{settled_sessions}
-use Rattle.cpm_run.specs.Run.{StoreActs, files_left, left_of, outputs_by, own_keys, record_of, record_outputs, run_of, session_output}
+use Rattle.cpm_run.proofs.RestLemmas.{same-sessions}
+use Rattle.cpm_run.specs.Rest.{RunStanding, SessionStanding, output_behind, outputs_behind, rest_of, stands_all, standing_at}
+use Rattle.cpm_run.specs.Run.{StoreActs, files_from, files_left, left_of, outputs_by, own_keys, record_of, record_outputs, run_of, session_output}
 use Rattle.cpm_run.specs.Settled.{SettledSession, Streams, streams}
 use Rattle.cpm_run.specs.declared.options.RecordFile.{RecordFile}
 use Rattle.cpm_run.specs.declared.report.Report.{Report}
@@ -52,6 +54,28 @@ use Rattle.cpm_commands.specs.declared.drives.PlacedFile.{PlacedFile}
 use Rattle.cpm_disk_commands.specs.declared.folder.HostFile.{HostFile}
 use Rattle.cpm_commands.specs.declared.plan.FileRole.{FileRole}
 use Rattle.cpm_commands.specs.declared.plan.FileRole.TheVariants.{Folder, Image, Plain, Saving as SavingFile, Script}
+
+-- ---- whose files are left
+
+whose-behind : (s : Option SessionStanding) (o : SessionOutput) → (output_behind s o).session ≡ o.session
+whose-behind None o = refl
+whose-behind (Some s) o = refl
+
+whose-all_behind : (ss : RunStanding) (os : List SessionOutput) → map (λ (o : SessionOutput). o.session) (outputs_behind ss os) ≡ map (λ (o : SessionOutput). o.session) os
+whose-all_behind ss [] = refl
+whose-all_behind ss (o ∷ os) = ap₂ (λ (x : SessionConfig) (xs : List SessionConfig). x ∷ xs) (whose-behind (standing_at ss 0) o) (whose-all_behind (drop 1 ss) os)
+
+whose-left : (system : Disk) (f left : SettledSession → MachineState) (ss : List SettledSession)
+    → map (λ (o : SessionOutput). o.session) (map (λ (s : SettledSession). session_output system s.session (f s) (left s)) ss) ≡ map (λ (s : SettledSession). s.session) ss
+whose-left system f left [] = refl
+whose-left system f left (s ∷ ss) = ap (λ (xs : List SessionConfig). s.session ∷ xs) (whose-left system f left ss)
+
+whose_from : (system : Disk) (ss : List SettledSession) (from : Option RunStanding)
+    → map (λ (o : SessionOutput). o.session) (files_from system ss from) ≡ map (λ (s : SettledSession). s.session) ss
+whose_from system ss None = whose-left system (run_of system ss) (left_of system ss) ss
+whose_from system ss (Some s) =
+    let rest = rest_of ss s in
+    whose-all_behind (stands_all s ss s) (files_left system rest) ∙ whose-left system (run_of system rest) (left_of system rest) rest ∙ same-sessions s ss s
 
 -- ---- names that are such
 
@@ -111,7 +135,7 @@ module _ (P : StoreName → Type 0) where
       image_such role (option_map string_bytes (slice_get names place)) (slice_index_or drives place None) (name_such role names place such)
 
   -- the files of a session, by the list that names them
-  AreSuchNamed : List OutputName → Type 0
+  abbrev AreSuchNamed : List OutputName → Type 0
   AreSuchNamed fs = AreSuch (map planned_file fs)
 
   named_apart : (fs gs : List OutputName) → AreSuchNamed (fs ++ gs) → AreSuchNamed fs × AreSuchNamed gs
@@ -153,15 +177,17 @@ module _ (P : StoreName → Type 0) where
       (files_joined (named_images s.out o.drives) (named_saving save_name o.saved) (images_such s.out o.drives behind.0)
       (saving_such SavingFile save_name o.saved (name_planned Save save_name behind.1))))
 
-  -- those that sessions leave
-  pub left_such : (system : Disk) (f left : SettledSession → MachineState) (ss : List SettledSession) → AreSuch (flat_map session_outputs (map (λ s. s.session) ss))
-      → AreSuchFiles (files_of_all (map (λ s. session_output system s.session (f s) (left s)) ss))
-  left_such system f left [] such = no_files
-  left_such system f left (s ∷ ss) such =
-      let rest = flat_map session_outputs (map (λ (x : SettledSession). x.session) ss) in
-      let output = session_output system s.session (f s) (left s) in
-      files_joined (files_of output) _ (files_such output (such_left (session_outputs s.session) rest such))
-      (left_such system f left ss (such_right (session_outputs s.session) rest such))
+  -- those that sessions leave, by whose they are
+  outputs_such : (os : List SessionOutput) → AreSuch (flat_map session_outputs (map (λ (o : SessionOutput). o.session) os)) → AreSuchFiles (files_of_all os)
+  outputs_such [] such = no_files
+  outputs_such (o ∷ os) such =
+      let rest = flat_map session_outputs (map (λ (x : SessionOutput). x.session) os) in
+      files_joined (files_of o) _ (files_such o (such_left (session_outputs o.session) rest such)) (outputs_such os (such_right (session_outputs o.session) rest such))
+
+  pub from_such : (system : Disk) (ss : List SettledSession) (from : Option RunStanding) → AreSuch (flat_map session_outputs (map (λ (s : SettledSession). s.session) ss))
+      → AreSuchFiles (files_of_all (files_from system ss from))
+  from_such system ss from such =
+      outputs_such (files_from system ss from) (subst (λ (cs : List SessionConfig). AreSuch (flat_map session_outputs cs)) (sym (whose_from system ss from)) such)
 
   -- the records of their keys
   unless : (b : Bool) (q : NamedBytes) → P q.0 → AreSuchFiles (if b then [] else q ∷ [])
@@ -288,10 +314,10 @@ run_calls store tells_name stood task config replays scripts report io old new h
     let named = all_planned Script (map string_bytes scripts) in
     let outputs = subst (λ (ss : List SessionConfig). AreSuch O (flat_map session_outputs ss)) (sym sessions)
     (such_left O all (recorded_to ++ named) outs) in
-    let files = left_such O parts.system (run_of parts.system parts.settled) (left_of parts.system parts.settled) parts.settled outputs in
+    let files = from_such O parts.system parts.settled parts.from outputs in
     let records = records_such O (is_some h.asked.kept) typed h.options.records.now parts.settled config.sessions.items scripts h.asked.records
     (such_right O recorded_to named (such_right O all (recorded_to ++ named) outs)) in
-    let written = all_written plan (outputs_by h.options parts) writing.0 writing.1 (files_joined O (files_of_all (files_left parts.system parts.settled)) _ files records) in
+    let written = all_written plan (outputs_by h.options parts) writing.0 writing.1 (files_joined O (files_of_all (files_from parts.system parts.settled parts.from)) _ files records) in
     (reading.0 ++ writing.0, joined plan (reading.0 ++ writing.0) reading.0 writing.0 refl read written, ran_more store.does reading.0 writing.0 old h.ran.between new reading.2 writing.2)
 
 pub runs_follow : {F : Type 0} (store : StoreActs F) (sees_to : F → Plan → Option HostError → F → Type 0) (gives_names : F → Option HostError → F → Type 0)

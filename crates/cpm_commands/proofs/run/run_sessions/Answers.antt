@@ -2,9 +2,14 @@ use Rattle.std.proofs.Common.{None, option_map, refl}
 use Rattle.std.proofs.lemmas.Result.{err_from_is_err_and}
 use Rattle.cpm_run.specs.Settled.{streams}
 use Rattle.cpm_commands.specs.Record.{HasEndedRecord}
-use Rattle.cpm_commands.specs.Run.IsRunStopped.{NoReplays, NotEnded, NotRecorded, NotRun}
+use Rattle.cpm_commands.specs.Run.IsRunStopped.{NoConfig, NoReplays, NotEnded, NotRecorded, NotRun}
 use Rattle.cpm_commands.proofs.RunLemmas.{all_stopped, both, done, ended_so, played, prepared, unseen}
 use Rattle.cpm_commands.proofs.run.run_sessions.Goals as goal
+
+pub returns-in_err-config-clause-refusal : goal.returns-in_err-config-clause-refusal
+returns-in_err-config-clause-refusal g c =
+    let p = err_from_is_err_and c.from_residual.result c.from_residual.ensures.1 in
+    rw (p.1, p.2) (NoConfig c.in_err-config.ensures.refusal (record { unread = refl; unwritten = refl; unrecorded = refl }))
 
 pub returns-in_err-replays-clause-refusal : goal.returns-in_err-replays-clause-refusal
 returns-in_err-replays-clause-refusal g c =
