@@ -17,7 +17,7 @@ use Rattle.cpm_command_line.specs.declared.fault.UsageError.TheVariants.{Usage, 
 use Rattle.cpm_command_line.specs.declared.fault.UsageFault.{UsageFault}
 use Rattle.cpm_command_line.specs.declared.task.DiskTask.{DiskTask}
 use Rattle.cpm_command_line.specs.declared.task.Task.{Task}
-use Rattle.cpm_command_line.specs.declared.task.Task.TheVariants.{Asm, Boot, Check, Com, Debug, Disk, Help, List as Listing, Run, Saved}
+use Rattle.cpm_command_line.specs.declared.task.Task.TheVariants.{Asm, Boot, Check, Com, Debug, Disk, Help, List as Listing, Run, Saved, Serve}
 use Rattle.cpm_command_line.specs.declared.usage.Page.{Page}
 use Rattle.cpm_command_line.specs.declared.usage.Page.TheVariants as page
 use Rattle.cpm_command_line.proofs.FilledRows.{same_bytes}
@@ -35,6 +35,7 @@ page_asks page.List = refl
 page_asks page.Check = refl
 page_asks page.Run = refl
 page_asks page.Debug = refl
+page_asks page.Serve = refl
 page_asks page.Saved = refl
 page_asks page.Disk = refl
 page_asks page.DiskNew = refl
@@ -61,6 +62,7 @@ host_task_of p words (Listing file cpu) e h = (e, h)
 host_task_of p words (Check image) e h = (e, h)
 host_task_of p words (Run task) e h = (e, h)
 host_task_of p words (Debug task) e h = (e, h)
+host_task_of p words (Serve task) e h = (e, h)
 host_task_of p words (Saved file) e h = (e, h)
 host_task_of p words (Disk task) e h = (e, h)
 host_task_of p words (Help q) e h = absurd (no_entries (subcommand_of host_app words) h)
@@ -129,6 +131,7 @@ module _ (words : List Text) (no_help : is_help_line words ≡ false) where
   host_line is (Check image) h = ((is, h.1), (no_help, faultless_line false is h.0))
   host_line is (Run task) h = ((is, h.1), (no_help, faultless_line false is h.0))
   host_line is (Debug task) h = ((is, h.1), (no_help, faultless_line false is h.0))
+  host_line is (Serve task) h = ((is, h.1), (no_help, faultless_line false is h.0))
   host_line is (Saved file) h = ((is, h.1), (no_help, faultless_line false is h.0))
   host_line is (Disk task) h = absurd (no_entries (subcommand_of host_app words) h.1)
   host_line is (Help q) h = (page_task false q is h.0 h.1, tt)
@@ -142,6 +145,7 @@ module _ (words : List Text) (no_help : is_help_line words ≡ false) where
   disk_line is (Check image) h = absurd h
   disk_line is (Run task) h = absurd h
   disk_line is (Debug task) h = absurd h
+  disk_line is (Serve task) h = absurd h
   disk_line is (Saved file) h = absurd h
   disk_line is (Disk task) h = ((is, h.1), (no_help, faultless_line true is h.0))
   disk_line is (Help q) h = (page_task true q is h.0 h.1, tt)
@@ -174,6 +178,7 @@ faultless_of words (Listing file cpu) f is h = h.1
 faultless_of words (Check image) f is h = h.1
 faultless_of words (Run task) f is h = h.1
 faultless_of words (Debug task) f is h = h.1
+faultless_of words (Serve task) f is h = h.1
 faultless_of words (Saved file) f is h = h.1
 faultless_of words (Disk task) f is h = h.1
 faultless_of words (Help q) f is h = absurd (let bad : ⊥ = cc in bad)

@@ -2,7 +2,7 @@
 use Rattle.std.proofs.Common.{◌≡◌, Bool, true, false, List, inl, inr, codes, subst, sym}
 use Rattle.std.specs.Str.{bytes_eq}
 use Rattle.clap.specs.Words.{Row, Text}
-use Rattle.cpm_command_line.specs.CommandLine.{IsWholeAsm, IsWholeCheck, IsWholeDebug, IsWholeList, IsWholeOf, IsWholePlay, IsWholeRun, IsWholeSaved}
+use Rattle.cpm_command_line.specs.CommandLine.{IsWholeAsm, IsWholeCheck, IsWholeDebug, IsWholeList, IsWholeOf, IsWholePlay, IsWholeRun, IsWholeSaved, IsWholeServe}
 use Rattle.cpm_command_line.specs.DiskLine.{IsWholeDiskOf, IsWholeGet, IsWholeListing, IsWholeNew, IsWholePut, IsWholeRemove, IsWholeRename}
 
 -- one of two claims
@@ -19,7 +19,8 @@ IsWholeAs name rows =
     (Chosen (bytes_eq name (codes "list")) (IsWholeList rows)
     (Chosen (bytes_eq name (codes "check")) (IsWholeCheck rows)
     (Chosen (bytes_eq name (codes "run")) (IsWholeRun rows)
-    (Chosen (bytes_eq name (codes "debug")) (IsWholeDebug rows) (IsWholeSaved rows)))))))
+    (Chosen (bytes_eq name (codes "debug")) (IsWholeDebug rows)
+    (Chosen (bytes_eq name (codes "serve")) (IsWholeServe rows) (IsWholeSaved rows))))))))
 
 pub whole_as : (p : Text × List Row) → IsWholeOf p → IsWholeAs p.0 p.1
 whole_as p (inl h) = subst (λ n. IsWholeAs n p.1) (sym h.0) h.1
@@ -29,20 +30,22 @@ whole_as p (inr (inr (inr (inl h)))) = subst (λ n. IsWholeAs n p.1) (sym h.0) h
 whole_as p (inr (inr (inr (inr (inl h))))) = subst (λ n. IsWholeAs n p.1) (sym h.0) h.1
 whole_as p (inr (inr (inr (inr (inr (inl h)))))) = subst (λ n. IsWholeAs n p.1) (sym h.0) h.1
 whole_as p (inr (inr (inr (inr (inr (inr (inl h))))))) = subst (λ n. IsWholeAs n p.1) (sym h.0) h.1
-whole_as p (inr (inr (inr (inr (inr (inr (inr h))))))) = subst (λ n. IsWholeAs n p.1) (sym h.0) h.1
+whole_as p (inr (inr (inr (inr (inr (inr (inr (inl h)))))))) = subst (λ n. IsWholeAs n p.1) (sym h.0) h.1
+whole_as p (inr (inr (inr (inr (inr (inr (inr (inr h)))))))) = subst (λ n. IsWholeAs n p.1) (sym h.0) h.1
 
 -- and of no other name than these it is the last one
 pub whole_last : (p : Text × List Row) → (p.0 ≡ codes "com" → ⊥) → (p.0 ≡ codes "boot" → ⊥) → (p.0 ≡ codes "asm" → ⊥) → (p.0 ≡ codes "list" → ⊥) → (p.0 ≡ codes "check" → ⊥)
-    → (p.0 ≡ codes "run" → ⊥) → (p.0 ≡ codes "debug" → ⊥) → IsWholeOf p
+    → (p.0 ≡ codes "run" → ⊥) → (p.0 ≡ codes "debug" → ⊥) → (p.0 ≡ codes "serve" → ⊥) → IsWholeOf p
     → (p.0 ≡ codes "saved") × IsWholeSaved p.1
-whole_last p no_com no_boot no_asm no_list no_check no_run no_debug (inl h) = absurd (no_com h.0)
-whole_last p no_com no_boot no_asm no_list no_check no_run no_debug (inr (inl h)) = absurd (no_boot h.0)
-whole_last p no_com no_boot no_asm no_list no_check no_run no_debug (inr (inr (inl h))) = absurd (no_asm h.0)
-whole_last p no_com no_boot no_asm no_list no_check no_run no_debug (inr (inr (inr (inl h)))) = absurd (no_list h.0)
-whole_last p no_com no_boot no_asm no_list no_check no_run no_debug (inr (inr (inr (inr (inl h))))) = absurd (no_check h.0)
-whole_last p no_com no_boot no_asm no_list no_check no_run no_debug (inr (inr (inr (inr (inr (inl h)))))) = absurd (no_run h.0)
-whole_last p no_com no_boot no_asm no_list no_check no_run no_debug (inr (inr (inr (inr (inr (inr (inl h))))))) = absurd (no_debug h.0)
-whole_last p no_com no_boot no_asm no_list no_check no_run no_debug (inr (inr (inr (inr (inr (inr (inr h))))))) = h
+whole_last p no_com no_boot no_asm no_list no_check no_run no_debug no_serve (inl h) = absurd (no_com h.0)
+whole_last p no_com no_boot no_asm no_list no_check no_run no_debug no_serve (inr (inl h)) = absurd (no_boot h.0)
+whole_last p no_com no_boot no_asm no_list no_check no_run no_debug no_serve (inr (inr (inl h))) = absurd (no_asm h.0)
+whole_last p no_com no_boot no_asm no_list no_check no_run no_debug no_serve (inr (inr (inr (inl h)))) = absurd (no_list h.0)
+whole_last p no_com no_boot no_asm no_list no_check no_run no_debug no_serve (inr (inr (inr (inr (inl h))))) = absurd (no_check h.0)
+whole_last p no_com no_boot no_asm no_list no_check no_run no_debug no_serve (inr (inr (inr (inr (inr (inl h)))))) = absurd (no_run h.0)
+whole_last p no_com no_boot no_asm no_list no_check no_run no_debug no_serve (inr (inr (inr (inr (inr (inr (inl h))))))) = absurd (no_debug h.0)
+whole_last p no_com no_boot no_asm no_list no_check no_run no_debug no_serve (inr (inr (inr (inr (inr (inr (inr (inl h)))))))) = absurd (no_serve h.0)
+whole_last p no_com no_boot no_asm no_list no_check no_run no_debug no_serve (inr (inr (inr (inr (inr (inr (inr (inr h)))))))) = h
 
 -- the entries are whole as those of the command of `disk` of this name
 abbrev pub IsWholeDiskAs : Text → List Row → Type 0

@@ -6,7 +6,7 @@ use Rattle.cpm_command_line.specs.Line.{HasUsers, IsTaskOf}
 use Rattle.cpm_command_line.specs.declared.task.DiskTask.{DiskTask}
 use Rattle.cpm_command_line.specs.declared.task.DiskTask.TheVariants.{Get, List as Listing, New, Put, Remove, Rename}
 use Rattle.cpm_command_line.specs.declared.task.Task.{Task}
-use Rattle.cpm_command_line.specs.declared.task.Task.TheVariants.{Asm, Boot, Check, Com, Debug, Disk, Help, List as Listed, Run, Saved}
+use Rattle.cpm_command_line.specs.declared.task.Task.TheVariants.{Asm, Boot, Check, Com, Debug, Disk, Help, List as Listed, Run, Saved, Serve}
 
 user_of : (given : Text × List Row) (task : DiskTask) → HasDiskEntriesOf given task → HasUser task
 user_of given (New image is_large) has = tt
@@ -31,5 +31,6 @@ users_of words (Listed file cpu) has = tt
 users_of words (Check image) has = tt
 users_of words (Run task) has = tt
 users_of words (Debug task) has = tt
+users_of words (Serve task) has = tt
 users_of words (Saved file) has = tt
 users_of words (Help page) has = tt

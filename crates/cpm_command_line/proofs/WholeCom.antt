@@ -9,7 +9,7 @@ use Rattle.clap.specs.Walk.{answers_to}
 use Rattle.clap.specs.Faults.{check_fault, entered_fault, fault_of, level_fault}
 use Rattle.clap.specs.declared.builder.value_parser.ValueParser.TheVariants as parser
 use Rattle.clap.proofs.ValueTestLemmas.{accepts-Accepts}
-use Rattle.cpm_command_line.specs.CommandLine.{IsCountIfAny, IsFlag, IsPick, IsWhole, IsWholeAsm, IsWholeCheck, IsWholeDebug, IsWholeList, IsWholePlay, IsWholeRun, IsWholeSaved, asm_app, boot_app, check_app, com_app, count_option, debug_app, host_app, list_app, operand, repeated_option, run_app, saved_app, value_option, word_left_out, words_left_out}
+use Rattle.cpm_command_line.specs.CommandLine.{IsCountIfAny, IsFlag, IsPick, IsWhole, IsWholeAsm, IsWholeCheck, IsWholeDebug, IsWholeList, IsWholePlay, IsWholeRun, IsWholeSaved, IsWholeServe, asm_app, boot_app, check_app, com_app, count_option, debug_app, host_app, list_app, operand, repeated_option, run_app, saved_app, serve_app, value_option, word_left_out, words_left_out}
 use Rattle.cpm_flags.specs.declared.regs.Cpu.TheVariants.{I8080, Z80}
 use Rattle.cpm_command_line.proofs.FilledRows.{HasText, IsIn, IsPlain, IsSetting, plain_by_ids, same_bytes}
 use Rattle.cpm_command_line.proofs.LeafRows.{both_given, default_text, flag_in, flag_rule, flag_word, given_first, help_found, help_word, leaf_checked, one_given, text_or_none}
@@ -43,6 +43,9 @@ run_built = leaf run_app.top
 
 abbrev debug_built : Shape
 debug_built = leaf debug_app.top
+
+abbrev serve_built : Shape
+serve_built = leaf serve_app.top
 
 abbrev saved_built : Shape
 saved_built = leaf saved_app.top
@@ -241,6 +244,22 @@ debug_whole words e =
       z80 = pick_of rows (default_text debug_built debug_plain debug_shorts words e z80_rule (inr (inl refl)) tt);
     }
 
+serve_plain : IsPlain serve_built.rules
+serve_plain = plain_by_ids serve_built.rules refl (value_word _, (count_word _, (value_word _, (value_word _, (value_word _, (flag_word _, (help_word, tt)))))))
+
+serve_shorts : HasHelpShorts serve_built.rules
+serve_shorts x a is = help_found x a is
+
+serve_whole : (words : List Text) → level_fault serve_built [] nothing_held words false [] ≡ [] → IsWholeServe (rows_after serve_built.rules [] words)
+serve_whole words e =
+    let rows = rows_after serve_built.rules [] words in
+    record {
+      frames = count_of (codes "frames") rows
+          (text_or_none serve_built serve_plain serve_shorts words e (count_rule (codes "frames")) (inr (inl refl)));
+      compact = flag_in (codes "compact") rows
+          (default_text serve_built serve_plain serve_shorts words e (flag_rule (codes "compact")) (inr (inr (inr (inr (inr (inl refl)))))) tt);
+    }
+
 saved_plain : IsPlain saved_built.rules
 saved_plain = plain_by_ids saved_built.rules refl (operand_word _ _, (help_word, tt))
 
@@ -255,9 +274,9 @@ saved_whole words e =
 -- ---- the whole command line
 
 -- the subcommand that a word names, by whether it is the name of each
-abbrev found : Bool → Bool → Bool → Bool → Bool → Bool → Bool → Bool → Option Shape
-found a t b d k r g v = cond a (Some com_built) (cond t (Some boot_built) (cond b (Some asm_built) (cond d (Some list_built)
-    (cond k (Some check_built) (cond r (Some run_built) (cond g (Some debug_built) (cond v (Some saved_built) None)))))))
+abbrev found : Bool → Bool → Bool → Bool → Bool → Bool → Bool → Bool → Bool → Option Shape
+found a t b d k r g w v = cond a (Some com_built) (cond t (Some boot_built) (cond b (Some asm_built) (cond d (Some list_built)
+    (cond k (Some check_built) (cond r (Some run_built) (cond g (Some debug_built) (cond w (Some serve_built) (cond v (Some saved_built) None))))))))
 
 -- words with no fault name a subcommand, and give it whole entries
 pub faultless_whole : (words : List Text) → fault_of host_app words ≡ [] → IsWhole (subcommand_of host_app words)
@@ -271,21 +290,22 @@ faultless_whole words e =
     has true h = refl
     has false h = absurd (let bad : ⊥ = cc in bad)
 
-    named : (p : Text × List Text) (a t b d k r g v : Bool) → is_some (option_map (λ s. rows_at s p.1) (found a t b d k r g v)) ≡ true
-        → option_map_or (λ s. level_fault s [] nothing_held p.1 false []) (found a t b d k r g v) [] ≡ []
-        → IsWhole (option_map (λ s. rows_at s p.1) (found a t b d k r g v))
-    named p true t b d k r g v some h = inl (refl, com_whole p.1 h)
-    named p false true b d k r g v some h = inr (inl (refl, boot_whole p.1 h))
-    named p false false true d k r g v some h = inr (inr (inl (refl, asm_whole p.1 h)))
-    named p false false false true k r g v some h = inr (inr (inr (inl (refl, list_whole p.1 h))))
-    named p false false false false true r g v some h = inr (inr (inr (inr (inl (refl, check_whole p.1 h)))))
-    named p false false false false false true g v some h = inr (inr (inr (inr (inr (inl (refl, run_whole p.1 h))))))
-    named p false false false false false false true v some h = inr (inr (inr (inr (inr (inr (inl (refl, debug_whole p.1 h)))))))
-    named p false false false false false false false true some h = inr (inr (inr (inr (inr (inr (inr (refl, saved_whole p.1 h)))))))
-    named p false false false false false false false false some h = absurd (true≢false (sym some))
+    named : (p : Text × List Text) (a t b d k r g w v : Bool) → is_some (option_map (λ s. rows_at s p.1) (found a t b d k r g w v)) ≡ true
+        → option_map_or (λ s. level_fault s [] nothing_held p.1 false []) (found a t b d k r g w v) [] ≡ []
+        → IsWhole (option_map (λ s. rows_at s p.1) (found a t b d k r g w v))
+    named p true t b d k r g w v some h = inl (refl, com_whole p.1 h)
+    named p false true b d k r g w v some h = inr (inl (refl, boot_whole p.1 h))
+    named p false false true d k r g w v some h = inr (inr (inl (refl, asm_whole p.1 h)))
+    named p false false false true k r g w v some h = inr (inr (inr (inl (refl, list_whole p.1 h))))
+    named p false false false false true r g w v some h = inr (inr (inr (inr (inl (refl, check_whole p.1 h)))))
+    named p false false false false false true g w v some h = inr (inr (inr (inr (inr (inl (refl, run_whole p.1 h))))))
+    named p false false false false false false true w v some h = inr (inr (inr (inr (inr (inr (inl (refl, debug_whole p.1 h)))))))
+    named p false false false false false false false true v some h = inr (inr (inr (inr (inr (inr (inr (inl (refl, serve_whole p.1 h))))))))
+    named p false false false false false false false false true some h = inr (inr (inr (inr (inr (inr (inr (inr (refl, saved_whole p.1 h))))))))
+    named p false false false false false false false false false some h = absurd (true≢false (sym some))
 
     go : (at : Option (Text × List Text)) → is_some (entered host_built at) ≡ true → entered_fault host_built at ≡ [] → IsWhole (entered host_built at)
     go None some h = absurd (true≢false (sym some))
     go (Some p) some h = named p (answers_to p.0 (label_of com_built)) (answers_to p.0 (label_of boot_built)) (answers_to p.0 (label_of asm_built))
         (answers_to p.0 (label_of list_built)) (answers_to p.0 (label_of check_built)) (answers_to p.0 (label_of run_built)) (answers_to p.0 (label_of debug_built))
-        (answers_to p.0 (label_of saved_built)) some h
+        (answers_to p.0 (label_of serve_built)) (answers_to p.0 (label_of saved_built)) some h

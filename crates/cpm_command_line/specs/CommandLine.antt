@@ -15,7 +15,7 @@ use Rattle.cpm_flags.specs.declared.regs.Cpu.{Cpu}
 use Rattle.cpm_flags.specs.declared.regs.Cpu.TheVariants.{I8080, Z80}
 use Rattle.cpm_command_line.specs.declared.task.PlayTask.{PlayTask}
 use Rattle.cpm_command_line.specs.declared.task.Task.{Task}
-use Rattle.cpm_command_line.specs.declared.task.Task.TheVariants.{Asm, Boot, Check, Com, Debug, Disk, Help, List as Listing, Run, Saved}
+use Rattle.cpm_command_line.specs.declared.task.Task.TheVariants.{Asm, Boot, Check, Com, Debug, Disk, Help, List as Listing, Run, Saved, Serve}
 
 -- a word that has to be there, with a name in usage
 abbrev pub operand : List ℕ → Rule
@@ -104,6 +104,12 @@ abbrev pub debug_app : App
 debug_app = with_rule (with_rule (with_rule (with_rule (with_rule (new_app (codes "debug"))
     (word_left_out (codes "file"))) (flag (codes "z80"))) (value_option (codes "list"))) (value_option (codes "from"))) (value_option (codes "system"))
 
+-- own: `serve [--system IMAGE] [--frames N] [--folder FOLDER] [--journal FILE] [--resume FILE] [--compact]`
+abbrev pub serve_app : App
+serve_app = with_rule (with_rule (with_rule (with_rule (with_rule (with_rule (new_app (codes "serve"))
+    (value_option (codes "system"))) (count_option (codes "frames"))) (value_option (codes "folder"))) (value_option (codes "journal")))
+    (value_option (codes "resume"))) (flag (codes "compact"))
+
 -- own: `saved FILE`
 abbrev pub saved_app : App
 saved_app = with_rule (new_app (codes "saved")) (operand (codes "file"))
@@ -120,7 +126,8 @@ top_app name = record (new_app name) {
 -- the program's command, but for `disk`, which has commands of its own
 abbrev pub host_app : App
 host_app = with_subcommand (with_subcommand (with_subcommand (with_subcommand (with_subcommand (with_subcommand (with_subcommand (with_subcommand
-    (top_app (codes "cpmhost")) com_app.top) boot_app.top) asm_app.top) list_app.top) check_app.top) run_app.top) debug_app.top) saved_app.top
+    (with_subcommand (top_app (codes "cpmhost")) com_app.top) boot_app.top) asm_app.top) list_app.top) check_app.top) run_app.top) debug_app.top)
+    serve_app.top) saved_app.top
 
 -- an argument of clap with this rule, which is the command's own
 pub record IsArgumentOf (r : Rule) (a : Arg) : Type 0 where
@@ -224,6 +231,13 @@ HasEntriesOf given (Debug task) =
     × (first_of (codes "list") given.1 ≡ option_map (λ t. t.now) task.list)
     × (first_of (codes "from") given.1 ≡ option_map (λ t. t.now) task.from)
     × (first_of (codes "system") given.1 ≡ option_map (λ t. t.now) task.system)
+HasEntriesOf given (Serve task) =
+    (given.0 ≡ codes "serve") × (first_of (codes "system") given.1 ≡ option_map (λ t. t.now) task.system)
+    × ReadsCountIfAny (one_of (codes "frames") given.1) task.frames
+    × (first_of (codes "folder") given.1 ≡ option_map (λ t. t.now) task.folder)
+    × (first_of (codes "journal") given.1 ≡ option_map (λ t. t.now) task.journal)
+    × (first_of (codes "resume") given.1 ≡ option_map (λ t. t.now) task.resume)
+    × (one_of (codes "compact") given.1 ≡ Some (bool_text task.is_compact))
 HasEntriesOf given (Saved file) =
     (given.0 ≡ codes "saved") × (first_of (codes "file") given.1 ≡ Some file.now)
 HasEntriesOf given (Disk task) = ⊥
@@ -293,6 +307,11 @@ pub record IsWholeRun (rows : List Row) : Type 0 where
 pub record IsWholeDebug (rows : List Row) : Type 0 where
   pub z80 : IsPick (one_of (codes "z80") rows)
 
+-- own: the entries of `serve` are whole
+pub record IsWholeServe (rows : List Row) : Type 0 where
+  pub frames : IsCountIfAny (one_of (codes "frames") rows)
+  pub compact : IsFlag (one_of (codes "compact") rows)
+
 -- own: the entries of `saved` are whole
 pub record IsWholeSaved (rows : List Row) : Type 0 where
   pub file : IsSome (first_of (codes "file") rows)
@@ -302,7 +321,7 @@ abbrev pub IsWholeOf : Text × List Row → Type 0
 IsWholeOf p = ((p.0 ≡ codes "com") × IsWholePlay p.1) ⊎ ((p.0 ≡ codes "boot") × IsWholePlay p.1) ⊎ ((p.0 ≡ codes "asm") × IsWholeAsm p.1)
     ⊎ ((p.0 ≡ codes "list") × IsWholeList p.1) ⊎ ((p.0 ≡ codes "check") × IsWholeCheck p.1)
     ⊎ ((p.0 ≡ codes "run") × IsWholeRun p.1) ⊎ ((p.0 ≡ codes "debug") × IsWholeDebug p.1)
-    ⊎ ((p.0 ≡ codes "saved") × IsWholeSaved p.1)
+    ⊎ ((p.0 ≡ codes "serve") × IsWholeServe p.1) ⊎ ((p.0 ≡ codes "saved") × IsWholeSaved p.1)
 
 -- the subcommand is one of the program's, and its entries are whole
 abbrev pub IsWhole : Option (Text × List Row) → Type 0

@@ -10,6 +10,7 @@ use Rattle.cpm_command_line.specs.declared.fault.UsageRefusal.{UsageRefusal}
 use Rattle.cpm_command_line.specs.declared.boot_page.TheConstants as boot_text
 use Rattle.cpm_command_line.specs.declared.disk_pages.TheConstants as disk_text
 use Rattle.cpm_command_line.specs.declared.pages.TheConstants as text
+use Rattle.cpm_command_line.specs.declared.serve_page.TheConstants as serve_text
 use Rattle.cpm_command_line.specs.declared.usage.Page.{Page}
 use Rattle.cpm_command_line.specs.declared.usage.Page.TheVariants as page
 
@@ -17,7 +18,8 @@ use Rattle.cpm_command_line.specs.declared.usage.Page.TheVariants as page
 abbrev pub command_pages : List (Text × Page)
 command_pages =
     (codes "com", page.Com) ∷ (codes "boot", page.Boot) ∷ (codes "asm", page.Asm) ∷ (codes "list", page.List)
-    ∷ (codes "check", page.Check) ∷ (codes "run", page.Run) ∷ (codes "debug", page.Debug) ∷ (codes "saved", page.Saved) ∷ []
+    ∷ (codes "check", page.Check) ∷ (codes "run", page.Run) ∷ (codes "debug", page.Debug) ∷ (codes "serve", page.Serve)
+    ∷ (codes "saved", page.Saved) ∷ []
 
 -- own: the names of the commands of `disk`, with their pages
 abbrev pub disk_pages : List (Text × Page)
@@ -139,6 +141,7 @@ text_of_page page.List = text.LIST_PAGE.now
 text_of_page page.Check = text.CHECK_PAGE.now
 text_of_page page.Run = text.RUN_PAGE.now
 text_of_page page.Debug = text.DEBUG_PAGE.now
+text_of_page page.Serve = serve_text.SERVE_PAGE.now
 text_of_page page.Saved = text.SAVED_PAGE.now
 text_of_page page.Disk = disk_text.DISK_PAGE.now
 text_of_page page.DiskNew = disk_text.DISK_NEW_PAGE.now
@@ -159,6 +162,7 @@ line_of_page page.List = codes "cpmhost" ∷ codes "help" ∷ codes "list" ∷ [
 line_of_page page.Check = codes "cpmhost" ∷ codes "help" ∷ codes "check" ∷ []
 line_of_page page.Run = codes "cpmhost" ∷ codes "help" ∷ codes "run" ∷ []
 line_of_page page.Debug = codes "cpmhost" ∷ codes "help" ∷ codes "debug" ∷ []
+line_of_page page.Serve = codes "cpmhost" ∷ codes "help" ∷ codes "serve" ∷ []
 line_of_page page.Saved = codes "cpmhost" ∷ codes "help" ∷ codes "saved" ∷ []
 line_of_page page.Disk = codes "cpmhost" ∷ codes "help" ∷ codes "disk" ∷ []
 line_of_page page.DiskNew = codes "cpmhost" ∷ codes "help" ∷ codes "disk" ∷ codes "new" ∷ []

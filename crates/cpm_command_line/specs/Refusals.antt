@@ -27,6 +27,7 @@ kinds_of (fault.MissingValue word) = kind.InvalidValue ∷ []
 kinds_of (fault.NotANumber word) = kind.ValueValidation ∷ []
 kinds_of (fault.NotAPace word) = kind.ValueValidation ∷ []
 kinds_of (fault.NotACheckpoint word) = kind.ValueValidation ∷ []
+kinds_of (fault.NotFrames word) = kind.ValueValidation ∷ []
 kinds_of (fault.NotAUser word) = kind.ValueValidation ∷ []
 kinds_of (fault.GivenTwice word) = kind.ArgumentConflict ∷ []
 kinds_of fault.NoProgram = []
@@ -49,6 +50,9 @@ kinds_of fault.ProgressAtPrompt = []
 kinds_of fault.PaceZero = []
 kinds_of fault.PaceUntyped = []
 kinds_of fault.CheckpointZero = []
+kinds_of fault.FramesOutside = []
+kinds_of fault.TwoJournals = []
+kinds_of fault.CompactAlone = []
 kinds_of (fault.Other word) =
     kind.NoEquals ∷ kind.TooManyValues ∷ kind.TooFewValues ∷ kind.WrongNumberOfValues
     ∷ kind.DisplayVersion ∷ kind.Io ∷ kind.Format ∷ []
@@ -60,6 +64,7 @@ IsOfLine is_disk fault.NoDiskCommand = is_disk ≡ true
 IsOfLine is_disk (fault.NotANumber word) = is_disk ≡ false
 IsOfLine is_disk (fault.NotAPace word) = is_disk ≡ false
 IsOfLine is_disk (fault.NotACheckpoint word) = is_disk ≡ false
+IsOfLine is_disk (fault.NotFrames word) = is_disk ≡ false
 IsOfLine is_disk (fault.NotAUser word) = is_disk ≡ true
 IsOfLine is_disk f = ⊤
 

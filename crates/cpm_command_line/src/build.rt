@@ -38,7 +38,7 @@ pub(crate) enum Argument {
 type NamedCommand = (&'static str, &'static [Argument]);
 
 /// The program's commands, but for `disk`.
-const HOST_COMMANDS: [NamedCommand; 8] = [
+const HOST_COMMANDS: [NamedCommand; 9] = [
     (
         "com",
         &[
@@ -129,6 +129,17 @@ const HOST_COMMANDS: [NamedCommand; 8] = [
             Argument::Value("list", "FILE"),
             Argument::Value("from", "FILE"),
             Argument::Value("system", "IMAGE"),
+        ],
+    ),
+    (
+        "serve",
+        &[
+            Argument::Value("system", "IMAGE"),
+            Argument::Count("frames"),
+            Argument::Value("folder", "FOLDER"),
+            Argument::Value("journal", "FILE"),
+            Argument::Value("resume", "FILE"),
+            Argument::Flag("compact"),
         ],
     ),
     ("saved", &[Argument::Word("file", "FILE")]),

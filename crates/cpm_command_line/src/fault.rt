@@ -48,6 +48,9 @@ pub enum UsageFault {
     /// The value of `--checkpoint` is no number of 64 bits.
     #[error("invalid value '{0}' for '--checkpoint': a number from 1 to 18446744073709551615 is wanted")]
     NotACheckpoint(ShownWord),
+    /// The value of `--frames` is no number of 64 bits.
+    #[error("invalid value '{0}' for '--frames': a number from 16 to 16384 is wanted")]
+    NotFrames(ShownWord),
     /// The value of `--user` is no number of a user.
     #[error("invalid value '{0}' for '--user': a number from 0 to 15 is wanted")]
     NotAUser(ShownWord),
@@ -114,6 +117,15 @@ pub enum UsageFault {
     /// Where the sessions stand is to be kept after no steps.
     #[error("'--checkpoint' needs a number from 1")]
     CheckpointZero,
+    /// No host has so many frames, or so few.
+    #[error("'--frames' needs a number from 16 to 16384")]
+    FramesOutside,
+    /// A new journal is to be kept, and one that is there gone on with.
+    #[error("'--resume' goes on with the journal that it names; leave out '--journal'")]
+    TwoJournals,
+    /// A journal is to be made short, and none is kept.
+    #[error("'--compact' needs '--journal' or '--resume'")]
+    CompactAlone,
     /// Anything else, in the words of the reader of command lines.
     #[error("{0}")]
     Other(ShownWord),
@@ -286,11 +298,18 @@ fn names_option(text: &str, option: &str) -> bool {
 }
 
 /// What is wrong where a number is none: in a line of `disk` a user's, and in another a pace, the steps between two
-/// checkpoints, or a number of steps.
-fn wrong_number(word: ShownWord, is_disk: bool, is_pace: bool, is_checkpoint: bool) -> UsageFault
+/// checkpoints, frames, or a number of steps.
+fn wrong_number(
+    word: ShownWord,
+    is_disk: bool,
+    is_pace: bool,
+    is_checkpoint: bool,
+    is_frames: bool,
+) -> UsageFault
     ensures { result ≡ (if is_disk then UsageFault.NotAUser word
         else (if is_pace then UsageFault.NotAPace word
-        else (if is_checkpoint then UsageFault.NotACheckpoint word else UsageFault.NotANumber word))) }
+        else (if is_checkpoint then UsageFault.NotACheckpoint word
+        else (if is_frames then UsageFault.NotFrames word else UsageFault.NotANumber word)))) }
 {
     if is_disk {
         UsageFault::NotAUser(word)
@@ -298,6 +317,8 @@ fn wrong_number(word: ShownWord, is_disk: bool, is_pace: bool, is_checkpoint: bo
         UsageFault::NotAPace(word)
     } else if is_checkpoint {
         UsageFault::NotACheckpoint(word)
+    } else if is_frames {
+        UsageFault::NotFrames(word)
     } else {
         UsageFault::NotANumber(word)
     }
@@ -326,7 +347,8 @@ fn fault_of_kind(kind: ErrorKind, text: &str, is_disk: bool) -> Option<UsageFaul
             let word = quoted(message, "' for '");
             let is_pace = names_option(text, "--pace");
             let is_checkpoint = names_option(text, "--checkpoint");
-            Some(wrong_number(word, is_disk, is_pace, is_checkpoint))
+            let is_frames = names_option(text, "--frames");
+            Some(wrong_number(word, is_disk, is_pace, is_checkpoint, is_frames))
         }
         ErrorKind::ArgumentConflict => Some(UsageFault::GivenTwice(quoted(message, "' cannot"))),
         ErrorKind::NoEquals

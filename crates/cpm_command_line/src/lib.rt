@@ -10,11 +10,12 @@ mod fault;
 mod options;
 mod pages;
 mod read;
+mod serve_page;
 mod task;
 mod usage;
 
 pub use fault::{ShownWord, UsageError, UsageFault, UsageRefusal, shown, shown_line};
 pub use pages::{page_line, page_text};
 pub use read::command;
-pub use task::{DebugTask, DiskTask, PlayTask, RunTask, Task};
+pub use task::{DebugTask, DiskTask, PlayTask, RunTask, ServeTask, Task};
 pub use usage::{Page, VERSION, asks_version};

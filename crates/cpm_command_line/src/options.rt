@@ -1,11 +1,11 @@
 //! Options that don't go together, in a task that the reader of command lines takes.
 ghost use Rattle.std.specs.Prelude.{◌≡◌};
-ghost use Rattle.cpm_command_line.specs.Options.{fault_of_boot, fault_of_com, fault_of_debug, fault_of_play, fault_of_run};
-ghost use Rattle.cpm_command_line.specs.Options.{fault_of_folders, fault_of_outs};
+ghost use Rattle.cpm_command_line.specs.Options.{fault_of_boot, fault_of_com, fault_of_debug, fault_of_play, fault_of_run, fault_of_serve};
+ghost use Rattle.cpm_command_line.specs.Options.{fault_of_folders, fault_of_outs, is_outside_frames};
 ghost use Rattle.cpm_command_line.specs.Options.{has_start, is_z80, is_zero_count, task_fault, written_at_most};
 
 use crate::fault::UsageFault;
-use crate::task::{DebugTask, PlayTask, RunTask, Task};
+use crate::task::{DebugTask, PlayTask, RunTask, ServeTask, Task};
 use cpm_flags::Cpu;
 
 /// How many drives can have an image: A to D.
@@ -161,6 +161,31 @@ fn debug_fault(task: &DebugTask<'_>) -> Option<UsageFault>
     }
 }
 
+/// Whether a number of frames was given that no host has.
+fn is_outside_frames(frames: Option<u64>) -> bool
+    ensures { result ≡ is_outside_frames frames }
+{
+    match frames {
+        Some(n) => n < 16 || 16_384 < n,
+        None => false,
+    }
+}
+
+/// What is wrong first with the options of `serve`.
+fn serve_fault(task: &ServeTask<'_>) -> Option<UsageFault>
+    ensures { result ≡ fault_of_serve task.now }
+{
+    if is_outside_frames(task.frames) {
+        Some(UsageFault::FramesOutside)
+    } else if task.journal.is_some() && task.resume.is_some() {
+        Some(UsageFault::TwoJournals)
+    } else if task.is_compact && task.journal.is_none() && task.resume.is_none() {
+        Some(UsageFault::CompactAlone)
+    } else {
+        None
+    }
+}
+
 /// What is wrong first with the options of the task.
 pub(crate) fn options_fault(task: &Task<'_>) -> Option<UsageFault>
     ensures { result ≡ task_fault task.now }
@@ -170,6 +195,7 @@ pub(crate) fn options_fault(task: &Task<'_>) -> Option<UsageFault>
         Task::Boot(boot) => boot_fault(boot),
         Task::Run(run) => run_fault(run),
         Task::Debug(debug) => debug_fault(debug),
+        Task::Serve(serve) => serve_fault(serve),
         _ => None,
     }
 }

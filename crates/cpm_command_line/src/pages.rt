@@ -8,6 +8,7 @@ use crate::disk_pages::{
     DISK_GET_PAGE, DISK_LIST_PAGE, DISK_NEW_PAGE, DISK_PAGE, DISK_PUT_PAGE, DISK_REMOVE_PAGE,
     DISK_RENAME_PAGE,
 };
+use crate::serve_page::SERVE_PAGE;
 use crate::usage::Page;
 
 /// What `cpmhost --help` prints.
@@ -25,6 +26,7 @@ Commands:
   check       check the directory in the image of a drive
   debug       run a program step by step, as lines of standard input say
   saved       tell what the machine is that was saved in a file
+  serve       serve sessions to another program, a request and a reply a line
   disk        make the image of a disk, or work with the files in one
 
 'cpmhost help COMMAND', or 'cpmhost COMMAND --help', prints the page of a
@@ -328,6 +330,7 @@ pub fn page_text(page: Page) -> &'static str
         Page::Check => CHECK_PAGE,
         Page::Run => RUN_PAGE,
         Page::Debug => DEBUG_PAGE,
+        Page::Serve => SERVE_PAGE,
         Page::Saved => SAVED_PAGE,
         Page::Disk => DISK_PAGE,
         Page::DiskNew => DISK_NEW_PAGE,
@@ -354,6 +357,7 @@ pub fn page_line(page: Page) -> &'static str
         Page::Check => "cpmhost help check",
         Page::Run => "cpmhost help run",
         Page::Debug => "cpmhost help debug",
+        Page::Serve => "cpmhost help serve",
         Page::Saved => "cpmhost help saved",
         Page::Disk => "cpmhost help disk",
         Page::DiskNew => "cpmhost help disk new",

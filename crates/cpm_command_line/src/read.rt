@@ -3,7 +3,7 @@ ghost use Rattle.std.specs.Prelude.{◌≡◌, IfOk, IfErr, IsSomeAnd, None, Som
 ghost use Rattle.clap.specs.Words.{all_of, fault_of, found_of, one_of, rows_of, subcommand_rows_of, takes};
 ghost use Rattle.cpm_command_line.specs.CommandLine.{HasEntriesOf, HasPlayEntries, IsFlag, IsTyped, IsWhole, IsWholeAsm};
 ghost use Rattle.cpm_command_line.specs.CommandLine.{IsWholeCheck, IsWholeDebug, IsWholeList, IsWholeOf, IsWholePlay};
-ghost use Rattle.cpm_command_line.specs.CommandLine.{IsWholeRun, IsWholeSaved, ReadsWordsIfAny, host_app};
+ghost use Rattle.cpm_command_line.specs.CommandLine.{IsWholeRun, IsWholeSaved, IsWholeServe, ReadsWordsIfAny, host_app};
 ghost use Rattle.cpm_command_line.specs.HelpWords.{is_help_line, named_by, page_of_line};
 ghost use Rattle.cpm_command_line.specs.Line.{HasUsers, IsFaultless, IsHostTask, IsPageOrMemory, IsTaskOf};
 ghost use Rattle.cpm_command_line.specs.Line.{app_of_line, asked_page, asks_by_flag, names_disk, words_of_line};
@@ -15,7 +15,7 @@ use crate::disk::disk_task;
 use crate::entries::{count_if_any, cpu_of, flag_of, text_if_any, text_of, texts_if_any};
 use crate::fault::{UsageError, UsageRefusal, answer};
 use crate::options::options_fault;
-use crate::task::{DebugTask, PlayTask, RunTask, Task};
+use crate::task::{DebugTask, PlayTask, RunTask, ServeTask, Task};
 use crate::usage::{Page, is_help_line, page_of_help_line, page_of_line};
 use clap::ArgMatches;
 use std::alloc::{AllocError, Global};
@@ -173,6 +173,21 @@ fn debug_task<'a>(matches: &ArgMatches<'a>) -> Task<'a>
     })
 }
 
+/// The task of `serve`.
+fn serve_task<'a>(matches: &ArgMatches<'a>) -> Task<'a>
+    requires { IsWholeServe (rows_of (found_of matches.now)) }
+    ensures { HasEntriesOf (codes "serve", rows_of (found_of matches.now)) result }
+{
+    Task::Serve(ServeTask {
+        system: text_if_any(matches, "system"),
+        frames: count_if_any(matches, "frames"),
+        folder: text_if_any(matches, "folder"),
+        journal: text_if_any(matches, "journal"),
+        resume: text_if_any(matches, "resume"),
+        is_compact: flag_of(matches, "compact"),
+    })
+}
+
 /// The task of `saved`.
 fn saved_task<'a>(matches: &ArgMatches<'a>) -> Task<'a>
     requires { IsWholeSaved (rows_of (found_of matches.now)) }
@@ -200,6 +215,7 @@ fn task_named<'a>(
         "check" => Ok(check_task(matches)),
         "run" => run_task(alloc, matches),
         "debug" => Ok(debug_task(matches)),
+        "serve" => Ok(serve_task(matches)),
         _ => Ok(saved_task(matches)),
     }
 }

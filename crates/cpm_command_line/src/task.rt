@@ -34,6 +34,8 @@ pub enum Task<'a> {
     Saved {
         file: &'a str,
     },
+    /// `serve ..`: serve requests, a line each, on standard input.
+    Serve(ServeTask<'a>),
     /// `disk ..`: make an image of a disk, or do something with the files in one.
     Disk(DiskTask<'a>),
     /// `help ..`, `-h` or `--help`: print this page of the help.
@@ -153,6 +155,25 @@ pub struct DebugTask<'a> {
     pub from: Option<&'a str>,
     /// The image of the system drive of that machine, where one was given. Only with `from`.
     pub system: Option<&'a str>,
+}
+
+/// A host that is served lines.
+///
+/// `serve [--system IMAGE] [--frames N] [--folder FOLDER] [--journal FILE] [--resume FILE] [--compact]`
+#[derive(Drop)]
+pub struct ServeTask<'a> {
+    /// The image of the system drive, where one was given.
+    pub system: Option<&'a str>,
+    /// How many frames its sessions share, 16 to 16,384, where that was given.
+    pub frames: Option<u64>,
+    /// The folder that its files are in, where one was given.
+    pub folder: Option<&'a str>,
+    /// The file of a new journal, where one is kept. Not with `resume`.
+    pub journal: Option<&'a str>,
+    /// The file of the journal that it goes on from, and on with, where one was given.
+    pub resume: Option<&'a str>,
+    /// Whether savings take the place of what the journal has. Only with `journal` or `resume`.
+    pub is_compact: bool,
 }
 
 /// A command of `disk` with its words. The files are those of `user`, from 0 to 15.

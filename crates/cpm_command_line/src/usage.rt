@@ -29,6 +29,8 @@ pub enum Page {
     Run,
     /// The page of `debug`.
     Debug,
+    /// The page of `serve`.
+    Serve,
     /// The page of `saved`.
     Saved,
     /// The page of `disk`.
@@ -68,6 +70,7 @@ fn command_page(word: &str) -> Option<Page>
         "check" => Some(Page::Check),
         "run" => Some(Page::Run),
         "debug" => Some(Page::Debug),
+        "serve" => Some(Page::Serve),
         "saved" => Some(Page::Saved),
         _ => None,
     }

@@ -41,10 +41,15 @@ debug_task-requires c =
     let rows = rows_of (found_of c.args.matches.now) in
     subst (λ (n : Text). IsWholeAs n rows) c.in-debug.is (whole_as (c.args.name.now, rows) c.requires)
 
+pub serve_task-requires : goal.serve_task-requires
+serve_task-requires c =
+    let rows = rows_of (found_of c.args.matches.now) in
+    subst (λ (n : Text). IsWholeAs n rows) c.in-serve.is (whole_as (c.args.name.now, rows) c.requires)
+
 pub saved_task-requires : goal.saved_task-requires
 saved_task-requires c =
     let rows = rows_of (found_of c.args.matches.now) in
-    (whole_last (c.args.name.now, rows) c.in_default.not-com c.in_default.not-boot c.in_default.not-asm c.in_default.not-list c.in_default.not-check c.in_default.not-run c.in_default.not-debug
+    (whole_last (c.args.name.now, rows) c.in_default.not-com c.in_default.not-boot c.in_default.not-asm c.in_default.not-list c.in_default.not-check c.in_default.not-run c.in_default.not-debug c.in_default.not-serve
     c.requires).1
 
 -- ---- the task has the entries of this name
@@ -84,9 +89,14 @@ returns-in-debug c =
     let rows = rows_of (found_of c.args.matches.now) in
     subst (λ (n : Text). HasEntriesOf (n, rows) c.debug_task.result) (sym c.in-debug.is) c.debug_task.ensures
 
+pub returns-in-serve : goal.returns-in-serve
+returns-in-serve c =
+    let rows = rows_of (found_of c.args.matches.now) in
+    subst (λ (n : Text). HasEntriesOf (n, rows) c.serve_task.result) (sym c.in-serve.is) c.serve_task.ensures
+
 pub returns-in_default : goal.returns-in_default
 returns-in_default c =
     let rows = rows_of (found_of c.args.matches.now) in
     subst (λ (n : Text). HasEntriesOf (n, rows) c.saved_task.result)
-    (sym (whole_last (c.args.name.now, rows) c.in_default.not-com c.in_default.not-boot c.in_default.not-asm c.in_default.not-list c.in_default.not-check c.in_default.not-run c.in_default.not-debug
+    (sym (whole_last (c.args.name.now, rows) c.in_default.not-com c.in_default.not-boot c.in_default.not-asm c.in_default.not-list c.in_default.not-check c.in_default.not-run c.in_default.not-debug c.in_default.not-serve
     c.requires).0) c.saved_task.ensures
