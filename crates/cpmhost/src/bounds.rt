@@ -222,6 +222,8 @@ pub struct FileRules<'a> {
     pub scripts: Option<&'a str>,
     /// Whether keys are typed on standard input.
     pub is_typed_at: bool,
+    /// Whether a file that another command holds is waited for.
+    pub waits_for_others: bool,
 }
 
 impl FileRules<'_> {
@@ -232,6 +234,18 @@ impl FileRules<'_> {
             has_outputs_here: false,
             scripts: None,
             is_typed_at: false,
+            waits_for_others: true,
+        }
+    }
+
+    /// The files lie in these folders, all where there is none, and no other command is waited for.
+    pub fn of_service<'a>(folders: &'a [&'a str]) -> FileRules<'a> {
+        FileRules {
+            folders,
+            has_outputs_here: false,
+            scripts: None,
+            is_typed_at: false,
+            waits_for_others: false,
         }
     }
 

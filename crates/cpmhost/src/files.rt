@@ -146,6 +146,16 @@ impl<'a, R: LockableFiles> MachineFiles<'a, R> {
         MachineFiles::new(rt, outputs, FileRules::none(), false, batch)
     }
 
+    /// The files of one request of a service, which lie in these folders.
+    pub fn in_folders(
+        rt: &'a R,
+        outputs: Outputs,
+        folders: &'a [&'a str],
+    ) -> MachineFiles<'a, R> {
+        let batch = Batch::new(rt, outputs);
+        MachineFiles::new(rt, outputs, FileRules::of_service(folders), false, batch)
+    }
+
     /// What is said of a command that ended so. Nothing is left then of what was made and has no name: a command may end after some of its files were, where
     /// memory is refused between two of them.
     pub fn end<T: Drop>(self, ended: Result<T, HostError>) -> Result<T, CommandRefusal> {

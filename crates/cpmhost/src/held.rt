@@ -128,15 +128,17 @@ enum Attempt {
     Busy(ShownWord),
 }
 
-/// Holds those of the files that are written that are also read, and waits for them where others hold them. It holds all or none of them, so that no two
-/// commands wait for each other.
+/// Holds those of the files that are written that are also read, and waits for them where others hold them, if that is asked. It holds all or none of them, so
+/// that no two commands wait for each other.
 fn hold(
     rt: &impl LockableFiles,
     reads: &[&str],
     outs: &[&str],
+    waits: bool,
 ) -> Result<HeldFiles, CommandRefusal> {
+    let pauses = if waits { MOST_LOCK_PAUSES } else { 0 };
     let mut attempt = try_hold(rt, reads, outs)?;
-    for _pause in 0..MOST_LOCK_PAUSES {
+    for _pause in 0..pauses {
         if let Attempt::Held(_) = &attempt {
             break;
         }
@@ -155,14 +157,15 @@ fn hold(
     }
 }
 
-/// Holds the images and the saved machines that a plan reads and writes.
+/// Holds the images and the saved machines that a plan reads and writes. Others that hold one are waited for, if that is asked.
 pub fn hold_images(
     rt: &impl LockableFiles,
     plan: &FilePlan<'_>,
+    waits: bool,
 ) -> Result<HeldFiles, CommandRefusal> {
     let reads = images_of(rt.alloc(), &plan.inputs)?;
     let outs = images_of(rt.alloc(), &plan.outputs)?;
-    hold(rt, &reads, &outs)
+    hold(rt, &reads, &outs, waits)
 }
 
 /// The names of those of the files that are images or saved machines.

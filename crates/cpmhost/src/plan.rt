@@ -51,7 +51,7 @@ impl SeenFiles {
         check_apart(rt, plan)?;
         bounds.check_inputs(rt, &plan.inputs)?;
         check_pipes(rt, &plan.inputs, rules.is_typed_at)?;
-        let held = hold_images(rt, plan)?;
+        let held = hold_images(rt, plan, rules.waits_for_others)?;
         let marks = ReadMarks::of(rt, plan).map_err(|_| HostError::OutOfMemory)?;
         Ok(SeenFiles {
             bounds,

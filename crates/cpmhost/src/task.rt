@@ -205,6 +205,7 @@ fn rules_of<'a>(task: &'a RunTask<'_>) -> FileRules<'a> {
         has_outputs_here: task.has_outputs_here,
         scripts: task.scripts,
         is_typed_at: task.keyboard.is_some(),
+        waits_for_others: true,
     }
 }
 

@@ -1,7 +1,7 @@
 //! What a command line asks for, in words: the names of the task's fields, each with its value where it has one.
 
 use crate::{add_cpu, add_number, add_text, add_texts};
-use cpm_command_line::{DebugTask, DiskTask, Page, PlayTask, RunTask, Task};
+use cpm_command_line::{DebugTask, DiskTask, Page, PlayTask, RunTask, ServeTask, Task};
 use cpm_flags::Cpu;
 use std::alloc::Global;
 use test_language::RowFault;
@@ -27,6 +27,7 @@ fn add_task(alloc: Global, out: &mut String, task: &Task<'_>) -> Result<(), RowF
         Task::Check { image } => add_text(alloc, out, "check image", Some(image)),
         Task::Run(task) => add_run(alloc, out, task),
         Task::Debug(task) => add_debug(alloc, out, task),
+        Task::Serve(task) => add_serve(alloc, out, task),
         Task::Saved { file } => add_text(alloc, out, "saved file", Some(file)),
         Task::Disk(task) => add_disk(alloc, out, task),
         Task::Help(page) => add_help(alloc, out, *page),
@@ -66,6 +67,17 @@ fn add_debug(alloc: Global, out: &mut String, task: &DebugTask<'_>) -> Result<()
     add_text(alloc, out, " list", task.list)?;
     add_text(alloc, out, " from", task.from)?;
     add_text(alloc, out, " system", task.system)
+}
+
+/// Adds a host that is served lines.
+fn add_serve(alloc: Global, out: &mut String, task: &ServeTask<'_>) -> Result<(), RowFault> {
+    out.push_str("serve")?;
+    add_text(alloc, out, " system", task.system)?;
+    add_count(alloc, out, " frames", task.frames)?;
+    add_text(alloc, out, " folder", task.folder)?;
+    add_text(alloc, out, " journal", task.journal)?;
+    add_text(alloc, out, " resume", task.resume)?;
+    add_flag(out, " is_compact", task.is_compact)
 }
 
 /// Adds a page of the help.
