@@ -21,6 +21,7 @@ pub use disk_commands::{get_file, image_of, new_image, put_file, remove_file, re
 pub use error::DiskCommandError;
 pub use folder::{FolderName, FolderNames, HostFile, disk_of_files, names_of_folder};
 pub use host_names::{host_name, host_text, text_of_name};
+pub use lines::add_name;
 pub use listing::{list_files, write_list};
 pub use matching::matching_files;
 pub use names::{name_of, pattern_of};

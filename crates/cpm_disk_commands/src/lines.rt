@@ -145,9 +145,9 @@ fn add_padded_name(text: &mut Vec<u8>, name: &[u8; 11]) -> Result<(), AllocError
     Ok(())
 }
 
-/// Adds a name, with a dot before its type if it has one.
+/// Adds a name as it is shown, with a dot before its type if it has one.
 #[tactic(auto, unfolding(crate::specs::Listing::seen_name))]
-fn add_name(text: &mut Vec<u8>, name: &[u8; 11]) -> Result<(), AllocError>
+pub fn add_name(text: &mut Vec<u8>, name: &[u8; 11]) -> Result<(), AllocError>
     ensures { OnOk result (text.new.items ≡ text.old.items ++ seen_name name.now) }
 {
     let (name, kind) = name.as_slice().split_at(8);

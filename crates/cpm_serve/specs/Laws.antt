@@ -10,11 +10,13 @@ use Rattle.cpm_protocol.specs.Requests.{AskedFault, FourNames, Open, WireAsked, 
 use Rattle.cpm_protocol.specs.declared.reply.SessionLook.{SessionLook}
 use Rattle.cpm_protocol.specs.declared.request.GrantGoal.TheVariants as goal
 use Rattle.cpm_protocol.specs.declared.word.WireRefusal.{WireRefusal}
-use Rattle.cpm_serve.specs.Lines.{Asks, Broken, LineHeard, Long, Unread, WireEvent, event_served, events_of, host_after_line, host_after_lines, host_served}
+use Rattle.cpm_serve.specs.Lines.{Asks, Broken, EventsLead, LineHeard, Long, Unread, WireEvent, event_accesses, event_served, events_of, host_after_line, host_after_lines, host_served}
 use Rattle.cpm_serve.specs.Lines.{AreLinesHeard, AreLinesServed, replies_to_lines}
 use Rattle.cpm_serve.specs.Own.{OwnRequest, own_replies, own_requests, session_after, session_replies}
 use Rattle.cpm_serve.specs.Parts.{AreAskedBy}
-use Rattle.cpm_serve.specs.Served.{disks_named, served}
+use Rattle.cpm_serve.specs.Drives.{drives_read}
+use Rattle.cpm_serve.specs.Folder.{FolderAccess, FolderAnswer}
+use Rattle.cpm_serve.specs.Served.{served}
 use Rattle.cpm_serve.specs.Slot.{turn_bytes}
 
 -- ---- what changes nothing
@@ -29,9 +31,9 @@ IsWrongLine (Asks value events) = (fault : AskedFault) × (line_asked value ≡ 
 abbrev pub WrongLines : Type 0
 WrongLines = (h : Host) (x : LineHeard) → IsWrongLine x → host_after_line h x ≡ h
 
--- and a request that is wrong, or that is refused, alone or among many
+-- A request that is wrong asks the folder nothing, too. One that is wrong or refused, alone or among many, leaves the host.
 abbrev pub WrongRequests : Type 0
-WrongRequests = (h : Host) (e : WireEvent) (fault : AskedFault) → request_asked e.value ≡ Err fault → (event_served h e).host ≡ h
+WrongRequests = (h : Host) (e : WireEvent) (fault : AskedFault) → request_asked e.value ≡ Err fault → ((event_served h e).host ≡ h) × (event_accesses h e ≡ [])
 
 abbrev pub RefusedRequests : Type 0
 RefusedRequests = (h : Host) (e : WireEvent) (why : WireRefusal) → (event_served h e).reply ≡ Refused why → (event_served h e).host ≡ h
@@ -47,15 +49,19 @@ events_in (x ∷ xs) = events_of x ++ events_in xs
 abbrev pub LinesAreEvents : Type 0
 LinesAreEvents = (h : Host) (lines : List LineHeard) → host_after_lines h lines ≡ host_served h (events_in lines)
 
--- What lines leave of a host, and the texts of their replies, are those of the fold over what each turns out to be. A line more is one step more.
-pub record IsFold (lines : List (List ℕ)) (old new : Host) (texts : List (List ℕ)) : Type 0 where
+-- What lines leave of a host, and the texts of their replies, are those of the fold over what each turns out to be. A line more is one step more. The folder
+-- went so, by the accesses of all their requests, in order.
+pub record IsFold {F : Type 0} (does : F → FolderAccess → F → Type 0) (lines : List (List ℕ)) (old new : Host) (from to : F) (texts : List (List ℕ)) : Type 0 where
   pub heard : List LineHeard
   pub are : AreLinesHeard lines heard
   pub host : new ≡ host_after_lines old heard
   pub replies : texts ≡ replies_to_lines old heard
+  pub leads : EventsLead does old from to (events_in heard)
 
-abbrev pub Transcripts : Type 0
-Transcripts = (lines : List (List ℕ)) (old new : Host) (texts : List (List ℕ)) → AreLinesServed lines old new texts → IsFold lines old new texts
+abbrev pub Transcripts : {F : Type 0} → (F → FolderAccess → F → Type 0) → Type 0
+Transcripts {F} does =
+    (lines : List (List ℕ)) (old new : Host) (from to : F) (texts : List (List ℕ)) → AreLinesServed does lines old new from to texts
+    → IsFold does lines old new from to texts
 
 -- ---- turns
 
@@ -91,7 +97,8 @@ TurnsAreParts = (h : Host) (slot : ℕ) (keys : List ℕ) (steps : ℕ) (s : Mac
 
 -- ---- isolation
 
--- Whatever is asked on the wire, the replies to a slot's own requests are those of the session by itself, and so is its state.
+-- Whatever is asked on the wire, the replies to a slot's own requests are those of the session by itself, with what the folder answered to these, and so is
+-- its state.
 abbrev pub WireIsolation : Type 0
 WireIsolation = (h : Host) (events : List WireEvent) (id : ℕ) → id < h.openings →
     (own_replies id h events ≡ session_replies h.system (own_requests id events) (slot_at id h.slots))
@@ -101,24 +108,25 @@ WireIsolation = (h : Host) (events : List WireEvent) (id : ℕ) → id < h.openi
 abbrev pub own_texts : ℕ → Host → List WireEvent → List (List ℕ)
 own_texts id h events = map compact_text (own_replies id h events)
 
--- So two transcripts agree on the replies to a slot's own requests, byte for byte, where they agree on those requests, its number left out, on the slot
--- before and on the system drive: whatever other lines stand between.
+-- So two transcripts agree on the replies to a slot's own requests, byte for byte, where they agree on those requests, its number left out, on what the folder
+-- answered to them, on the slot before and on the system drive: whatever other lines stand between.
 abbrev pub TwoTranscripts : Type 0
 TwoTranscripts = (h g : Host) (i j : ℕ) (xs ys : List LineHeard) → i < h.openings → j < g.openings → h.system ≡ g.system →
     slot_at i h.slots ≡ slot_at j g.slots → own_requests i (events_in xs) ≡ own_requests j (events_in ys) →
     own_texts i h (events_in xs) ≡ own_texts j g (events_in ys)
 
--- the replies to a session's own requests are those of the session by itself, from its opening with these drives on
-pub record AnswersAlone (system : Disk) (cpu : Cpu) (quota : ℕ) (names : FourNames) (own : List OwnRequest) (texts : List (List ℕ)) : Type 0 where
+-- The replies to a session's own requests are those of the session by itself, from its opening with these drives on: so the folder answered to the opening.
+pub record AnswersAlone (system : Disk) (cpu : Cpu) (quota : ℕ) (names : FourNames) (answers : List FolderAnswer) (own : List OwnRequest)
+    (texts : List (List ℕ)) : Type 0 where
   pub disks : List Disk
-  pub named : disks_named names ≡ Some disks
+  pub named : (drives_read names answers).drives ≡ Ok disks
   pub replied : texts ≡ map compact_text (session_replies system own (Some (opened_machine cpu quota disks)))
 
 -- The headline. A host is made, and anything is asked; a session is opened, and its number is replied; and anything is asked. The replies to the session's
--- own requests are a function of its opening, these requests and the system drive.
+-- own requests are a function of its opening, these requests, what the folder answered to them, and the system drive.
 abbrev pub WireAlone : Type 0
 WireAlone = (system : Disk) (frames : ℕ) (before : List WireEvent) (opening : WireEvent) (behind : List WireEvent)
     (cpu : Cpu) (quota : ℕ) (names : FourNames) (id : ℕ) →
     let h = host_served (new_host system frames) before in
     request_asked opening.value ≡ Ok (Open cpu quota names) → (event_served h opening).reply ≡ Opened id →
-    AnswersAlone system cpu quota names (own_requests id behind) (own_texts id (event_served h opening).host behind)
+    AnswersAlone system cpu quota names opening.answers (own_requests id behind) (own_texts id (event_served h opening).host behind)

@@ -1,6 +1,11 @@
+pub mod Folder
+pub mod Drives
+pub mod DriveFiles
 pub mod Seen
 pub mod Slot
 pub mod Served
+pub mod ServedWith
+pub mod Reading
 pub mod Turns
 pub mod Owned
 pub mod Lines

@@ -1,5 +1,5 @@
 -- What a line does to a host, and the text of its reply. All of it is own: docs/PROTOCOL.md.
-use Rattle.std.specs.Prelude.{⊤, ◌≡◌, ◌<◌, ◌≤◌, IsUtf8, ℕ, Bool, List, [], ◌∷◌, length, map, take, Option, Some, None, Result, Ok, Err}
+use Rattle.std.specs.Prelude.{⊤, ◌≡◌, ◌<◌, ◌≤◌, IsUtf8, ℕ, Bool, true, List, [], ◌∷◌, length, map, take, Option, Some, None, Result, Ok, Err}
 use Rattle.serde_json.specs.Data.{Data, null, Items, no_items, item}
 use Rattle.serde_json.specs.Read.{read}
 use Rattle.serde_json.specs.View.{items_of}
@@ -9,14 +9,19 @@ use Rattle.cpm_protocol.specs.Requests.{AskedFault, AskedTag, LineAsked, One, Ma
 use Rattle.cpm_protocol.specs.declared.fault.FieldFault.{FieldFault}
 use Rattle.cpm_protocol.specs.declared.word.WireRefusal.TheVariants as refusal
 use Rattle.cpm_slots.specs.Host.{Host}
-use Rattle.cpm_serve.specs.Served.{Served, outcome, served_if}
+use Rattle.cpm_serve.specs.DriveFiles.{DiskWork}
+use Rattle.cpm_serve.specs.Folder.{AccessesLead, AreNoFolderWrites, FolderAccess, FolderAnswer}
+use Rattle.cpm_serve.specs.Served.{Served, outcome}
+use Rattle.cpm_serve.specs.ServedWith.{IsDiskWork, accesses_of, served_with_if}
 
 -- ---- a value
 
--- the value of a request, and whether memory was refused to it
+-- the value of a request, whether memory was refused to it, what the folder answered, and what the work on a disk made
 pub record WireEvent : Type 0 where
   pub value : Data
   pub lacked : Bool
+  pub answers : List FolderAnswer
+  pub made : DiskWork
 
 -- a tag that can't be read doesn't come back
 abbrev pub tag_kept : Result (Option AskedTag) FieldFault → Option AskedTag
@@ -26,13 +31,29 @@ tag_kept (Err fault) = None
 abbrev pub tag_shown : Data → Option AskedTag
 tag_shown d = tag_kept (asked_tag d)
 
--- a value that is no request changes nothing, and is told its fault
-abbrev pub request_served : Bool → Host → Result WireAsked AskedFault → Served
-request_served lacked h (Ok r) = served_if lacked h r
-request_served lacked h (Err fault) = outcome h (Wrong fault)
+-- a value that is no request changes nothing, asks the folder nothing, and is told its fault
+abbrev pub request_served : WireEvent → Host → Result WireAsked AskedFault → Served
+request_served e h (Ok r) = served_with_if e.lacked h e.answers e.made r
+request_served e h (Err fault) = outcome h (Wrong fault)
 
 abbrev pub event_served : Host → WireEvent → Served
-event_served h e = request_served e.lacked h (request_asked e.value)
+event_served h e = request_served e h (request_asked e.value)
+
+abbrev pub request_accesses : WireEvent → Host → Result WireAsked AskedFault → List FolderAccess
+request_accesses e h (Ok r) = accesses_of h e.answers e.made r
+request_accesses e h (Err fault) = []
+
+-- what is asked of the folder
+abbrev pub event_accesses : Host → WireEvent → List FolderAccess
+event_accesses h e = request_accesses e h (request_asked e.value)
+
+-- The work on a disk made what it makes; and where memory was refused, no file was written.
+abbrev pub IsRequestTrue : WireEvent → Host → Result WireAsked AskedFault → Type 0
+IsRequestTrue e h (Ok r) = IsDiskWork r e.answers e.made × (e.lacked ≡ true → AreNoFolderWrites (accesses_of h e.answers e.made r))
+IsRequestTrue e h (Err fault) = ⊤
+
+abbrev pub IsEventTrue : Host → WireEvent → Type 0
+IsEventTrue h e = IsRequestTrue e h (request_asked e.value)
 
 -- the reply, with the tag of the request
 abbrev pub event_reply : Host → WireEvent → Data
@@ -47,6 +68,13 @@ host_served h (e ∷ es) = host_served (event_served h e).host es
 abbrev pub replies_served : Host → List WireEvent → List Data
 replies_served h [] = []
 replies_served h (e ∷ es) = event_reply h e ∷ replies_served (event_served h e).host es
+
+-- From one state of a folder to another by the accesses of these events and no others, each of which is true; `does` says how an access leads from state
+-- to state.
+abbrev pub EventsLead : {F : Type 0} → (F → FolderAccess → F → Type 0) → Host → (from to : F) → List WireEvent → Type 0
+EventsLead {F} does h from to [] = from ≡ to
+EventsLead {F} does h from to (e ∷ es) =
+    (next : F) × IsEventTrue h e × AccessesLead does from next (event_accesses h e) × EventsLead does (event_served h e).host next to es
 
 -- ---- a line
 
@@ -116,12 +144,13 @@ replies_to_lines h (x ∷ xs) = compact_text (heard_reply h x) ∷ replies_to_li
 
 -- ---- what is promised of a line
 
--- a host served a line of bytes, and this is the text of the reply
-pub record IsLineServed (line : List ℕ) (old new : Host) (text : List ℕ) : Type 0 where
+-- a host served a line of bytes, and this is the text of the reply; its requests led the folder
+pub record IsLineServed (Leads : List WireEvent → Type 0) (line : List ℕ) (old new : Host) (text : List ℕ) : Type 0 where
   pub heard : LineHeard
   pub is : IsLineHeard line heard
   pub host : new ≡ host_after_line old heard
   pub reply : text ≡ compact_text (heard_reply old heard)
+  pub leads : Leads (events_of heard)
 
 -- lines of bytes are heard so, each
 abbrev pub AreLinesHeard : List (List ℕ) → List LineHeard → Type 0
@@ -130,14 +159,16 @@ AreLinesHeard (line ∷ lines) (x ∷ xs) = IsLineHeard line x × AreLinesHeard 
 AreLinesHeard _ _ = ⊥
 
 -- lines were served, one after another, and these are the texts of the replies
-abbrev pub AreLinesServed : List (List ℕ) → (old new : Host) → List (List ℕ) → Type 0
-AreLinesServed [] old new [] = new ≡ old
-AreLinesServed (line ∷ lines) old new (text ∷ texts) = (h : Host) × IsLineServed line old h text × AreLinesServed lines h new texts
-AreLinesServed _ old new _ = ⊥
+abbrev pub AreLinesServed : {F : Type 0} → (F → FolderAccess → F → Type 0) → List (List ℕ) → (old new : Host) → (from to : F) → List (List ℕ) → Type 0
+AreLinesServed {F} does [] old new from to [] = (new ≡ old) × (from ≡ to)
+AreLinesServed {F} does (line ∷ lines) old new from to (text ∷ texts) =
+    (h : Host) × (next : F) × IsLineServed (EventsLead does old from next) line old h text × AreLinesServed does lines h new next to texts
+AreLinesServed {F} does _ old new from to _ = ⊥
 
 -- there was no memory for a reply: the first requests of the line were served, perhaps all
-pub record IsLineCut (line : List ℕ) (old new : Host) : Type 0 where
+pub record IsLineCut (Leads : List WireEvent → Type 0) (line : List ℕ) (old new : Host) : Type 0 where
   pub heard : LineHeard
   pub is : IsLineHeard line heard
   pub count : ℕ
   pub host : new ≡ host_served old (take count (events_of heard))
+  pub leads : Leads (take count (events_of heard))

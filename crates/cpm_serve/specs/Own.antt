@@ -10,8 +10,10 @@ use Rattle.cpm_protocol.specs.Replies.{Answered, Refused, reply_json}
 use Rattle.cpm_protocol.specs.Requests.{AskedFault, AskedTag, WireAsked, Key, Grant, Take, ListTake, Look, Peek, Save, Close, Turn, request_asked}
 use Rattle.cpm_protocol.specs.declared.word.WireRefusal.TheVariants as refusal
 use Rattle.cpm_serve.specs.Lines.{WireEvent, event_reply, event_served, tag_shown}
+use Rattle.cpm_serve.specs.Folder.{FolderAnswer}
 use Rattle.cpm_serve.specs.Served.{takes_memory}
-use Rattle.cpm_serve.specs.Slot.{asks_of, slot_answer, slot_named}
+use Rattle.cpm_serve.specs.ServedWith.{answer_with, asks_with}
+use Rattle.cpm_serve.specs.Slot.{slot_named}
 
 -- ---- a slot's own requests
 
@@ -28,10 +30,11 @@ unnumbered (Close slot out) = Close 0 out
 unnumbered (Turn slot keys steps) = Turn 0 keys steps
 unnumbered r = r
 
--- what is asked of a slot on the wire, its tag, and whether memory was refused to it
+-- what is asked of a slot on the wire, its tag, whether memory was refused to it, and what the folder answered to it
 pub record OwnRequest : Type 0 where
   pub tag : Option AskedTag
   pub lacked : Bool
+  pub answers : List FolderAnswer
   pub asked : WireAsked
 
 -- whether a request asks the slot of a number
@@ -44,7 +47,7 @@ is_own id (Ok r) = asks_slot id (slot_named r)
 is_own id (Err fault) = false
 
 abbrev pub own_asked : WireEvent → Result WireAsked AskedFault → List OwnRequest
-own_asked e (Ok r) = record { tag = tag_shown e.value; lacked = e.lacked; asked = unnumbered r } ∷ []
+own_asked e (Ok r) = record { tag = tag_shown e.value; lacked = e.lacked; answers = e.answers; asked = unnumbered r } ∷ []
 own_asked e (Err fault) = []
 
 -- the requests that ask the slot of a number, in order
@@ -59,20 +62,20 @@ own_replies id h (e ∷ es) = (if is_own id (request_asked e.value) then event_r
 
 -- ---- a session by itself
 
-abbrev pub asks_alone : Disk → WireAsked → Option MachineState → List Ask
-asks_alone system r None = []
-asks_alone system r (Some s) = asks_of system r s
+abbrev pub asks_alone : List FolderAnswer → Disk → WireAsked → Option MachineState → List Ask
+asks_alone answers system r None = []
+asks_alone answers system r (Some s) = asks_with answers system r s
 
-abbrev pub answer_alone : Disk → WireAsked → Option MachineState → Answered
-answer_alone system r None = Refused refusal.NoSuchSlot
-answer_alone system r (Some s) = slot_answer system r s
+abbrev pub answer_alone : List FolderAnswer → Disk → WireAsked → Option MachineState → Answered
+answer_alone answers system r None = Refused refusal.NoSuchSlot
+answer_alone answers system r (Some s) = answer_with answers system r s
 
 -- what it is asked, and the reply; nothing, where memory is refused
 abbrev pub session_asks : Disk → OwnRequest → Option MachineState → List Ask
-session_asks system x o = if x.lacked && takes_memory x.asked then [] else asks_alone system x.asked o
+session_asks system x o = if x.lacked && takes_memory x.asked then [] else asks_alone x.answers system x.asked o
 
 abbrev pub session_answer : Disk → OwnRequest → Option MachineState → Answered
-session_answer system x o = if x.lacked && takes_memory x.asked then Refused refusal.OutOfMemory else answer_alone system x.asked o
+session_answer system x o = if x.lacked && takes_memory x.asked then Refused refusal.OutOfMemory else answer_alone x.answers system x.asked o
 
 -- the session after requests, if it is still open
 abbrev pub session_after : Disk → List OwnRequest → Option MachineState → Option MachineState

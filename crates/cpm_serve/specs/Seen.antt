@@ -15,6 +15,8 @@ use Rattle.cpm_machine.specs.declared.reply.Why.TheVariants as why
 use Rattle.cpm_slots.specs.declared.event.ForkError.{ForkError}
 use Rattle.cpm_slots.specs.declared.event.ForkError.TheVariants as fork
 use Rattle.cpm_slots.specs.declared.event.Refusal.{Refusal}
+use Rattle.cpm_slots.specs.declared.event.SaveError.{SaveError}
+use Rattle.cpm_slots.specs.declared.event.SaveError.TheVariants as save
 use Rattle.cpm_slots.specs.declared.event.SlotId.{SlotId}
 use Rattle.cpm_protocol.specs.Replies.{Answered, Granted as GrantReply, Opened, Refused}
 use Rattle.cpm_protocol.specs.declared.reply.SessionLook.{SessionLook}
@@ -88,6 +90,11 @@ fork_refusal fork.NoSuchSlot = refusal.NoSuchSlot
 fork_refusal fork.NoSlot = refusal.NoSlot
 fork_refusal fork.NoFrames = refusal.NoFrames
 fork_refusal fork.OutOfMemory = refusal.OutOfMemory
+
+-- why a session is not saved
+abbrev pub save_refusal : SaveError → WireRefusal
+save_refusal save.NoSuchSlot = refusal.NoSuchSlot
+save_refusal save.OutOfMemory = refusal.OutOfMemory
 
 -- the reply to a grant that a host made
 abbrev pub grant_answer : Granted → Answered

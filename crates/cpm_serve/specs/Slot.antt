@@ -1,6 +1,6 @@
 -- What a request that names a slot asks of it, and its reply. Both follow from the request, the slot's state and the system drive.
 -- All of it is own: docs/PROTOCOL.md.
-use Rattle.std.specs.Prelude.{ℕ, ◌-◌, ◌==◌, not, min, Bool, true, false, List, [], ◌∷◌, ◌++◌, length, map, take, Option, Some, None, Result, Ok, Err}
+use Rattle.std.specs.Prelude.{ℕ, ◌-◌, ◌==◌, not, min, List, [], ◌∷◌, ◌++◌, length, map, take, Option, Some, None, Result, Ok, Err}
 use Rattle.std.specs.Prelude.{if◌then◌else◌}
 use Rattle.cpm_console.specs.Terminal.{most_pending}
 use Rattle.cpm_console.specs.declared.device.Device.{Device}
@@ -14,7 +14,7 @@ use Rattle.cpm_machine.specs.Step.{after, is_running}
 use Rattle.cpm_machine.specs.ToWait.{executed_to_wait}
 use Rattle.cpm_machine.specs.Until.{granted_until}
 use Rattle.cpm_machine.specs.declared.reply.Look.{Look as SessionSeen}
-use Rattle.cpm_slots.specs.Serving.{Ask, Calls, Closes}
+use Rattle.cpm_slots.specs.Serving.{Ask, Calls}
 use Rattle.cpm_slots.specs.declared.event.Refusal.{Refusal}
 use Rattle.cpm_slots.specs.declared.event.Refusal.TheVariants as slots
 use Rattle.cpm_protocol.specs.Replies.{Answered, Accepted, Granted, Looked, Refused, Text, Turned}
@@ -107,11 +107,6 @@ turn_asks system keys steps s =
 abbrev pub look_answer : MachineState → Answered
 look_answer s = Looked (look_seen s.cpu (look_of s))
 
--- no name for a drive
-abbrev pub is_no_name : Option (List ℕ) → Bool
-is_no_name None = true
-is_no_name (Some name) = false
-
 -- ---- the tables
 
 -- the slot that a request names and asks, if it does. A fork names one too, but asks its host.
@@ -127,17 +122,16 @@ slot_named (Close slot out) = Some slot
 slot_named (Turn slot keys steps) = Some slot
 slot_named _ = None
 
--- what is asked of a slot that is open. A look and bytes of the memory change nothing. Drives are not written yet.
+-- What is asked of a slot that is open, by a request that needs no file. A look and bytes of the memory change nothing.
 abbrev pub asks_of : Disk → WireAsked → MachineState → List Ask
 asks_of system (Key slot keys) s = key_asks keys
 asks_of system (Grant slot steps goal) s = grant_calls system steps goal s
 asks_of system (Take slot most) s = Calls (TakeCall most) ∷ []
 asks_of system (ListTake slot most) s = Calls (TakeList most) ∷ []
-asks_of system (Close slot out) s = if is_no_name out.a then Closes ∷ [] else []
 asks_of system (Turn slot keys steps) s = turn_asks system keys steps s
 asks_of system _ s = []
 
--- And the reply. What needs a file is not served yet. Behind a memory's byte at FFFFh comes that at 0000h.
+-- And the reply. (`answer_with` has those that need a file.) Behind a memory's byte at FFFFh comes that at 0000h.
 abbrev pub slot_answer : Disk → WireAsked → MachineState → Answered
 slot_answer system (Key slot keys) s = Accepted (accepted_of keys s)
 slot_answer system (Grant slot steps goal) s = granted_to system steps goal s
@@ -145,7 +139,6 @@ slot_answer system (Take slot most) s = Text (take most s.session.console.screen
 slot_answer system (ListTake slot most) s = Text (take most s.session.console.printer)
 slot_answer system (Look slot) s = look_answer s
 slot_answer system (Peek slot address length) s = Text (run_at s.memory address length)
-slot_answer system (Close slot out) s = if is_no_name out.a then look_answer s else Refused refusal.FileFault
 slot_answer system (Turn slot keys steps) s = turn_answer system keys steps s
 slot_answer system _ s = Refused refusal.FileFault
 

@@ -5,7 +5,8 @@ use Rattle.std.specs.declared.alloc.Global.{Global}
 use Rattle.std.specs.Io.BufRead.{drop_through, strip_last, take_through}
 use Rattle.std.specs.Io.KnownBytes.{Appends, Consumes}
 use Rattle.cpm_slots.specs.Host.{Host}
-use Rattle.cpm_serve.specs.Lines.{AreLinesServed, IsLineCut}
+use Rattle.cpm_serve.specs.Folder.{FolderAccess}
+use Rattle.cpm_serve.specs.Lines.{AreLinesServed, EventsLead, IsLineCut}
 
 -- ---- lines
 
@@ -66,19 +67,21 @@ abbrev pub IsLineRead : (old new : Option (List ℕ)) → Option (Vec ℕ Global
 IsLineRead old new None = IfSome old (λ text. wire_lines text ≡ [])
 IsLineRead old new (Some line) = IsLineKept old new line.items
 
--- A host was served all lines of a text, as far as it is known: each was served, and what was written is the replies, a line each.
-pub record HasTalked (input : Option (List ℕ)) (old new : Host) (before after : Option (List ℕ)) : Type 0 where
+-- A host was served all lines of a text, as far as it is known: each was served, and what was written is the replies, a line each. The folder went so, by the
+-- accesses of their requests.
+pub record HasTalked {F : Type 0} (does : F → FolderAccess → F → Type 0) (input : Option (List ℕ)) (old new : Host) (from to : F) (before after : Option (List ℕ)) : Type 0 where
   pub lines : List (List ℕ)
   pub texts : List (List ℕ)
   pub all : IfSome input (λ text. lines ≡ take most_wire_lines (wire_lines text))
-  pub served : AreLinesServed lines old new texts
+  pub served : AreLinesServed does lines old new from to texts
   pub written : Appends before after (reply_lines texts)
 
 -- It was served some, from the first on: the reader or the writer failed, or there was no memory for a line or for its reply.
-pub record HasTalkedPartly (input : Option (List ℕ)) (old new : Host) : Type 0 where
+pub record HasTalkedPartly {F : Type 0} (does : F → FolderAccess → F → Type 0) (input : Option (List ℕ)) (old new : Host) (from to : F) : Type 0 where
   pub lines : List (List ℕ)
   pub texts : List (List ℕ)
   pub front : IfSome input (λ text. (rest : List (List ℕ)) × (wire_lines text ≡ lines ++ rest))
   pub mid : Host
-  pub served : AreLinesServed lines old mid texts
-  pub last : (new ≡ mid) ⊎ ((line : List ℕ) × IsLineCut line mid new)
+  pub between : F
+  pub served : AreLinesServed does lines old mid from between texts
+  pub last : ((new ≡ mid) × (between ≡ to)) ⊎ ((line : List ℕ) × IsLineCut (EventsLead does mid between to) line mid new)

@@ -1,11 +1,11 @@
 //! What a reply says of what the library answers.
 ghost use Rattle.std.specs.Prelude.{◌≡◌};
-ghost use Rattle.cpm_serve.specs.Seen.{end_seen, fork_refusal, look_seen, open_refusal, pair_word, stop_seen};
+ghost use Rattle.cpm_serve.specs.Seen.{end_seen, fork_refusal, look_seen, open_refusal, pair_word, save_refusal, stop_seen};
 
 use cpm_flags::{Cpu, pack};
 use cpm_machine::{End, Look, OpenError, Why};
 use cpm_protocol::{GrantStop, SessionLook, WireEnd, WireRefusal};
-use cpm_slots::ForkError;
+use cpm_slots::{ForkError, SaveError};
 
 /// Why a grant ended.
 pub(crate) fn stop_seen(why: Why) -> GrantStop
@@ -95,5 +95,15 @@ pub(crate) fn fork_refusal(error: ForkError) -> WireRefusal
         ForkError::NoSlot => WireRefusal::NoSlot,
         ForkError::NoFrames => WireRefusal::NoFrames,
         ForkError::OutOfMemory => WireRefusal::OutOfMemory,
+    }
+}
+
+/// Why a session is not saved.
+pub(crate) fn save_refusal(error: SaveError) -> WireRefusal
+    ensures { result ≡ save_refusal error }
+{
+    match error {
+        SaveError::NoSuchSlot => WireRefusal::NoSuchSlot,
+        SaveError::OutOfMemory => WireRefusal::OutOfMemory,
     }
 }

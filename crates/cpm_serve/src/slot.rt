@@ -2,7 +2,7 @@
 ghost use Rattle.std.specs.Prelude.{◌≡◌, ◌++◌, IfOk, IfSome, chars, true};
 ghost use Rattle.cpm_memory.specs.Contents.{run_at};
 ghost use Rattle.cpm_protocol.specs.Bytes.{is_byte_text};
-ghost use Rattle.cpm_protocol.specs.Requests.{Close, Key, Look, Peek, Save, drive_names_of};
+ghost use Rattle.cpm_protocol.specs.Requests.{Key, Look, Peek};
 ghost use Rattle.cpm_slots.specs.Host.{slot_at};
 ghost use Rattle.cpm_serve.specs.Owned.{owned_answer};
 ghost use Rattle.cpm_serve.specs.Served.{IsRequestServed, after_asks};
@@ -11,7 +11,7 @@ ghost use Rattle.cpm_serve.specs.Slot.{accepted_in, key_asks, device_asked};
 use crate::owned::{OwnedReply, refused};
 use crate::seen::look_seen;
 use cpm_console::Device;
-use cpm_protocol::{DriveNames, WireRefusal, WireReply, bytes_of};
+use cpm_protocol::{WireRefusal, WireReply, bytes_of};
 use cpm_slots::{Host, SlotId};
 use std::alloc::{AllocError, Global};
 
@@ -111,33 +111,5 @@ pub(crate) fn peek(host: &Host, alloc: Global, slot: u64, address: u16, length: 
     match memory_bytes(host, alloc, id, address, length) {
         Ok(bytes) => OwnedReply::Bytes(bytes),
         Err(AllocError) => refused(WireRefusal::OutOfMemory),
-    }
-}
-
-/// Closes a slot, and says what is seen of it. Its drives are not written yet.
-pub(crate) fn close(host: &mut Host, slot: u64, out: DriveNames<'_>) -> OwnedReply
-    ensures { IsRequestServed (Close slot (drive_names_of out.entry)) host.old.host host.new.host (owned_answer result) }
-{
-    let id = SlotId(slot);
-    let Ok(cpu) = host.cpu(id) else {
-        return refused(WireRefusal::NoSuchSlot);
-    };
-    if out.a.is_some() {
-        return refused(WireRefusal::FileFault);
-    }
-    match host.close(id) {
-        Ok(closed) => OwnedReply::Plain(WireReply::Looked(look_seen(cpu, &closed.look))),
-        Err(_) => refused(WireRefusal::NoSuchSlot),
-    }
-}
-
-/// Refuses to save a slot: no file is written yet.
-pub(crate) fn save(host: &Host, slot: u64, file: &str) -> OwnedReply
-    ensures { IsRequestServed (Save slot file.now) host.now.host host.now.host (owned_answer result) }
-{
-    if host.cpu(SlotId(slot)).is_err() {
-        refused(WireRefusal::NoSuchSlot)
-    } else {
-        refused(WireRefusal::FileFault)
     }
 }

@@ -4,6 +4,7 @@ ghost use Rattle.std.specs.Io.BufRead.{strip_last, take_through};
 ghost use Rattle.std.specs.Io.KnownBytes.{Appends};
 ghost use Rattle.cpm_serve.specs.Talk.{HasTalked, HasTalkedPartly, IsLineRead, IsReadOn, has_newline};
 
+use crate::folder::Folder;
 use crate::server::{MOST_LINE, Server};
 use std::alloc::Global;
 use std::io;
@@ -105,14 +106,16 @@ fn write_reply<W: Write>(out: &mut W, reply: &str) -> io::Result<()>
 
 /// Serves the lines that it reads, each before it reads the next, and writes their replies, a line each, up to the end of the input. A line that is no
 /// request changes nothing. Of one that is too long no more is kept than tells that, and the rest is passed over.
-pub fn serve_lines<R: BufRead, W: Write>(
+pub fn serve_lines<F: Folder, R: BufRead, W: Write>(
     server: &mut Server,
     alloc: Global,
+    folder: &mut F,
     input: &mut R,
     out: &mut W,
 ) -> Result<(), TalkError>
-    ensures talked { OnOk result (HasTalked (R.remaining input.old) server.old.host.host server.new.host.host (W.contents out.old) (W.contents out.new)) }
-    ensures partly { OnErr result (HasTalkedPartly (R.remaining input.old) server.old.host.host server.new.host.host) }
+    ensures talked { OnOk result (HasTalked F.does (R.remaining input.old) server.old.host.host server.new.host.host folder.old folder.new
+        (W.contents out.old) (W.contents out.new)) }
+    ensures partly { OnErr result (HasTalkedPartly F.does (R.remaining input.old) server.old.host.host server.new.host.host folder.old folder.new) }
 {
     for _line in 0..u64::MAX {
         let line = match next_line(alloc, input) {
@@ -120,7 +123,7 @@ pub fn serve_lines<R: BufRead, W: Write>(
             Ok(None) => return Ok(()),
             Err(error) => return Err(TalkError::Unreadable(error)),
         };
-        let Ok(reply) = server.serve(alloc, without_newline(&line)) else {
+        let Ok(reply) = server.serve(alloc, folder, without_newline(&line)) else {
             return Err(TalkError::OutOfMemory);
         };
         if let Err(error) = write_reply(out, reply.as_str()) {

@@ -1,6 +1,7 @@
 //! A host of up to 64 sessions over one system drive, each of which is a machine alone.
 #![tactic(auto)]
 
+mod drives;
 pub mod event;
 mod fork;
 pub mod host;

@@ -2,7 +2,7 @@
 
 use crate::same::same;
 use cpm_geom::{Format, Image};
-use cpm_serve::{MOST_LINE, Server, serve_lines};
+use cpm_serve::{MOST_LINE, NoFolder, Server, serve_lines};
 use cpm_slots::Host;
 use std::alloc::Global;
 use std::process::Abort;
@@ -18,7 +18,9 @@ fn server(rt: &impl Abort, alloc: Global) -> Server {
 
 /// The reply to a line.
 fn reply(rt: &impl Abort, alloc: Global, server: &mut Server, line: &str) -> String {
-    server.serve(alloc, line.as_bytes()).expect(rt, "memory")
+    server
+        .serve(alloc, &mut NoFolder, line.as_bytes())
+        .expect(rt, "memory")
 }
 
 /// Fails unless a line has this reply.
@@ -46,6 +48,12 @@ const OPENS: &str = r#"{"do": "open", "cpu": "8080", "quota": 64, "drives": ["bl
 
 /// The reply where no slot of a number is open.
 const NO_SUCH_SLOT: &str = r#"{"refused":"NoSuchSlot","why":"no slot of that number is open"}"#;
+
+/// The reply where the folder has no file of a name.
+const ABSENT: &str = r#"{"refused":"AbsentFile","why":"the folder has no such file"}"#;
+
+/// The reply where a file can't be read or written.
+const FAULT: &str = r#"{"refused":"FileFault","why":"the file can't be read or written"}"#;
 
 #[test]
 fn wrong_lines_are_told_their_fault(rt: HostRuntime) {
@@ -82,10 +90,14 @@ fn a_line_of_more_than_1_mib_is_refused(rt: HostRuntime) {
     let alloc = rt.alloc();
     let mut server = server(&rt, alloc);
     let long = vec![in alloc; b' '; MOST_LINE + 1].expect(&rt, "memory");
-    let found = server.serve(alloc, &long).expect(&rt, "memory");
+    let found = server
+        .serve(alloc, &mut NoFolder, &long)
+        .expect(&rt, "memory");
     same(&rt, found.as_str(), r#"{"error":"line too long"}"#);
     let most = vec![in alloc; b' '; MOST_LINE].expect(&rt, "memory");
-    let found = server.serve(alloc, &most).expect(&rt, "memory");
+    let found = server
+        .serve(alloc, &mut NoFolder, &most)
+        .expect(&rt, "memory");
     same(&rt, found.as_str(), r#"{"at":1048577,"error":"no JSON"}"#);
 }
 
@@ -163,26 +175,24 @@ fn sessions_are_opened_forked_and_closed(rt: HostRuntime) {
 }
 
 #[test]
-fn what_needs_a_file_is_refused(rt: HostRuntime) {
+fn without_a_folder_no_file_is_there(rt: HostRuntime) {
     let alloc = rt.alloc();
     let mut server = server(&rt, alloc);
     replies(&rt, alloc, &mut server, OPENS, r#"{"slot":0}"#);
     for line in [
         r#"{"do": "open", "cpu": "8080", "quota": 16, "drives": ["blank", "work.img"]}"#,
         r#"{"do": "open", "from": "alice.saved"}"#,
-        r#"{"do": "save", "slot": 0, "file": "alice.saved"}"#,
-        r#"{"do": "close", "slot": 0, "out": ["after.img"]}"#,
         r#"{"do": "put", "drive": "work.img", "name": "HELLO.TXT", "text": "Hello\r\n"}"#,
         r#"{"do": "get", "drive": "work.img", "name": "HELLO.TXT"}"#,
         r#"{"do": "files", "drive": "work.img"}"#,
     ] {
-        replies(
-            &rt,
-            alloc,
-            &mut server,
-            line,
-            r#"{"refused":"FileFault","why":"the file can't be read or written"}"#,
-        );
+        replies(&rt, alloc, &mut server, line, ABSENT);
+    }
+    for line in [
+        r#"{"do": "save", "slot": 0, "file": "alice.saved"}"#,
+        r#"{"do": "close", "slot": 0, "out": ["after.img"]}"#,
+    ] {
+        replies(&rt, alloc, &mut server, line, FAULT);
     }
     replies(
         &rt,
@@ -334,7 +344,7 @@ fn lines_are_read_and_replies_written(rt: HostRuntime) {
     let mut input: &[u8] =
         b"{\"do\": \"open\", \"cpu\": \"z80\", \"quota\": 16, \"drives\": [\"blank\"]}\r\n\n{\"do\": \"key\", \"slot\": 0, \"keys\": \"DIR\"}";
     let mut out = Vec::new(alloc);
-    let served = serve_lines(&mut server, alloc, &mut input, &mut out);
+    let served = serve_lines(&mut server, alloc, &mut NoFolder, &mut input, &mut out);
     same(&rt, served.is_ok(), true);
     same(
         &rt,
@@ -352,7 +362,7 @@ fn a_line_that_is_too_long_is_passed_over(rt: HostRuntime) {
         .expect(&rt, "memory");
     let mut input: &[u8] = &text;
     let mut out = Vec::new(alloc);
-    let served = serve_lines(&mut server, alloc, &mut input, &mut out);
+    let served = serve_lines(&mut server, alloc, &mut NoFolder, &mut input, &mut out);
     same(&rt, served.is_ok(), true);
     same(
         &rt,
