@@ -236,6 +236,7 @@ pub fn do_task<
             alloc, task, stood, files, typist, out, record, watcher,
         )),
         Task::Debug(task) => plain(do_debug_task(alloc, task, files, input, out)),
+        Task::Serve(_) => Err(HostError::OutOfMemory),
         Task::Saved { file } => plain(tell_saved(alloc, file, files, out)),
         Task::Disk(task) => plain(do_disk(alloc, task, files, out)),
         Task::Help(page) => plain(print_page(*page, out)),

@@ -22,6 +22,9 @@ mod record;
 mod refused;
 mod repeated;
 mod screen;
+mod service_folder;
+mod service_journal;
+mod service_try;
 mod stream;
 mod task;
 mod tempo;
@@ -89,6 +92,9 @@ fn do_command(
     terminals: Terminals<'_>,
 ) -> Result<ExitCode, CommandRefusal> {
     let task = command(rt.alloc(), words).map_err(HostError::from)?;
+    if let Task::Serve(task) = &task {
+        return Ok(service_try::serve(rt, outputs, task)?);
+    }
     let status = do_task(rt, outputs, &task, terminals)?;
     Ok(ExitCode::from(status))
 }

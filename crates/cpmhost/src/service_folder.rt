@@ -105,7 +105,6 @@ impl<'a, R: LockableFiles> ServiceFolder<'a, R> {
             Err(error) => Err(fault_of(error)),
         }
     }
-}
 
     /// The paths of files in it.
     fn paths_of(&self, files: &[Output<'_>]) -> Result<Vec<String>, FolderError> {

@@ -2,13 +2,10 @@
 
 use crate::held::LockableFiles;
 use crate::output::{Outputs, PLAIN_PERMISSIONS};
-use crate::patient::PatientOutput;
-use cpm_host::read_whole_of;
 use std::alloc::Global;
 use std::fs::{File, OpenOptions, TryLockError};
-use std::io::{BufWriter, ErrorKind, Read, Write};
+use std::io::{ErrorKind, Write};
 use std::path::Path;
-use std::rt::Files;
 use std::{fs, io};
 
 /// The journal of a service, of which no other has the lock.
@@ -23,6 +20,9 @@ pub struct ServiceJournal<'a, R: LockableFiles> {
 
 /// The file of a path, to which is added, once no other service has it.
 fn opened(rt: &impl LockableFiles, path: Path<'_>) -> io::Result<File> {
+    if !path.is_file(rt) {
+        return Err(io::Error::new(ErrorKind::InvalidInput, "it is no file"));
+    }
     let file = OpenOptions::new().append(true).open(rt, path)?;
     lock(&file)?;
     Ok(file)
