@@ -24,6 +24,10 @@ use Rattle.cpm_serve.specs.Folder.{FolderAccess, FolderAnswer, Failed, Given, St
 abbrev pub DiskWork : Type 0
 DiskWork = Result (List ℕ) WireRefusal
 
+-- where none is done
+abbrev pub no_work : DiskWork
+no_work = Ok []
+
 -- the name that a text is of, without attributes
 abbrev pub disk_file_name : List ℕ → Option (List ℕ)
 disk_file_name text = option_map (with_marks false false) (one_name text)

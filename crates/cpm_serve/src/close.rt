@@ -13,6 +13,7 @@ ghost use Rattle.cpm_serve.specs.Folder.{AccessesLead, write_answer};
 ghost use Rattle.cpm_serve.specs.Owned.{owned_answer};
 ghost use Rattle.cpm_serve.specs.Reading.{AreMade, AreOutputsWritten, outputs_had};
 ghost use Rattle.cpm_serve.specs.Seen.{save_refusal};
+ghost use Rattle.cpm_serve.specs.Served.{is_no_name};
 ghost use Rattle.cpm_serve.specs.ServedWith.{IsRequestServedWith};
 ghost use Rattle.cpm_serve.specs.Slot.{look_answer};
 
@@ -129,7 +130,8 @@ fn write_outputs<F: Folder>(
     id: SlotId,
     out: DriveNames<'_>,
 ) -> Result<(), WireRefusal>
-    ensures { IfSome (slot_at id.0 host.now.host.slots) (λ s. AreOutputsWritten F.does (drive_names_of out.entry) s folder.old folder.new result) }
+    ensures { IfSome (slot_at id.0 host.now.host.slots) (λ s. AreOutputsWritten F.does (is_no_name (text_if out.entry.a))
+        (outputs_of (drive_names_of out.entry) s) folder.old folder.new result) }
 {
     if out.a.is_none() {
         return Ok(());
