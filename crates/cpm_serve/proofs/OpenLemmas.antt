@@ -22,7 +22,7 @@ use Rattle.cpm_serve.specs.declared.folder.FolderError.{FolderError}
 use Rattle.cpm_serve.specs.DriveFiles.{no_work}
 use Rattle.cpm_serve.specs.Drives.{drives_read, drives_state, name_count}
 use Rattle.cpm_serve.specs.Folder.{AccessesLead, AreNoFolderWrites, Failed, FolderAccess, FolderAnswer, Given, read_access, read_refusal}
-use Rattle.cpm_serve.specs.Reading.{AreDrivesRead, AreReadWith, IsLacked, restore_result}
+use Rattle.cpm_serve.specs.Reading.{AreNamedDrivesRead, AreReadWith, IsLacked, restore_result}
 use Rattle.cpm_serve.specs.ServedWith.{IsRequestServedWith, accesses_if_fit, opened_if_fit, opened_read, restore_refusal, resumed_if}
 use Rattle.cpm_serve.proofs.ServedLemmas.{same-outcome}
 
@@ -90,7 +90,7 @@ open-exact does h new cpu quota names r lacked a from to answers log e leads unw
 
 -- one whose drives were read
 pub open-read : {F : Type 0} (does : F → FolderAccess → F → Type 0) (h new : Host) (cpu : Cpu) (quota : ℕ) (names : FourNames) (disks : List Disk) (a : Answered) (from to : F) →
-    None ≡ open_fault h quota (name_count names) → AreDrivesRead does (drives_read names) (Ok disks) from to → IsSessionOpened cpu quota disks h new a →
+    None ≡ open_fault h quota (name_count names) → AreNamedDrivesRead does (drives_read names) (Ok disks) from to → IsSessionOpened cpu quota disks h new a →
     IsRequestServedWith (AccessesLead does from to) (Open cpu quota names) h new a
 open-read does h new cpu quota names disks a from to e k opened = ⊎_elim
     (λ (exact : (more : List FolderAnswer) → drives_read names (k.0 ++ more) ≡ drives_state (Ok disks) k.1 more).
@@ -103,7 +103,7 @@ open-read does h new cpu quota names disks a from to e k opened = ⊎_elim
 
 -- or were not
 pub open-unread : {F : Type 0} (does : F → FolderAccess → F → Type 0) (h : Host) (cpu : Cpu) (quota : ℕ) (names : FourNames) (why : WireRefusal) (a : Answered) (from to : F) →
-    None ≡ open_fault h quota (name_count names) → AreDrivesRead does (drives_read names) (Err why) from to → a ≡ Refused why →
+    None ≡ open_fault h quota (name_count names) → AreNamedDrivesRead does (drives_read names) (Err why) from to → a ≡ Refused why →
     IsRequestServedWith (AccessesLead does from to) (Open cpu quota names) h h a
 open-unread does h cpu quota names why a from to e k is = ⊎_elim
     (λ (exact : (more : List FolderAnswer) → drives_read names (k.0 ++ more) ≡ drives_state (Err why) k.1 more).

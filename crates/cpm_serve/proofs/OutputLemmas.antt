@@ -14,12 +14,12 @@ use Rattle.cpm_protocol.specs.Requests.{Close, FourNames, Save, WireAsked}
 use Rattle.cpm_protocol.specs.declared.word.WireRefusal.{WireRefusal}
 use Rattle.cpm_protocol.specs.declared.word.WireRefusal.TheVariants as refusal
 use Rattle.cpm_serve.specs.DriveFiles.{no_work, stored_answer}
-use Rattle.cpm_serve.specs.Drives.{outputs_of, with_output, with_output_of}
+use Rattle.cpm_serve.specs.Drives.{named_drive_outputs, with_output, with_output_of}
 use Rattle.cpm_serve.specs.Folder.{AccessesLead, AreNoFolderWrites, Failed, FolderAccess, FolderAnswer, Given, Stored, first_answer, write_access}
 use Rattle.cpm_serve.specs.Reading.{AreMade, AreOutputsWritten, IsLacked, or_bad_drives, outputs_written, written_result}
 use Rattle.cpm_serve.specs.Seen.{save_refusal}
 use Rattle.cpm_serve.specs.Served.{Served, after_asks, is_no_name, outcome, refused}
-use Rattle.cpm_serve.specs.ServedWith.{IsRequestServedWith, accesses_of_outputs, answer_with_outputs, asks_when_stored, asks_with_outputs, closed_answer, session_bytes}
+use Rattle.cpm_serve.specs.ServedWith.{IsRequestServedWith, accesses_of_outputs, answer_with_outputs, asks_when_stored, asks_with_outputs, closed_answer, session_saving}
 use Rattle.cpm_serve.specs.ServedWith.{slot_accesses, slot_served_with}
 use Rattle.cpm_serve.specs.Slot.{look_answer}
 use Rattle.cpm_serve.proofs.ServedLemmas.{same-outcome}
@@ -133,7 +133,7 @@ close-outcome h new slot s a false true wanted answers r is named well refused_b
 close-outcome h new slot s a false false wanted answers r is named well refused_by = outputs-outcome h new slot s a wanted answers r is well refused_by
 
 pub close-served : {F : Type 0} (does : F → FolderAccess → F → Type 0) (h new : Host) (slot : ℕ) (out : FourNames) (s : MachineState) (a : Answered) (from to : F) (r : Result ⊤ WireRefusal) →
-    slot_at slot h.slots ≡ Some s → AreOutputsWritten does (is_no_name out.a) (outputs_of out s) from to r →
+    slot_at slot h.slots ≡ Some s → AreOutputsWritten does (is_no_name out.a) (named_drive_outputs out s) from to r →
     (r ≡ Ok tt → (new ≡ after_ask h slot Closes) × (a ≡ look_answer s)) → ((why : WireRefusal) → r ≡ Err why → (new ≡ h) × (a ≡ Refused why)) →
     IsRequestServedWith (AccessesLead does from to) (Close slot out) h new a
 close-served does h new slot out s a from to r at w well refused_by = record {
@@ -141,7 +141,7 @@ close-served does h new slot out s a from to r at w well refused_by = record {
   answers = w.answers;
   made = no_work;
   work = tt;
-  served = close-outcome h new slot s a w.lacked (is_no_name out.a) (outputs_of out s) w.answers r w.is w.named well refused_by
+  served = close-outcome h new slot s a w.lacked (is_no_name out.a) (named_drive_outputs out s) w.answers r w.is w.named well refused_by
       ∙ ap (λ (o : Option MachineState). let x : Served = if w.lacked && not (is_no_name out.a) then refused h refusal.OutOfMemory else slot_served_with h w.answers slot (Close slot out) o in x) (sym at);
   leads = subst (λ (o : Option MachineState). AccessesLead does from to (slot_accesses w.answers h.system (Close slot out) o)) (sym at) w.leads;
   unwritten = λ e. subst (λ (o : Option MachineState). AreNoFolderWrites (slot_accesses w.answers h.system (Close slot out) o)) (sym at) (w.unwritten e);
@@ -162,7 +162,7 @@ close-absent does h slot out a from none is = record {
 -- ---- a session that is saved
 
 pub save-served : {F : Type 0} (does : F → FolderAccess → F → Type 0) (h new : Host) (slot : ℕ) (file bytes : List ℕ) (s : MachineState) (by : FolderAnswer) (a : Answered) (from to : F) →
-    slot_at slot h.slots ≡ Some s → bytes ≡ session_bytes h.system s → new ≡ h → does from (write_access ((file, bytes) ∷ []) by) to → a ≡ stored_answer (length bytes) by →
+    slot_at slot h.slots ≡ Some s → bytes ≡ session_saving h.system s → new ≡ h → does from (write_access ((file, bytes) ∷ []) by) to → a ≡ stored_answer (length bytes) by →
     IsRequestServedWith (AccessesLead does from to) (Save slot file) h new a
 save-served does h new slot file bytes s by a from to at saved same did is = record {
   lacked = false;

@@ -4,9 +4,9 @@ use Rattle.std.specs.Prelude.{◌⊎◌, Result, Ok, Err}
 use Rattle.cpm_geom.specs.Disk.{Disk}
 use Rattle.cpm_protocol.specs.declared.word.WireRefusal.{WireRefusal}
 use Rattle.cpm_protocol.specs.declared.word.WireRefusal.TheVariants as refusal
-use Rattle.cpm_serve.specs.Drives.{DrivesRead, disk_answered, disk_named, drives_state, none_read, one_more_disk, with_disk, with_drive_named, with_name}
+use Rattle.cpm_serve.specs.Drives.{DrivesRead, disk_answered, disk_named, drives_state, none_read, one_more_disk, with_disk, with_drive_named, with_image_named}
 use Rattle.cpm_serve.specs.Folder.{AccessesLead, AreNoFolderWrites, Failed, FolderAccess, FolderAnswer, Given, IsNoFolderWrite, Stored, read_access}
-use Rattle.cpm_serve.specs.Reading.{AreDrivesRead, AreReadWith, IsDriveRead, IsDriveReadOf, IsFileDisk, IsLacked, IsOneDriveMore}
+use Rattle.cpm_serve.specs.Reading.{AreNamedDrivesRead, AreReadWith, IsDriveRead, IsDriveReadOf, IsFileDisk, IsLacked, IsOneDriveMore}
 
 -- ---- accesses
 
@@ -30,7 +30,7 @@ disk-none-left : (n : List ℕ) (blank : Option Disk) (disks : List Disk) (log :
 disk-none-left n (Some blank) disks log = (refl, refl)
 disk-none-left n None disks log = (refl, refl)
 
-name-none-left : (n : List ℕ) (drives : Result (List Disk) WireRefusal) (log : List FolderAccess) → ((with_name n drives log []).accesses ≡ log) × ((with_name n drives log []).rest ≡ [])
+name-none-left : (n : List ℕ) (drives : Result (List Disk) WireRefusal) (log : List FolderAccess) → ((with_image_named n drives log []).accesses ≡ log) × ((with_image_named n drives log []).rest ≡ [])
 name-none-left n (Ok disks) log = disk-none-left n (disk_named n) disks log
 name-none-left n (Err why) log = (refl, refl)
 
@@ -38,7 +38,7 @@ name-none-left n (Err why) log = (refl, refl)
 none-left : (name : Option (List ℕ)) (x : DrivesRead) → x.rest ≡ [] → ((with_drive_named name x).accesses ≡ x.accesses) × ((with_drive_named name x).rest ≡ [])
 none-left None x e = (refl, e)
 none-left (Some n) x e =
-    subst (λ (rest : List FolderAnswer). ((with_name n x.drives x.accesses rest).accesses ≡ x.accesses) × ((with_name n x.drives x.accesses rest).rest ≡ [])) (sym e)
+    subst (λ (rest : List FolderAnswer). ((with_image_named n x.drives x.accesses rest).accesses ≡ x.accesses) × ((with_image_named n x.drives x.accesses rest).rest ≡ [])) (sym e)
     (name-none-left n x.drives x.accesses)
 
 fault-stays : (name : Option (List ℕ)) (why : WireRefusal) (log : List FolderAccess) (more : List FolderAnswer) → with_drive_named name (drives_state (Err why) log more) ≡ drives_state (Err why) log more
@@ -75,7 +75,7 @@ step-named n blank disks log more e = ap (λ b. with_disk n b disks log more) e
 -- a blank disk
 more-blank : {F : Type 0} (does : F → FolderAccess → F → Type 0) (n : List ℕ) (blank : Disk) (disks : List Disk) (after : Result (List Disk) WireRefusal) (read : List FolderAnswer → DrivesRead)
     (start to : F) (answers : List FolderAnswer) (log : List FolderAccess) → disk_named n ≡ Some blank → IsExact read disks answers log → AccessesLead does start to log → AreNoFolderWrites log →
-    (after ≡ Ok (disks ++ blank ∷ [])) ⊎ IsLacked after → AreDrivesRead does (λ answers. with_drive_named (Some n) (read answers)) after start to
+    (after ≡ Ok (disks ++ blank ∷ [])) ⊎ IsLacked after → AreNamedDrivesRead does (λ answers. with_drive_named (Some n) (read answers)) after start to
 more-blank does n blank disks after read start to answers log e exact leads unwritten is = ⊎_elim
     (λ (had : after ≡ Ok (disks ++ blank ∷ [])). (answers, log, record {
       leads = leads;
@@ -93,7 +93,7 @@ more-blank does n blank disks after read start to answers log e exact leads unwr
 more-file : {F : Type 0} (does : F → FolderAccess → F → Type 0) (n : List ℕ) (disks : List Disk) (r : Result Disk WireRefusal) (after : Result (List Disk) WireRefusal)
     (read : List FolderAnswer → DrivesRead) (start from to : F) (answers : List FolderAnswer) (log : List FolderAccess) → disk_named n ≡ None → IsExact read disks answers log →
     AccessesLead does start from log → AreNoFolderWrites log → IsFileDisk does n from to r → IsPushed disks r after →
-    AreDrivesRead does (λ answers. with_drive_named (Some n) (read answers)) after start to
+    AreNamedDrivesRead does (λ answers. with_drive_named (Some n) (read answers)) after start to
 more-file does n disks r after read start from to answers log e exact leads unwritten file is =
     let a = file.answer in
     let all = log ++ read_access n a ∷ [] in
@@ -123,7 +123,7 @@ pushed-blank disks blank r after read is = ⊎_elim
 more-exact : {F : Type 0} (does : F → FolderAccess → F → Type 0) (n : List ℕ) (blank : Option Disk) (disks : List Disk) (r : Result Disk WireRefusal) (after : Result (List Disk) WireRefusal)
     (read : List FolderAnswer → DrivesRead) (start from to : F) (answers : List FolderAnswer) (log : List FolderAccess) → disk_named n ≡ blank → IsExact read disks answers log →
     AccessesLead does start from log → AreNoFolderWrites log → IsDriveReadOf does n blank from to r → IsPushed disks r after →
-    AreDrivesRead does (λ answers. with_drive_named (Some n) (read answers)) after start to
+    AreNamedDrivesRead does (λ answers. with_drive_named (Some n) (read answers)) after start to
 more-exact {F} does n (Some blank) disks r after read start from to answers log e exact leads unwritten drive is =
     more-blank does n blank disks after read start to answers log e exact (subst (λ (f : F). AccessesLead does start f log) drive.0 leads) unwritten (pushed-blank disks blank r after drive.1 is)
 more-exact does n None disks r after read start from to answers log e exact leads unwritten drive is =
@@ -142,5 +142,5 @@ more-drive does n disks r after from to drive is = λ read start k. ⊎_elim
     not-lacked ds e = cc
 
 -- none so far
-pub none-more : {F : Type 0} (does : F → FolderAccess → F → Type 0) (from : F) → AreDrivesRead does none_read (Ok []) from from
+pub none-more : {F : Type 0} (does : F → FolderAccess → F → Type 0) (from : F) → AreNamedDrivesRead does none_read (Ok []) from from
 none-more does from = ([], [], record { leads = refl; unwritten = tt; is = inl (λ more. refl) })

@@ -19,7 +19,7 @@ use Rattle.cpm_protocol.specs.declared.request.GrantGoal.TheVariants as goal
 use Rattle.cpm_protocol.specs.declared.word.WireRefusal.{WireRefusal}
 use Rattle.cpm_protocol.specs.declared.word.WireRefusal.TheVariants as refusal
 use Rattle.cpm_serve.specs.DriveFiles.{DiskWork}
-use Rattle.cpm_serve.specs.Drives.{DrivesRead, drives_read, name_count, outputs_of}
+use Rattle.cpm_serve.specs.Drives.{DrivesRead, drives_read, name_count, named_drive_outputs}
 use Rattle.cpm_serve.specs.Folder.{Failed, FolderAnswer, Given, Stored, first_answer}
 use Rattle.cpm_serve.specs.Laws.{RefusedRequests}
 use Rattle.cpm_serve.specs.Lines.{WireEvent, request_served}
@@ -81,7 +81,7 @@ close-leaves h id s false files answers why e = outputs-leaves h id s files answ
 
 closed-leaves : (h : Host) (answers : List FolderAnswer) (id : ℕ) (out : FourNames) (o : Option MachineState) (why : WireRefusal) → Leaves h why (slot_served_with h answers id (Close id out) o)
 closed-leaves h answers id out None why e = refl
-closed-leaves h answers id out (Some s) why e = close-leaves h id s (is_no_name out.a) (outputs_of out s) answers why e
+closed-leaves h answers id out (Some s) why e = close-leaves h id s (is_no_name out.a) (named_drive_outputs out s) answers why e
 
 saved-leaves : (h : Host) (answers : List FolderAnswer) (id : ℕ) (file : List ℕ) (o : Option MachineState) (why : WireRefusal) → Leaves h why (slot_served_with h answers id (Save id file) o)
 saved-leaves h answers id file None why e = refl

@@ -54,14 +54,17 @@ pub record AreReadWith {F : Type 0} (does : F → FolderAccess → F → Type 0)
   pub is : ((more : List FolderAnswer) → read (answers ++ more) ≡ drives_state r log more)
       ⊎ (IsLacked r × ((read answers).accesses ≡ log) × ((read answers).rest ≡ []))
 
-abbrev pub AreDrivesRead : {F : Type 0} → (F → FolderAccess → F → Type 0) → (List FolderAnswer → DrivesRead) → Result (List Disk) WireRefusal → (from to : F) → Type 0
-AreDrivesRead {F} does read r from to = (answers : List FolderAnswer) × (log : List FolderAccess) × AreReadWith does read r from to answers log
+abbrev pub AreNamedDrivesRead : {F : Type 0} → (F → FolderAccess → F → Type 0) → (List FolderAnswer → DrivesRead) → Result (List Disk) WireRefusal
+    → (from to : F) → Type 0
+AreNamedDrivesRead {F} does read r from to =
+    (answers : List FolderAnswer) × (log : List FolderAccess) × AreReadWith does read r from to answers log
 
 -- a name more, whatever was read before
-abbrev pub IsOneDriveMore : {F : Type 0} → (F → FolderAccess → F → Type 0) → Option (List ℕ) → (before after : Result (List Disk) WireRefusal) → (from to : F) → Type 0
+abbrev pub IsOneDriveMore : {F : Type 0} → (F → FolderAccess → F → Type 0) → Option (List ℕ) → (before after : Result (List Disk) WireRefusal)
+    → (from to : F) → Type 0
 IsOneDriveMore {F} does name before after from to =
-    (read : List FolderAnswer → DrivesRead) (start : F) → AreDrivesRead does read before start from
-    → AreDrivesRead does (λ answers. with_drive_named name (read answers)) after start to
+    (read : List FolderAnswer → DrivesRead) (start : F) → AreNamedDrivesRead does read before start from
+    → AreNamedDrivesRead does (λ answers. with_drive_named name (read answers)) after start to
 
 -- ---- drives that are written
 
