@@ -84,7 +84,7 @@ refusal_why refusal.NoFile = codes "no such file"
 refusal_why refusal.Exists = codes "a file of that name is there"
 refusal_why refusal.BadName = codes "no file of a disk has such a name"
 refusal_why refusal.AbsentFile = codes "the folder has no such file"
-refusal_why refusal.BusyFile = codes "a session has the file"
+refusal_why refusal.BusyFile = codes "another command has the file"
 refusal_why refusal.DamagedDisk = codes "the file is no image of a sound disk"
 refusal_why refusal.FileFault = codes "the file can't be read or written"
 

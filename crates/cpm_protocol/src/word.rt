@@ -129,7 +129,7 @@ impl WireRefusal {
             WireRefusal::Exists => "a file of that name is there",
             WireRefusal::BadName => "no file of a disk has such a name",
             WireRefusal::AbsentFile => "the folder has no such file",
-            WireRefusal::BusyFile => "a session has the file",
+            WireRefusal::BusyFile => "another command has the file",
             WireRefusal::DamagedDisk => "the file is no image of a sound disk",
             WireRefusal::FileFault => "the file can't be read or written",
         }

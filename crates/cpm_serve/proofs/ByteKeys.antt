@@ -99,7 +99,7 @@ fine-close d = then (slot_asked d) _ (λ slot a. then (four_names_if field.Out d
 
 fine-put : (d : Data) → Fine (put_asked d)
 unfolding put_asked
-fine-put d = then (text_where is_file_name field.Drive d) _ (λ drive a. then (text_where is_short_text field.Name d) _ (λ name b. then (bytes_field_at field.Text d) _ (λ text e. tt)))
+fine-put d = then (text_where is_file_name field.Drive d) _ (λ drive a. then (text_where is_short_text field.Name d) _ (λ name b. then (bytes_field_at field.Text d) _ (λ text e. read_field field.Text (field_at field.Text d) text e)))
 
 fine-get : (d : Data) → Fine (get_asked d)
 unfolding get_asked

@@ -8,3 +8,8 @@ pub mod OwnLemmas
 pub mod WireLaws
 pub mod OpenLemmas
 pub mod TalkLemmas
+pub mod EventLemmas
+pub mod RefusedLemmas
+pub mod ReadLemmas
+pub mod OutputLemmas
+pub mod DiskLemmas

@@ -1,11 +1,13 @@
 -- Requests, one after another.
-use Rattle.std.proofs.Common.{◌≡◌, ◌<◌, ◌+◌, ℕ, List, [], ◌∷◌, ◌++◌, length, map, take, drop, get_or, false, refl, sym, ap, ap₂, ◌∙◌, add-one, append_assoc}
+use Rattle.std.proofs.Common.{◌≡◌, ◌<◌, ◌+◌, ℕ, List, [], ◌∷◌, ◌++◌, length, map, take, drop, get_or, false, refl, sym, subst, ap, ap₂, ◌∙◌, add-one, append_assoc}
 use Rattle.std.proofs.lemmas.List.{map-append, take-append-drop}
 use Rattle.std.proofs.Math.Seq.{take-append_seam, take-suc}
 use Rattle.std.specs.Prelude.{OnErr, Result, Ok, Err}
 use Rattle.serde_json.specs.Data.{Data}
 use Rattle.cpm_slots.specs.Host.{Host}
-use Rattle.cpm_serve.specs.Lines.{WireEvent, event_reply, event_served, host_served, replies_served}
+use Rattle.cpm_serve.specs.DriveFiles.{no_work}
+use Rattle.cpm_serve.specs.Folder.{FolderAccess}
+use Rattle.cpm_serve.specs.Lines.{EventsLead, WireEvent, event_reply, event_served, host_served, replies_served}
 use Rattle.cpm_serve.specs.Parts.{AreServed, AreServedUpTo, IsEventCut, IsEventServed, event_of}
 
 abbrev value_of : WireEvent → Data
@@ -19,40 +21,61 @@ pub replies-append : (h : Host) (es fs : List WireEvent) → replies_served h (e
 replies-append h [] fs = refl
 replies-append h (e ∷ es) fs = ap (λ rs. event_reply h e ∷ rs) (replies-append (event_served h e).host es fs)
 
+-- the folder goes on by more events
+pub leads-append : {F : Type 0} (does : F → FolderAccess → F → Type 0) (h : Host) (from mid to : F) (es fs : List WireEvent) →
+    EventsLead does h from mid es → EventsLead does (host_served h es) mid to fs → EventsLead does h from to (es ++ fs)
+leads-append {F} does h from mid to [] fs a b = subst (λ (f : F). EventsLead does h f to fs) (sym a) b
+leads-append {F} does h from mid to (e ∷ es) fs a b = (a.0, a.1, a.2, leads-append does (event_served h e).host a.0 mid to es fs a.3 b)
+
 -- events that no memory was refused to
 abbrev plain : List Data → List WireEvent
-plain ds = map (λ d. event_of d false) ds
+plain ds = map (λ d. event_of d false [] no_work) ds
 
 plain-values : (ds : List Data) → map value_of (plain ds) ≡ ds
 plain-values [] = refl
 plain-values (d ∷ ds) = ap (λ xs. d ∷ xs) (plain-values ds)
 
+-- none was served
+pub served-none : (L : List WireEvent → Type 0) (h : Host) → L [] → AreServed L [] h h []
+served-none L h none = record { events = []; values = refl; host = refl; replies = refl; leads = none }
+
+one-more_values : (ds : List Data) (d : Data) (events : List WireEvent) (event : WireEvent) → map value_of events ≡ ds → event.value ≡ d → map value_of (events ++ event ∷ []) ≡ ds ++ d ∷ []
+one-more_values ds d events event before one =
+    map-append value_of events (event ∷ []) ∙ ap₂ (λ (xs : List Data) (x : Data). xs ++ x ∷ []) before one
+
 -- one more was served
-pub served-more : (ds all : List Data) (d : Data) (rs : List Data) (r : Data) (old h new : Host) → AreServed ds old h rs → IsEventServed d h new r → all ≡ ds ++ d ∷ [] → AreServed all old new (rs ++ r ∷ [])
-served-more ds all d rs r old h new k one e =
-    let event = event_of d one.lacked in
+pub served-more : {F : Type 0} (does : F → FolderAccess → F → Type 0) (from mid to : F) (ds all : List Data) (d : Data) (rs : List Data) (r : Data) (old h new : Host) →
+    AreServed (EventsLead does old from mid) ds old h rs → IsEventServed (EventsLead does h mid to) d h new r → all ≡ ds ++ d ∷ [] →
+    AreServed (EventsLead does old from to) all old new (rs ++ r ∷ [])
+served-more does from mid to ds all d rs r old h new k one e =
+    let event = one.event in
     record {
       events = k.events ++ event ∷ [];
-      values = map-append value_of k.events (event ∷ []) ∙ ap (λ xs. xs ++ d ∷ []) k.values ∙ sym e;
+      values = one-more_values ds d k.events event k.values one.value ∙ sym e;
       host = one.host ∙ ap (λ (g : Host). (event_served g event).host) k.host ∙ sym (host-append old k.events (event ∷ []));
-      replies = ap₂ (λ (xs : List Data) (x : Data). xs ++ x ∷ []) k.replies (one.reply ∙ ap (λ (g : Host). event_reply g event) k.host) ∙ sym (replies-append old k.events (event ∷ []));
+      replies = ap₂ (λ (xs : List Data) (x : Data). xs ++ x ∷ []) k.replies (one.replied ∙ ap (λ (g : Host). event_reply g event) k.host) ∙ sym (replies-append old k.events (event ∷ []));
+      leads = leads-append does old from mid to k.events (event ∷ []) k.leads (subst (λ (g : Host). EventsLead does g mid to (event ∷ [])) k.host one.leads);
     }
 
 -- one more was served, and there was no memory for its reply
-pub cut-at : (ds all : List Data) (d : Data) (rest rs : List Data) (old h new : Host) → AreServed ds old h rs → IsEventCut d h new → all ≡ ds ++ d ∷ rest → AreServedUpTo all old new
-cut-at ds all d rest rs old h new k one e =
-    let event = event_of d one.lacked in
+pub cut-at : {F : Type 0} (does : F → FolderAccess → F → Type 0) (from mid to : F) (ds all : List Data) (d : Data) (rest rs : List Data) (old h new : Host) →
+    AreServed (EventsLead does old from mid) ds old h rs → IsEventCut (EventsLead does h mid to) d h new → all ≡ ds ++ d ∷ rest →
+    AreServedUpTo (EventsLead does old from to) all old new
+cut-at does from mid to ds all d rest rs old h new k one e =
+    let event = one.event in
     let done = k.events ++ event ∷ [] in
     record {
       events = done ++ plain rest;
-      values = map-append value_of done (plain rest) ∙ ap₂ (λ (xs ys : List Data). xs ++ ys) (map-append value_of k.events (event ∷ []) ∙ ap (λ xs. xs ++ d ∷ []) k.values) (plain-values rest)
+      values = map-append value_of done (plain rest) ∙ ap₂ (λ (xs ys : List Data). xs ++ ys) (one-more_values ds d k.events event k.values one.value) (plain-values rest)
           ∙ append_assoc ds (d ∷ []) rest ∙ sym e;
       count = length done;
       host = one.host ∙ ap (λ (g : Host). (event_served g event).host) k.host ∙ sym (host-append old k.events (event ∷ [])) ∙ ap (host_served old) (sym (take-append_seam done (plain rest)));
+      leads = subst (EventsLead does old from to) (sym (take-append_seam done (plain rest)))
+          (leads-append does old from mid to k.events (event ∷ []) k.leads (subst (λ (g : Host). EventsLead does g mid to (event ∷ [])) k.host one.leads));
     }
 
-pub cut-served : (d r : Data) (h new : Host) → IsEventServed d h new r → IsEventCut d h new
-cut-served d r h new k = record { lacked = k.lacked; host = k.host }
+pub cut-served : (L : List WireEvent → Type 0) (d r : Data) (h new : Host) → IsEventServed L d h new r → IsEventCut L d h new
+cut-served L d r h new k = record { event = k.event; value = k.value; host = k.host; leads = k.leads }
 
 -- the values up to one, it, and those behind it
 pub up-to : {A : Type 0} (view : A → Data) (xs : List A) (i : ℕ) (x : A) → i < length xs → x ≡ get_or xs i x → map view (take (i + 1) xs) ≡ map view (take i xs) ++ view x ∷ []

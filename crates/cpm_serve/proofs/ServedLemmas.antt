@@ -26,7 +26,7 @@ use Rattle.cpm_slots.specs.Host.{Host, after_ask, close_reply, cpu_reply, grant_
 use Rattle.cpm_slots.specs.Serving.{Calls, Closes, reply_of, serve_slot, take_call}
 use Rattle.cpm_slots.proofs.ServeLaws.{works}
 use Rattle.cpm_protocol.specs.Replies.{Answered, Looked, Refused, Text}
-use Rattle.cpm_protocol.specs.Requests.{FourNames, WireAsked, Close, Grant, ListTake, Look, Take}
+use Rattle.cpm_protocol.specs.Requests.{WireAsked, Grant, ListTake, Look, Take}
 use Rattle.cpm_protocol.specs.declared.request.GrantGoal.TheVariants as goal
 use Rattle.cpm_protocol.specs.declared.word.GrantStop.{GrantStop}
 use Rattle.cpm_protocol.specs.declared.word.WireRefusal.TheVariants as refusal
@@ -173,17 +173,11 @@ take-served h new device.List id most r out said host = by-slot h new id (ListTa
 
 -- ---- a slot that is closed
 
-closed-unknown : (fault : Refusal) (s : MachineState) (h : Host) (id : ℕ) → slot_at id h.slots ≡ Some s → let r : Result Closed Refusal = Err fault in close_reply r ≡ reply_at h id Closes → ⊥
+pub closed-unknown : (fault : Refusal) (s : MachineState) (h : Host) (id : ℕ) → slot_at id h.slots ≡ Some s → let r : Result Closed Refusal = Err fault in close_reply r ≡ reply_at h id Closes → ⊥
 unfolding serve_slot
 closed-unknown fault s h id at said =
     let r : Result Closed Refusal = Err fault in
     let e : close_reply r ≡ reply.Done = said ∙ ap (λ o. (serve_slot h.system Closes o).reply) at in cc
-
-pub close-not-served : (h new : Host) (id : ℕ) (fault : Refusal) (out : FourNames) (a : Answered) → let l : Result Closed Refusal = Err fault in
-    close_reply l ≡ reply_at h id Closes → new ≡ h → a ≡ Refused refusal.NoSuchSlot → outcome new a ≡ asked_slot h id (Close id out)
-close-not-served h new id fault out a said same is = by-slot h new id (Close id out) a
-    (λ none. (same, is))
-    (λ s at. absurd (closed-unknown fault s h id at said))
 
 -- ---- keys
 

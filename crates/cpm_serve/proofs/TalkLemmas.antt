@@ -9,8 +9,8 @@ use Rattle.std.proofs.Math.Seq.{take-append_seam, take-nil, take-suc}
 use Rattle.std.specs.Io.BufRead.{take_through, drop_through, ends_with_byte, strip_last, DropsThrough}
 use Rattle.std.specs.Io.KnownBytes.{Appends, Consumes}
 use Rattle.cpm_slots.specs.Host.{Host}
-use Rattle.cpm_serve.specs.Lines.{AreLinesServed, Asks, Broken, IsLineCut, IsLineHeard, IsLineServed, LineHeard, Long, Unread, most_line, heard_reply, host_after_line}
-use Rattle.serde_json.specs.Written.{compact_text}
+use Rattle.cpm_serve.specs.Folder.{FolderAccess}
+use Rattle.cpm_serve.specs.Lines.{AreLinesServed, Asks, Broken, EventsLead, IsLineCut, IsLineHeard, IsLineServed, LineHeard, Long, Unread, WireEvent, most_line}
 use Rattle.cpm_serve.specs.Talk.{HasTalked, HasTalkedPartly, IsLineKept, IsLineRead, IsReadOn, ReadsLines, has_newline, most_kept, kept_lines, most_wire_lines, put_first, reply_lines, wire_lines}
 
 by_case : (ends : Bool) (b : ℕ) (bs : List ℕ) → put_first b (kept_lines bs) ≡ (b ∷ take_through 10 bs) ∷ kept_lines (drop_through 10 bs)
@@ -42,12 +42,12 @@ reads_line count (Some xs) (Some ys) line read rest size some =
 
 -- ---- what was read, served and written so far
 
-pub record IsTalkSoFar (input now : Option (List ℕ)) (old new : Host) (before after : Option (List ℕ)) (count : ℕ) : Type 0 where
+pub record IsTalkSoFar {F : Type 0} (does : F → FolderAccess → F → Type 0) (input now : Option (List ℕ)) (old new : Host) (from to : F) (before after : Option (List ℕ)) (count : ℕ) : Type 0 where
   pub lines : List (List ℕ)
   pub texts : List (List ℕ)
   pub read : ReadsLines input now lines
   pub counted : length lines ≡ count
-  pub served : AreLinesServed lines old new texts
+  pub served : AreLinesServed does lines old new from to texts
   pub written : Appends before after (reply_lines texts)
 
 reads_more : (old now new : Option (List ℕ)) (lines more : List (List ℕ)) → ReadsLines old now lines → ReadsLines now new more → ReadsLines old new (lines ++ more)
@@ -66,18 +66,21 @@ replies_more : (texts : List (List ℕ)) (text : List ℕ) → reply_lines (text
 replies_more [] text = refl
 replies_more (t ∷ ts) text = ap (λ bs. t ++ 0x0A ∷ bs) (replies_more ts text) ∙ sym (append_assoc t (0x0A ∷ reply_lines ts) (text ++ 0x0A ∷ []))
 
-lines_more : (lines : List (List ℕ)) (old now new : Host) (texts : List (List ℕ)) (line text : List ℕ) → AreLinesServed lines old now texts → IsLineServed line now new text →
-    AreLinesServed (lines ++ line ∷ []) old new (texts ++ text ∷ [])
-lines_more [] old now new [] line text a one = (new, rebased, refl)
-  where
-    rebased : IsLineServed line old new text
-    rebased = record { heard = one.heard; is = one.is; host = one.host ∙ ap (λ (g : Host). host_after_line g one.heard) a; reply = one.reply ∙ ap (λ (g : Host). compact_text (heard_reply g one.heard)) a }
-lines_more [] old now new (t ∷ ts) line text a one = absurd a
-lines_more (l ∷ ls) old now new [] line text a one = absurd a
-lines_more (l ∷ ls) old now new (t ∷ ts) line text a one = (a.0, a.1, lines_more ls a.0 now new ts line text a.2 one)
+rebased : {F : Type 0} (does : F → FolderAccess → F → Type 0) (line text : List ℕ) (old now new : Host) (from mid to : F) → now ≡ old → from ≡ mid → IsLineServed (EventsLead does now mid to) line now new text →
+    IsLineServed (EventsLead does old from to) line old new text
+rebased {F} does line text old now new from mid to host folder one =
+    subst (λ (f : F). IsLineServed (EventsLead does old f to) line old new text) (sym folder)
+    (subst (λ (g : Host). IsLineServed (EventsLead does g mid to) line g new text) host one)
 
-pub talk_begun : (input : Option (List ℕ)) (old : Host) (before : Option (List ℕ)) → IsTalkSoFar input input old old before before 0
-talk_begun input old before = record { lines = []; texts = []; read = begun input; counted = refl; served = refl; written = unwritten before }
+lines_more : {F : Type 0} (does : F → FolderAccess → F → Type 0) (lines : List (List ℕ)) (old now new : Host) (from mid to : F) (texts : List (List ℕ)) (line text : List ℕ) → AreLinesServed does lines old now from mid texts →
+    IsLineServed (EventsLead does now mid to) line now new text → AreLinesServed does (lines ++ line ∷ []) old new from to (texts ++ text ∷ [])
+lines_more does [] old now new from mid to [] line text a one = (new, to, rebased does line text old now new from mid to a.0 a.1 one, refl, refl)
+lines_more does [] old now new from mid to (t ∷ ts) line text a one = absurd a
+lines_more does (l ∷ ls) old now new from mid to [] line text a one = absurd a
+lines_more does (l ∷ ls) old now new from mid to (t ∷ ts) line text a one = (a.0, a.1, a.2, lines_more does ls a.0 now new a.1 mid to ts line text a.3 one)
+
+pub talk_begun : {F : Type 0} (does : F → FolderAccess → F → Type 0) (input : Option (List ℕ)) (old : Host) (from : F) (before : Option (List ℕ)) → IsTalkSoFar does input input old old from from before before 0
+talk_begun does input old from before = record { lines = []; texts = []; read = begun input; counted = refl; served = (refl, refl); written = unwritten before }
   where
     begun : (known : Option (List ℕ)) → ReadsLines known known []
     begun None = tt
@@ -88,15 +91,15 @@ talk_begun input old before = record { lines = []; texts = []; read = begun inpu
     unwritten (Some bytes) = sym (append-nil bytes)
 
 -- one line more
-pub talk_more : (input now next : Option (List ℕ)) (old mid new : Host) (before after last : Option (List ℕ)) (count : ℕ) (line text : List ℕ) →
-    IsTalkSoFar input now old mid before after count → ReadsLines now next (line ∷ []) → IsLineServed line mid new text → Appends after last (text ++ 0x0A ∷ []) →
-    IsTalkSoFar input next old new before last (count + 1)
-talk_more input now next old mid new before after last count line text k read served written = record {
+pub talk_more : {F : Type 0} (does : F → FolderAccess → F → Type 0) (input now next : Option (List ℕ)) (old mid new : Host) (from between to : F) (before after last : Option (List ℕ)) (count : ℕ) (line text : List ℕ) →
+    IsTalkSoFar does input now old mid from between before after count → ReadsLines now next (line ∷ []) → IsLineServed (EventsLead does mid between to) line mid new text →
+    Appends after last (text ++ 0x0A ∷ []) → IsTalkSoFar does input next old new from to before last (count + 1)
+talk_more does input now next old mid new from between to before after last count line text k read served written = record {
   lines = k.lines ++ line ∷ [];
   texts = k.texts ++ text ∷ [];
   read = reads_more input now next k.lines (line ∷ []) k.read read;
   counted = let n = k.counted in let m = length-append k.lines (line ∷ []) in omega (arith, n, m);
-  served = lines_more k.lines old mid new k.texts line text k.served served;
+  served = lines_more does k.lines old mid new from between to k.texts line text k.served served;
   written = subst (λ bs. Appends before last bs) (sym (replies_more k.texts text)) (appends_more before after last (reply_lines k.texts) (text ++ 0x0A ∷ []) k.written written);
 }
 
@@ -110,9 +113,9 @@ all_read count (Some text) (Some rest) lines read end counted few =
     let whole : wire_lines text ≡ lines = read ∙ ap (λ ls. lines ++ ls) end ∙ append-nil lines in
     sym (take_all most_wire_lines lines (omega (arith, counted, few))) ∙ ap (take most_wire_lines) (sym whole)
 
-pub talk_ended : (input now : Option (List ℕ)) (old new : Host) (before after : Option (List ℕ)) (count : ℕ) → IsTalkSoFar input now old new before after count →
-    IfSome now (λ text. wire_lines text ≡ []) → count ≤ most_wire_lines → HasTalked input old new before after
-talk_ended input now old new before after count k end few = record {
+pub talk_ended : {F : Type 0} (does : F → FolderAccess → F → Type 0) (input now : Option (List ℕ)) (old new : Host) (from to : F) (before after : Option (List ℕ)) (count : ℕ) →
+    IsTalkSoFar does input now old new from to before after count → IfSome now (λ text. wire_lines text ≡ []) → count ≤ most_wire_lines → HasTalked does input old new from to before after
+talk_ended does input now old new from to before after count k end few = record {
   lines = k.lines;
   texts = k.texts;
   all = all_read count input now k.lines k.read end k.counted few;
@@ -126,9 +129,9 @@ most_read (Some text) None lines read counted = absurd read
 most_read (Some text) (Some rest) lines read counted =
     sym (take-append_seam lines (wire_lines rest)) ∙ ap (λ n. take n (lines ++ wire_lines rest)) counted ∙ ap (take most_wire_lines) (sym read)
 
-pub talk_full : (input now : Option (List ℕ)) (old new : Host) (before after : Option (List ℕ)) (count : ℕ) → IsTalkSoFar input now old new before after count → count ≡ most_wire_lines →
-    HasTalked input old new before after
-talk_full input now old new before after count k full = record {
+pub talk_full : {F : Type 0} (does : F → FolderAccess → F → Type 0) (input now : Option (List ℕ)) (old new : Host) (from to : F) (before after : Option (List ℕ)) (count : ℕ) →
+    IsTalkSoFar does input now old new from to before after count → count ≡ most_wire_lines → HasTalked does input old new from to before after
+talk_full does input now old new from to before after count k full = record {
   lines = k.lines;
   texts = k.texts;
   all = most_read input now k.lines k.read (k.counted ∙ full);
@@ -142,38 +145,43 @@ front_of (Some text) None lines read = absurd read
 front_of (Some text) (Some rest) lines read = (wire_lines rest, read)
 
 -- no line more
-pub talk_stopped : (input now : Option (List ℕ)) (old new : Host) (before after : Option (List ℕ)) (count : ℕ) → IsTalkSoFar input now old new before after count → HasTalkedPartly input old new
-talk_stopped input now old new before after count k = record {
+pub talk_stopped : {F : Type 0} (does : F → FolderAccess → F → Type 0) (input now : Option (List ℕ)) (old new : Host) (from to : F) (before after : Option (List ℕ)) (count : ℕ) →
+    IsTalkSoFar does input now old new from to before after count → HasTalkedPartly does input old new from to
+talk_stopped does input now old new from to before after count k = record {
   lines = k.lines;
   texts = k.texts;
   front = front_of input now k.lines k.read;
   mid = new;
+  between = to;
   served = k.served;
-  last = inl refl;
+  last = inl (refl, refl);
 }
 
 -- a line more, for whose reply there was no memory
-pub talk_cut : (input now : Option (List ℕ)) (old mid new : Host) (before after : Option (List ℕ)) (count : ℕ) (line : List ℕ) → IsTalkSoFar input now old mid before after count → IsLineCut line mid new →
-    HasTalkedPartly input old new
-talk_cut input now old mid new before after count line k cut = record {
+pub talk_cut : {F : Type 0} (does : F → FolderAccess → F → Type 0) (input now : Option (List ℕ)) (old mid new : Host) (from between to : F) (before after : Option (List ℕ)) (count : ℕ) (line : List ℕ) →
+    IsTalkSoFar does input now old mid from between before after count → IsLineCut (EventsLead does mid between to) line mid new → HasTalkedPartly does input old new from to
+talk_cut does input now old mid new from between to before after count line k cut = record {
   lines = k.lines;
   texts = k.texts;
   front = front_of input now k.lines k.read;
   mid = mid;
+  between = between;
   served = k.served;
   last = inr (line, cut);
 }
 
 -- or whose reply was not written
-pub talk_unwritten : (input now next : Option (List ℕ)) (old mid new : Host) (before after : Option (List ℕ)) (count : ℕ) (line text : List ℕ) →
-    IsTalkSoFar input now old mid before after count → ReadsLines now next (line ∷ []) → IsLineServed line mid new text → HasTalkedPartly input old new
-talk_unwritten input now next old mid new before after count line text k read served = record {
+pub talk_unwritten : {F : Type 0} (does : F → FolderAccess → F → Type 0) (input now next : Option (List ℕ)) (old mid new : Host) (from between to : F) (before after : Option (List ℕ)) (count : ℕ) (line text : List ℕ) →
+    IsTalkSoFar does input now old mid from between before after count → ReadsLines now next (line ∷ []) → IsLineServed (EventsLead does mid between to) line mid new text →
+    HasTalkedPartly does input old new from to
+talk_unwritten does input now next old mid new from between to before after count line text k read served = record {
   lines = k.lines ++ line ∷ [];
   texts = k.texts ++ text ∷ [];
   front = front_of input next (k.lines ++ line ∷ []) (reads_more input now next k.lines (line ∷ []) k.read read);
   mid = new;
-  served = lines_more k.lines old mid new k.texts line text k.served served;
-  last = inl refl;
+  between = to;
+  served = lines_more does k.lines old mid new from between to k.texts line text k.served served;
+  last = inl (refl, refl);
 }
 
 -- ---- a line in parts
@@ -329,16 +337,18 @@ long-heard line other (Broken column) a b is = let n = is.0 in absurd (omega (ar
 long-heard line other Unread a b is = let n = is.0 in absurd (omega (arith, a, n))
 long-heard line other (Asks value events) a b is = let n = is.0 in absurd (omega (arith, a, n))
 
-pub whole-served : (whole kept text : List ℕ) (old new : Host) → kept ≡ take most_kept whole → IsLineServed (strip_last 0x0A kept) old new text → IsLineServed (strip_last 0x0A whole) old new text
-whole-served whole kept text old new first k = ⊎_elim
-    (λ (same : kept ≡ whole). subst (λ (l : List ℕ). IsLineServed (strip_last 0x0A l) old new text) same k)
-    (λ both. record { heard = k.heard; is = long-heard (strip_last 0x0A kept) (strip_last 0x0A whole) k.heard both.0 both.1 k.is; host = k.host; reply = k.reply })
+pub whole-served : (L : List WireEvent → Type 0) (whole kept text : List ℕ) (old new : Host) → kept ≡ take most_kept whole → IsLineServed L (strip_last 0x0A kept) old new text →
+    IsLineServed L (strip_last 0x0A whole) old new text
+whole-served L whole kept text old new first k = ⊎_elim
+    (λ (same : kept ≡ whole). subst (λ (l : List ℕ). IsLineServed L (strip_last 0x0A l) old new text) same k)
+    (λ both. record { heard = k.heard; is = long-heard (strip_last 0x0A kept) (strip_last 0x0A whole) k.heard both.0 both.1 k.is; host = k.host; reply = k.reply; leads = k.leads })
     (kept-or-long whole kept first)
 
-pub whole-cut : (whole kept : List ℕ) (old new : Host) → kept ≡ take most_kept whole → IsLineCut (strip_last 0x0A kept) old new → IsLineCut (strip_last 0x0A whole) old new
-whole-cut whole kept old new first k = ⊎_elim
-    (λ (same : kept ≡ whole). subst (λ (l : List ℕ). IsLineCut (strip_last 0x0A l) old new) same k)
-    (λ both. record { heard = k.heard; is = long-heard (strip_last 0x0A kept) (strip_last 0x0A whole) k.heard both.0 both.1 k.is; count = k.count; host = k.host })
+pub whole-cut : (L : List WireEvent → Type 0) (whole kept : List ℕ) (old new : Host) → kept ≡ take most_kept whole → IsLineCut L (strip_last 0x0A kept) old new →
+    IsLineCut L (strip_last 0x0A whole) old new
+whole-cut L whole kept old new first k = ⊎_elim
+    (λ (same : kept ≡ whole). subst (λ (l : List ℕ). IsLineCut L (strip_last 0x0A l) old new) same k)
+    (λ both. record { heard = k.heard; is = long-heard (strip_last 0x0A kept) (strip_last 0x0A whole) k.heard both.0 both.1 k.is; count = k.count; host = k.host; leads = k.leads })
     (kept-or-long whole kept first)
 
 -- ---- a chunk

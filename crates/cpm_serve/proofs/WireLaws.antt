@@ -14,12 +14,18 @@ use Rattle.cpm_slots.specs.Serving.{Ask, serve_slot}
 use Rattle.cpm_slots.proofs.SlotLaws.{AllBelow-added, AllBelow-with, slot_at-new}
 use Rattle.cpm_protocol.specs.Replies.{Opened, reply_json}
 use Rattle.cpm_protocol.specs.Requests.{AskedFault, FourNames, Open, WireAsked, request_asked}
+use Rattle.cpm_slots.specs.Drives.{open_fault}
+use Rattle.cpm_protocol.specs.declared.word.WireRefusal.{WireRefusal}
+use Rattle.cpm_serve.specs.DriveFiles.{DiskWork}
+use Rattle.cpm_serve.specs.Drives.{drives_read, name_count}
+use Rattle.cpm_serve.specs.Folder.{FolderAccess, FolderAnswer}
 use Rattle.cpm_serve.specs.Laws.{AnswersAlone, IsFold, LinesAreEvents, own_texts, Transcripts, TwoTranscripts, WireAlone, WireIsolation, WrongLines, WrongRequests, events_in}
-use Rattle.cpm_serve.specs.Lines.{Asks, Broken, IsLineServed, Long, Unread, WireEvent, event_reply, event_served, events_of, host_after_line, host_after_lines, host_served, replies_to_lines, request_served, tag_shown, values_asked}
+use Rattle.cpm_serve.specs.Lines.{Asks, Broken, EventsLead, IsLineServed, Long, Unread, WireEvent, event_reply, event_served, events_of, host_after_line, host_after_lines, host_served, replies_to_lines, request_accesses, request_served, tag_shown, values_asked}
 use Rattle.cpm_serve.specs.Own.{OwnRequest, asks_slot, is_own, own_asked, own_replies, own_requests, session_after, session_answer, session_asks, session_replies, unnumbered}
-use Rattle.cpm_serve.specs.Served.{Served, added_if, after_asks, disks_named, open_fault, opened_named, served_if}
+use Rattle.cpm_serve.specs.Served.{Served, added_if, after_asks}
+use Rattle.cpm_serve.specs.ServedWith.{opened_if_fit, opened_read, served_with_if}
 use Rattle.cpm_serve.specs.Slot.{slot_named}
-use Rattle.cpm_serve.proofs.ManyLemmas.{host-append}
+use Rattle.cpm_serve.proofs.ManyLemmas.{host-append, leads-append}
 use Rattle.cpm_serve.proofs.OwnLemmas.{asked-host, asked-reply, asks-openings, not-asked, own-slot, served_if-is}
 use Rattle.cpm_serve.proofs.TurnLemmas.{asks-system}
 
@@ -38,7 +44,7 @@ wrong-lines h (Asks value events) w =
     ap (host_served h) (no-events events none)
 
 pub wrong-requests : WrongRequests
-wrong-requests h e fault wrong = ap (λ r. (request_served e.lacked h r).host) wrong
+wrong-requests h e fault wrong = (ap (λ r. (request_served e h r).host) wrong, ap (request_accesses e h) wrong)
 
 -- ---- lines and events
 
@@ -46,26 +52,30 @@ pub lines-are-events : LinesAreEvents
 lines-are-events h [] = refl
 lines-are-events h (x ∷ xs) = lines-are-events (host_after_line h x) xs ∙ sym (host-append h (events_of x) (events_in xs))
 
-transcripts-one : (line text : List ℕ) (lines texts : List (List ℕ)) (old h new : Host) → IsLineServed line old h text → IsFold lines h new texts → IsFold (line ∷ lines) old new (text ∷ texts)
-transcripts-one line text lines texts old h new one k = record {
+transcripts-one : {F : Type 0} (does : F → FolderAccess → F → Type 0) (line text : List ℕ) (lines texts : List (List ℕ)) (old h new : Host) (from mid to : F) →
+    IsLineServed (EventsLead does old from mid) line old h text → IsFold does lines h new mid to texts → IsFold does (line ∷ lines) old new from to (text ∷ texts)
+transcripts-one does line text lines texts old h new from mid to one k = record {
   heard = one.heard ∷ k.heard;
   are = (one.is, k.are);
   host = k.host ∙ ap (λ (g : Host). host_after_lines g k.heard) one.host;
   replies = ap₂ (λ (t : List ℕ) (ts : List (List ℕ)). t ∷ ts) one.reply (k.replies ∙ ap (λ (g : Host). replies_to_lines g k.heard) one.host);
+  leads = leads-append does old from mid to (events_of one.heard) (events_in k.heard) one.leads
+      (subst (λ (g : Host). EventsLead does g mid to (events_in k.heard)) one.host k.leads);
 }
 
-pub transcripts : Transcripts
-transcripts [] old new [] e = record { heard = []; are = tt; host = e; replies = refl }
-transcripts [] old new (text ∷ texts) e = absurd e
-transcripts (line ∷ lines) old new [] e = absurd e
-transcripts (line ∷ lines) old new (text ∷ texts) e = transcripts-one line text lines texts old e.0 new e.1 (transcripts lines e.0 new texts e.2)
+pub transcripts : {F : Type 0} (does : F → FolderAccess → F → Type 0) → Transcripts does
+transcripts does [] old new from to [] e = record { heard = []; are = tt; host = e.0; replies = refl; leads = e.1 }
+transcripts does [] old new from to (text ∷ texts) e = absurd e
+transcripts does (line ∷ lines) old new from to [] e = absurd e
+transcripts does (line ∷ lines) old new from to (text ∷ texts) e =
+    transcripts-one does line text lines texts old e.0 new from e.1 to e.2 (transcripts does lines e.0 new e.1 to texts e.3)
 
 -- ---- one event
 
 -- what an event may do to a host
 event-is : (h : Host) (e : WireEvent) (r : Result WireAsked AskedFault) (P : Host → Type 0) → P h → ((s : MachineState) → P (with_added h s)) → ((id : ℕ) (asks : List Ask) → P (after_asks id asks h)) →
-    P (request_served e.lacked h r).host
-event-is h e (Ok r) P same more asked = served_if-is h e.lacked r P same more (λ id asks is. asked id asks)
+    P (request_served e h r).host
+event-is h e (Ok r) P same more asked = served_if-is h e.lacked e.answers e.made r P same more (λ id asks is. asked id asks)
 event-is h e (Err fault) P same more asked = same
 
 event-system : (h : Host) (e : WireEvent) → (event_served h e).host.system ≡ h.system
@@ -77,8 +87,8 @@ event-openings h e =
     (λ id asks. let same = asks-openings id asks h in omega (arith, same))
 
 -- an event of another slot leaves this one
-other-event : (id : ℕ) (h : Host) (e : WireEvent) (r : Result WireAsked AskedFault) → id < h.openings → is_own id r ≡ false → slot_at id (request_served e.lacked h r).host.slots ≡ slot_at id h.slots
-other-event id h e (Ok r) below other = not-asked id h e.lacked r below other
+other-event : (id : ℕ) (h : Host) (e : WireEvent) (r : Result WireAsked AskedFault) → id < h.openings → is_own id r ≡ false → slot_at id (request_served e h r).host.slots ≡ slot_at id h.slots
+other-event id h e (Ok r) below other = not-asked id h e.lacked e.answers e.made r below other
 other-event id h e (Err fault) below other = refl
 
 asked-of : (id : ℕ) (o : Option ℕ) → asks_slot id o ≡ true → o ≡ Some id
@@ -87,13 +97,13 @@ asked-of id (Some slot) e = ap Some (eqb-true slot id e)
 
 -- the request that an own event is
 abbrev own_request : WireEvent → WireAsked → OwnRequest
-own_request e r = record { tag = tag_shown e.value; lacked = e.lacked; asked = unnumbered r }
+own_request e r = record { tag = tag_shown e.value; lacked = e.lacked; answers = e.answers; asked = unnumbered r }
 
 -- the state of the slot behind an own event, and its reply, are those of the session by itself
 own-state : (id : ℕ) (h : Host) (e : WireEvent) (r : WireAsked) → slot_named r ≡ Some id →
-    slot_at id (served_if e.lacked h r).host.slots ≡ slot_after h.system (session_asks h.system (own_request e r) (slot_at id h.slots)) (slot_at id h.slots)
+    slot_at id (served_with_if e.lacked h e.answers e.made r).host.slots ≡ slot_after h.system (session_asks h.system (own_request e r) (slot_at id h.slots)) (slot_at id h.slots)
 own-state id h e r of =
-    ap (λ (g : Host). slot_at id g.slots) (asked-host h e.lacked r id of) ∙ own-slot id (session_asks h.system (own_request e r) (slot_at id h.slots)) h
+    ap (λ (g : Host). slot_at id g.slots) (asked-host h e.lacked e.answers e.made r id of) ∙ own-slot id (session_asks h.system (own_request e r) (slot_at id h.slots)) h
 
 -- ---- isolation
 
@@ -109,7 +119,7 @@ isolated-more : (id : ℕ) (h : Host) (e : WireEvent) (es : List WireEvent) (r :
 isolated-more id h e es r false is other below k =
     let g = (event_served h e).host in
     let system = event-system h e in
-    let same : slot_at id g.slots ≡ slot_at id h.slots = ap (λ q. slot_at id (request_served e.lacked h q).host.slots) is ∙ other-event id h e r below other in (
+    let same : slot_at id g.slots ≡ slot_at id h.slots = ap (λ q. slot_at id (request_served e h q).host.slots) is ∙ other-event id h e r below other in (
       k.0 ∙ ap₂ (λ (d : Disk) (o : Option MachineState). session_replies d (own_requests id es) o) system same,
       k.1 ∙ ap₂ (λ (d : Disk) (o : Option MachineState). session_after d (own_requests id es) o) system same,
     )
@@ -120,9 +130,9 @@ isolated-more id h e es (Ok r) true is own below k =
     let x = own_request e r in
     let system = event-system h e in
     let of = asked-of id (slot_named r) own in
-    let now : slot_at id g.slots ≡ slot_after h.system (session_asks h.system x o) o = ap (λ q. slot_at id (request_served e.lacked h q).host.slots) is ∙ own-state id h e r of in
+    let now : slot_at id g.slots ≡ slot_after h.system (session_asks h.system x o) o = ap (λ q. slot_at id (request_served e h q).host.slots) is ∙ own-state id h e r of in
     let first : event_reply h e ≡ reply_json x.tag (session_answer h.system x o) =
-    ap (reply_json (tag_shown e.value)) (ap (λ q. (request_served e.lacked h q).reply) is ∙ asked-reply h e.lacked r id of) in (
+    ap (reply_json (tag_shown e.value)) (ap (λ q. (request_served e h q).reply) is ∙ asked-reply h e.lacked e.answers e.made r id of) in (
       ap₂ (λ (d : Data) (ds : List Data). d ∷ ds) first (k.0 ∙ ap₂ (λ (d : Disk) (p : Option MachineState). session_replies d (own_requests id es) p) system now),
       k.1 ∙ ap₂ (λ (d : Disk) (p : Option MachineState). session_after d (own_requests id es) p) system now,
     )
@@ -165,28 +175,39 @@ opened-by_fault h None s id behind below said =
     ∙ ap (session_replies h.system (own_requests h.openings behind)) (slot_at-new h.openings s h.slots below))
 opened-by_fault h (Some fault) s id behind below said = absurd cc
 
-opened-by_names : (h : Host) (cpu : Cpu) (quota : ℕ) (names : FourNames) (disks : Option (List Disk)) (id : ℕ) (behind : List WireEvent) → disks_named names ≡ disks → AllBelow h.openings h.slots →
-    (opened_named h cpu quota disks).reply ≡ Opened id → AnswersAlone h.system cpu quota names (own_requests id behind) (own_texts id (opened_named h cpu quota disks).host behind)
-opened-by_names h cpu quota names None id behind is below said = absurd cc
-opened-by_names h cpu quota names (Some disks) id behind is below said = record {
+opened-by_read : (h : Host) (cpu : Cpu) (quota : ℕ) (names : FourNames) (answers : List FolderAnswer) (r : Result (List Disk) WireRefusal) (id : ℕ) (behind : List WireEvent) →
+    (drives_read names answers).drives ≡ r → AllBelow h.openings h.slots → (opened_read h cpu quota r).reply ≡ Opened id →
+    AnswersAlone h.system cpu quota names answers (own_requests id behind) (own_texts id (opened_read h cpu quota r).host behind)
+opened-by_read h cpu quota names answers (Err why) id behind is below said = absurd cc
+opened-by_read h cpu quota names answers (Ok disks) id behind is below said = record {
   disks = disks;
   named = is;
   replied = ap (map compact_text) (opened-by_fault h (open_fault h quota (length disks)) (opened_machine cpu quota disks) id behind below said);
 }
 
-opened-by_event : (h : Host) (lacked : Bool) (cpu : Cpu) (quota : ℕ) (names : FourNames) (id : ℕ) (behind : List WireEvent) → AllBelow h.openings h.slots →
-    (served_if lacked h (Open cpu quota names)).reply ≡ Opened id → AnswersAlone h.system cpu quota names (own_requests id behind) (own_texts id (served_if lacked h (Open cpu quota names)).host behind)
-opened-by_event h true cpu quota names id behind below said = absurd cc
-opened-by_event h false cpu quota names id behind below said = opened-by_names h cpu quota names (disks_named names) id behind refl below said
+opened-by_fit : (h : Host) (f : Option OpenError) (cpu : Cpu) (quota : ℕ) (names : FourNames) (answers : List FolderAnswer) (id : ℕ) (behind : List WireEvent) → AllBelow h.openings h.slots →
+    (opened_if_fit f h cpu quota (drives_read names answers)).reply ≡ Opened id →
+    AnswersAlone h.system cpu quota names answers (own_requests id behind) (own_texts id (opened_if_fit f h cpu quota (drives_read names answers)).host behind)
+opened-by_fit h None cpu quota names answers id behind below said =
+    opened-by_read h cpu quota names answers (drives_read names answers).drives id behind refl below said
+opened-by_fit h (Some fault) cpu quota names answers id behind below said = absurd cc
+
+opened-by_event : (h : Host) (lacked : Bool) (answers : List FolderAnswer) (made : DiskWork) (cpu : Cpu) (quota : ℕ) (names : FourNames) (id : ℕ) (behind : List WireEvent) → AllBelow h.openings h.slots →
+    (served_with_if lacked h answers made (Open cpu quota names)).reply ≡ Opened id →
+    AnswersAlone h.system cpu quota names answers (own_requests id behind) (own_texts id (served_with_if lacked h answers made (Open cpu quota names)).host behind)
+opened-by_event h true answers made cpu quota names id behind below said = absurd cc
+opened-by_event h false answers made cpu quota names id behind below said =
+    opened-by_fit h (open_fault h quota (name_count names)) cpu quota names answers id behind below said
 
 pub wire-alone : WireAlone
 wire-alone system frames before opening behind cpu quota names id asked said =
     let new = new_host system frames in
     let h = host_served new before in
     let lacked = opening.lacked in
-    let is : request_served lacked h (request_asked opening.value) ≡ served_if lacked h (Open cpu quota names) = ap (request_served lacked h) asked in
-    let reply : (served_if lacked h (Open cpu quota names)).reply ≡ Opened id = ap (λ (x : Served). x.reply) (sym is) ∙ said in
+    let answers = opening.answers in
+    let is : request_served opening h (request_asked opening.value) ≡ served_with_if lacked h answers opening.made (Open cpu quota names) = ap (request_served opening h) asked in
+    let reply : (served_with_if lacked h answers opening.made (Open cpu quota names)).reply ≡ Opened id = ap (λ (x : Served). x.reply) (sym is) ∙ said in
     let below = AllBelow-events new before tt in
-    subst (λ (d : Disk). AnswersAlone d cpu quota names (own_requests id behind) (own_texts id (event_served h opening).host behind)) (system-served new before)
-    (subst (λ (x : Served). AnswersAlone h.system cpu quota names (own_requests id behind) (own_texts id x.host behind)) (sym is)
-    (opened-by_event h lacked cpu quota names id behind below reply))
+    subst (λ (d : Disk). AnswersAlone d cpu quota names answers (own_requests id behind) (own_texts id (event_served h opening).host behind)) (system-served new before)
+    (subst (λ (x : Served). AnswersAlone h.system cpu quota names answers (own_requests id behind) (own_texts id x.host behind)) (sym is)
+    (opened-by_event h lacked answers opening.made cpu quota names id behind below reply))

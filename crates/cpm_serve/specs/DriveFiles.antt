@@ -24,6 +24,10 @@ use Rattle.cpm_serve.specs.Folder.{FolderAccess, FolderAnswer, Failed, Given, St
 abbrev pub DiskWork : Type 0
 DiskWork = Result (List ℕ) WireRefusal
 
+-- where none is done
+abbrev pub no_work : DiskWork
+no_work = Ok []
+
 -- the name that a text is of, without attributes
 abbrev pub disk_file_name : List ℕ → Option (List ℕ)
 disk_file_name text = option_map (with_marks false false) (one_name text)
@@ -43,20 +47,20 @@ disk_refusal (fault.Refused why) = file_refusal why
 disk_refusal fault.OutOfMemory = refusal.OutOfMemory
 
 -- a reason of this kind, as a reply says it
-abbrev pub IsDiskRefusal : (ImageFilesError → Type 0) → WireRefusal → Type 0
-IsDiskRefusal Is why = (e : ImageFilesError) × Is e × (why ≡ disk_refusal e)
+abbrev pub IsDriveFileRefusal : (ImageFilesError → Type 0) → WireRefusal → Type 0
+IsDriveFileRefusal Is why = (e : ImageFilesError) × Is e × (why ≡ disk_refusal e)
 
 -- ---- what the work makes
 
 -- the image of the disk with a file of this text, of user 0
 abbrev pub IsPutWork : (text : List ℕ) → Disk → (name : List ℕ) → DiskWork → Type 0
 IsPutWork text disk name (Ok image) = (new : Disk) × IsPut disk 0 name text new × (image ≡ concat new.sectors)
-IsPutWork text disk name (Err why) = IsDiskRefusal (IsPutRefusal disk 0 name (records_for (length text))) why
+IsPutWork text disk name (Err why) = IsDriveFileRefusal (IsPutRefusal disk 0 name (records_for (length text))) why
 
 -- the bytes of a file
 abbrev pub IsGetWork : Disk → (name : List ℕ) → DiskWork → Type 0
 IsGetWork disk name (Ok text) = IsGot disk 0 name text
-IsGetWork disk name (Err why) = IsDiskRefusal (IsGetRefusal disk 0 name) why
+IsGetWork disk name (Err why) = IsDriveFileRefusal (IsGetRefusal disk 0 name) why
 
 -- a line for each file of user 0, in their order
 unfoldable pub name_lines : List DiskFile → List ℕ
@@ -65,7 +69,7 @@ name_lines (file ∷ files) = (if file.user == 0 then seen_name file.name ++ 0x0
 
 abbrev pub IsListWork : Disk → DiskWork → Type 0
 IsListWork disk (Ok text) = (listing : DiskListing) × IsListed disk listing × (text ≡ name_lines listing.files.items)
-IsListWork disk (Err why) = IsDiskRefusal (IsListRefusal disk) why
+IsListWork disk (Err why) = IsDriveFileRefusal (IsListRefusal disk) why
 
 -- of the disk in a file, and of the file that a name is of, if both are there
 abbrev pub OfNamed : (Disk → List ℕ → DiskWork → Type 0) → Option (List ℕ) → Result Disk WireRefusal → DiskWork → Type 0
@@ -103,13 +107,13 @@ put_made count (Err why) made rest = Refused why
 put_made count (Ok disk) (Err why) rest = Refused why
 put_made count (Ok disk) (Ok image) rest = stored_answer count (first_answer rest)
 
-abbrev pub rest_of : List FolderAnswer → List FolderAnswer
-rest_of [] = []
-rest_of (a ∷ rest) = rest
+abbrev pub answers_behind : List FolderAnswer → List FolderAnswer
+answers_behind [] = []
+answers_behind (a ∷ rest) = rest
 
 abbrev pub put_answer : ℕ → Option (List ℕ) → List FolderAnswer → DiskWork → Answered
 put_answer count None answers made = Refused refusal.BadName
-put_answer count (Some name) answers made = put_made count (disk_answered (first_answer answers)) made (rest_of answers)
+put_answer count (Some name) answers made = put_made count (disk_answered (first_answer answers)) made (answers_behind answers)
 
 abbrev pub put_writes : (drive : List ℕ) → Result Disk WireRefusal → DiskWork → List FolderAnswer → List FolderAccess
 put_writes drive (Ok disk) (Ok image) rest = one_write ((drive, image) ∷ []) rest

@@ -59,13 +59,13 @@ with_disk name (Some blank) disks log rest = drives_state (Ok (disks ++ blank �
 with_disk name None disks log rest = with_file_read name disks log rest
 
 -- behind a fault no more is asked
-abbrev pub with_name : List ℕ → Result (List Disk) WireRefusal → List FolderAccess → List FolderAnswer → DrivesRead
-with_name name (Ok disks) log rest = with_disk name (disk_named name) disks log rest
-with_name name (Err why) log rest = drives_state (Err why) log rest
+abbrev pub with_image_named : List ℕ → Result (List Disk) WireRefusal → List FolderAccess → List FolderAnswer → DrivesRead
+with_image_named name (Ok disks) log rest = with_disk name (disk_named name) disks log rest
+with_image_named name (Err why) log rest = drives_state (Err why) log rest
 
 abbrev pub with_drive_named : Option (List ℕ) → DrivesRead → DrivesRead
 with_drive_named None x = x
-with_drive_named (Some name) x = with_name name x.drives x.accesses x.rest
+with_drive_named (Some name) x = with_image_named name x.drives x.accesses x.rest
 
 abbrev pub none_read : List FolderAnswer → DrivesRead
 none_read answers = drives_state (Ok []) [] answers
@@ -99,6 +99,7 @@ abbrev pub session_image : MachineState → ℕ → Option Disk
 session_image s drive = drive_image drive (Some s)
 
 -- the images of the first drives, under the names; none where there are more names than drives, or a name stands twice
-abbrev pub outputs_of : FourNames → MachineState → Option (List NamedBytes)
-outputs_of n s =
-    with_output n.d (session_image s 3) (with_output n.c (session_image s 2) (with_output n.b (session_image s 1) (with_output n.a (session_image s 0) (Some []))))
+abbrev pub named_drive_outputs : FourNames → MachineState → Option (List NamedBytes)
+named_drive_outputs n s =
+    with_output n.d (session_image s 3) (with_output n.c (session_image s 2)
+    (with_output n.b (session_image s 1) (with_output n.a (session_image s 0) (Some []))))

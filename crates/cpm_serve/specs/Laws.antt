@@ -10,7 +10,8 @@ use Rattle.cpm_protocol.specs.Requests.{AskedFault, FourNames, Open, WireAsked, 
 use Rattle.cpm_protocol.specs.declared.reply.SessionLook.{SessionLook}
 use Rattle.cpm_protocol.specs.declared.request.GrantGoal.TheVariants as goal
 use Rattle.cpm_protocol.specs.declared.word.WireRefusal.{WireRefusal}
-use Rattle.cpm_serve.specs.Lines.{Asks, Broken, EventsLead, LineHeard, Long, Unread, WireEvent, event_accesses, event_served, events_of, host_after_line, host_after_lines, host_served}
+use Rattle.cpm_serve.specs.Lines.{Asks, Broken, EventsLead, LineHeard, Long, Unread, WireEvent, event_accesses, event_served, events_of}
+use Rattle.cpm_serve.specs.Lines.{host_after_line, host_after_lines, host_served}
 use Rattle.cpm_serve.specs.Lines.{AreLinesHeard, AreLinesServed, replies_to_lines}
 use Rattle.cpm_serve.specs.Own.{OwnRequest, own_replies, own_requests, session_after, session_replies}
 use Rattle.cpm_serve.specs.Parts.{AreAskedBy}
@@ -51,7 +52,8 @@ LinesAreEvents = (h : Host) (lines : List LineHeard) → host_after_lines h line
 
 -- What lines leave of a host, and the texts of their replies, are those of the fold over what each turns out to be. A line more is one step more. The folder
 -- went so, by the accesses of all their requests, in order.
-pub record IsFold {F : Type 0} (does : F → FolderAccess → F → Type 0) (lines : List (List ℕ)) (old new : Host) (from to : F) (texts : List (List ℕ)) : Type 0 where
+pub record IsFold {F : Type 0} (does : F → FolderAccess → F → Type 0) (lines : List (List ℕ)) (old new : Host) (from to : F)
+    (texts : List (List ℕ)) : Type 0 where
   pub heard : List LineHeard
   pub are : AreLinesHeard lines heard
   pub host : new ≡ host_after_lines old heard

@@ -2,20 +2,17 @@
 use Rattle.std.specs.Prelude.{⊤, ℕ, ◌≡◌, ◌⊎◌, ◌++◌, List, [], map, Bool, true, false, Option, Some, None, Result, Ok, Err, Vec, if◌then◌else◌}
 use Rattle.std.specs.declared.alloc.Global.{Global}
 use Rattle.cpm_geom.specs.Disk.{Disk}
-use Rattle.cpm_machine.specs.MachineState.{MachineState}
 use Rattle.cpm_slots.specs.declared.event.HostRestoreError.{HostRestoreError}
 use Rattle.cpm_slots.specs.declared.event.SlotId.{SlotId}
 use Rattle.cpm_store.specs.Writes.{NamedBytes, named_output}
 use Rattle.cpm_store.specs.declared.writes.Output.{Output}
 use Rattle.cpm_protocol.specs.Replies.{Answered, Opened, Refused, Text}
-use Rattle.cpm_protocol.specs.Requests.{FourNames}
 use Rattle.cpm_protocol.specs.declared.word.WireRefusal.{WireRefusal}
 use Rattle.cpm_protocol.specs.declared.word.WireRefusal.TheVariants as refusal
 use Rattle.cpm_serve.specs.DriveFiles.{DiskWork}
-use Rattle.cpm_serve.specs.Drives.{DrivesRead, disk_answered, disk_named, drives_state, outputs_of, with_drive_named}
+use Rattle.cpm_serve.specs.Drives.{DrivesRead, disk_answered, disk_named, drives_state, with_drive_named}
 use Rattle.cpm_serve.specs.Folder.{AccessesLead, AreNoFolderWrites, FolderAccess, FolderAnswer, Failed, Given, Stored, hold_access, read_access}
 use Rattle.cpm_serve.specs.Folder.{first_answer, write_refusal}
-use Rattle.cpm_serve.specs.Served.{is_no_name}
 use Rattle.cpm_serve.specs.ServedWith.{accesses_of_outputs, restore_refusal}
 
 -- ---- drives that are read
@@ -57,14 +54,17 @@ pub record AreReadWith {F : Type 0} (does : F → FolderAccess → F → Type 0)
   pub is : ((more : List FolderAnswer) → read (answers ++ more) ≡ drives_state r log more)
       ⊎ (IsLacked r × ((read answers).accesses ≡ log) × ((read answers).rest ≡ []))
 
-abbrev pub AreDrivesRead : {F : Type 0} → (F → FolderAccess → F → Type 0) → (List FolderAnswer → DrivesRead) → Result (List Disk) WireRefusal → (from to : F) → Type 0
-AreDrivesRead {F} does read r from to = (answers : List FolderAnswer) × (log : List FolderAccess) × AreReadWith does read r from to answers log
+abbrev pub AreNamedDrivesRead : {F : Type 0} → (F → FolderAccess → F → Type 0) → (List FolderAnswer → DrivesRead) → Result (List Disk) WireRefusal
+    → (from to : F) → Type 0
+AreNamedDrivesRead {F} does read r from to =
+    (answers : List FolderAnswer) × (log : List FolderAccess) × AreReadWith does read r from to answers log
 
 -- a name more, whatever was read before
-abbrev pub IsOneDriveMore : {F : Type 0} → (F → FolderAccess → F → Type 0) → Option (List ℕ) → (before after : Result (List Disk) WireRefusal) → (from to : F) → Type 0
+abbrev pub IsOneDriveMore : {F : Type 0} → (F → FolderAccess → F → Type 0) → Option (List ℕ) → (before after : Result (List Disk) WireRefusal)
+    → (from to : F) → Type 0
 IsOneDriveMore {F} does name before after from to =
-    (read : List FolderAnswer → DrivesRead) (start : F) → AreDrivesRead does read before start from
-    → AreDrivesRead does (λ answers. with_drive_named name (read answers)) after start to
+    (read : List FolderAnswer → DrivesRead) (start : F) → AreNamedDrivesRead does read before start from
+    → AreNamedDrivesRead does (λ answers. with_drive_named name (read answers)) after start to
 
 -- ---- drives that are written
 
@@ -88,14 +88,15 @@ abbrev pub outputs_written : Option (List NamedBytes) → List FolderAnswer → 
 outputs_written None answers = Err refusal.BadDrives
 outputs_written (Some files) answers = written_result (first_answer answers)
 
--- the images of an open slot's drives were written under names, if there are names
-pub record AreOutputsWritten {F : Type 0} (does : F → FolderAccess → F → Type 0) (out : FourNames) (s : MachineState) (from to : F) (r : Result ⊤ WireRefusal) : Type 0 where
+-- the images of a slot's drives, if there are as many, were written under names; unless there is no name
+pub record AreOutputsWritten {F : Type 0} (does : F → FolderAccess → F → Type 0) (no_name : Bool) (wanted : Option (List NamedBytes)) (from to : F)
+    (r : Result ⊤ WireRefusal) : Type 0 where
   pub lacked : Bool
   pub answers : List FolderAnswer
-  pub is : r ≡ (if lacked then Err refusal.OutOfMemory else if is_no_name out.a then Ok tt else outputs_written (outputs_of out s) answers)
-  pub named : lacked ≡ true → is_no_name out.a ≡ false
-  pub leads : AccessesLead does from to (if is_no_name out.a then [] else accesses_of_outputs (outputs_of out s) answers)
-  pub unwritten : lacked ≡ true → AreNoFolderWrites (if is_no_name out.a then [] else accesses_of_outputs (outputs_of out s) answers)
+  pub is : r ≡ (if lacked then Err refusal.OutOfMemory else if no_name then Ok tt else outputs_written wanted answers)
+  pub named : lacked ≡ true → no_name ≡ false
+  pub leads : AccessesLead does from to (if no_name then [] else accesses_of_outputs wanted answers)
+  pub unwritten : lacked ≡ true → AreNoFolderWrites (if no_name then [] else accesses_of_outputs wanted answers)
 
 -- ---- replies
 

@@ -19,7 +19,7 @@ use Rattle.cpm_protocol.specs.declared.word.WireRefusal.{WireRefusal}
 use Rattle.cpm_protocol.specs.declared.word.WireRefusal.TheVariants as refusal
 use Rattle.cpm_serve.specs.DriveFiles.{DiskWork, IsGetWork, IsListWork, IsPutWork, OfDisk, OfNamed, got_accesses, got_answer, put_accesses, put_answer}
 use Rattle.cpm_serve.specs.DriveFiles.{disk_file_name, stored_answer, text_made}
-use Rattle.cpm_serve.specs.Drives.{DrivesRead, disk_answered, drives_read, name_count, outputs_of}
+use Rattle.cpm_serve.specs.Drives.{DrivesRead, disk_answered, drives_read, name_count, named_drive_outputs}
 use Rattle.cpm_serve.specs.Folder.{AreNoFolderWrites, FolderAccess, FolderAnswer, Failed, Given, Stored, first_answer, one_read, one_write}
 use Rattle.cpm_serve.specs.Folder.{read_refusal, write_refusal}
 use Rattle.cpm_serve.specs.Seen.{open_refusal}
@@ -67,8 +67,8 @@ resumed_with h (Failed e) = refused h (read_refusal e)
 -- ---- a slot
 
 -- the bytes of a session's saving
-abbrev pub session_bytes : Disk → MachineState → List ℕ
-session_bytes system s = bytes_of_saving (saving_with (system_digest system) s)
+abbrev pub session_saving : Disk → MachineState → List ℕ
+session_saving system s = bytes_of_saving (saving_with (system_digest system) s)
 
 -- it is closed where all was written
 abbrev pub asks_when_stored : FolderAnswer → List Ask
@@ -95,18 +95,18 @@ accesses_of_outputs (Some files) answers = one_write files answers
 -- what is asked of a slot that is open
 abbrev pub asks_with : List FolderAnswer → Disk → WireAsked → MachineState → List Ask
 asks_with answers system (Save slot file) s = []
-asks_with answers system (Close slot out) s = if is_no_name out.a then Closes ∷ [] else asks_with_outputs (outputs_of out s) answers
+asks_with answers system (Close slot out) s = if is_no_name out.a then Closes ∷ [] else asks_with_outputs (named_drive_outputs out s) answers
 asks_with answers system r s = asks_of system r s
 
 abbrev pub answer_with : List FolderAnswer → Disk → WireAsked → MachineState → Answered
-answer_with answers system (Save slot file) s = stored_answer (length (session_bytes system s)) (first_answer answers)
-answer_with answers system (Close slot out) s = if is_no_name out.a then look_answer s else answer_with_outputs s (outputs_of out s) answers
+answer_with answers system (Save slot file) s = stored_answer (length (session_saving system s)) (first_answer answers)
+answer_with answers system (Close slot out) s = if is_no_name out.a then look_answer s else answer_with_outputs s (named_drive_outputs out s) answers
 answer_with answers system r s = slot_answer system r s
 
 -- and of the folder
 abbrev pub slot_accesses : List FolderAnswer → Disk → WireAsked → Option MachineState → List FolderAccess
-slot_accesses answers system (Save slot file) (Some s) = one_write ((file, session_bytes system s) ∷ []) answers
-slot_accesses answers system (Close slot out) (Some s) = if is_no_name out.a then [] else accesses_of_outputs (outputs_of out s) answers
+slot_accesses answers system (Save slot file) (Some s) = one_write ((file, session_saving system s) ∷ []) answers
+slot_accesses answers system (Close slot out) (Some s) = if is_no_name out.a then [] else accesses_of_outputs (named_drive_outputs out s) answers
 slot_accesses answers system r o = []
 
 abbrev pub slot_served_with : Host → List FolderAnswer → ℕ → WireAsked → Option MachineState → Served

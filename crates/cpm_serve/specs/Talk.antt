@@ -69,7 +69,8 @@ IsLineRead old new (Some line) = IsLineKept old new line.items
 
 -- A host was served all lines of a text, as far as it is known: each was served, and what was written is the replies, a line each. The folder went so, by the
 -- accesses of their requests.
-pub record HasTalked {F : Type 0} (does : F → FolderAccess → F → Type 0) (input : Option (List ℕ)) (old new : Host) (from to : F) (before after : Option (List ℕ)) : Type 0 where
+pub record HasTalked {F : Type 0} (does : F → FolderAccess → F → Type 0) (input : Option (List ℕ)) (old new : Host) (from to : F)
+    (before after : Option (List ℕ)) : Type 0 where
   pub lines : List (List ℕ)
   pub texts : List (List ℕ)
   pub all : IfSome input (λ text. lines ≡ take most_wire_lines (wire_lines text))

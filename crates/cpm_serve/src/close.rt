@@ -8,11 +8,12 @@ ghost use Rattle.cpm_slots.specs.Serving.{Closes};
 ghost use Rattle.cpm_store.specs.Laws.{has_name_among};
 ghost use Rattle.cpm_store.specs.Writes.{NamedBytes, named_output};
 ghost use Rattle.cpm_serve.specs.DriveFiles.{stored_answer};
-ghost use Rattle.cpm_serve.specs.Drives.{outputs_of, with_output};
+ghost use Rattle.cpm_serve.specs.Drives.{named_drive_outputs, with_output};
 ghost use Rattle.cpm_serve.specs.Folder.{AccessesLead, write_answer};
 ghost use Rattle.cpm_serve.specs.Owned.{owned_answer};
 ghost use Rattle.cpm_serve.specs.Reading.{AreMade, AreOutputsWritten, outputs_had};
 ghost use Rattle.cpm_serve.specs.Seen.{save_refusal};
+ghost use Rattle.cpm_serve.specs.Served.{is_no_name};
 ghost use Rattle.cpm_serve.specs.ServedWith.{IsRequestServedWith};
 ghost use Rattle.cpm_serve.specs.Slot.{look_answer};
 
@@ -107,13 +108,13 @@ fn with_output<'a>(
 }
 
 /// The images of a slot's drives, under names.
-fn outputs_of<'a>(
+fn named_drive_outputs<'a>(
     host: &Host,
     alloc: Global,
     id: SlotId,
     out: DriveNames<'a>,
 ) -> Result<Vec<Output<'a>>, WireRefusal>
-    ensures { IfSome (slot_at id.0 host.now.host.slots) (λ s. AreMade (outputs_of (drive_names_of out.entry) s) (outputs_had result)) }
+    ensures { IfSome (slot_at id.0 host.now.host.slots) (λ s. AreMade (named_drive_outputs (drive_names_of out.entry) s) (outputs_had result)) }
 {
     let files = with_output(host, alloc, id, Ok(Vec::new(alloc)), 0, out.a);
     let files = with_output(host, alloc, id, files, 1, out.b);
@@ -129,12 +130,13 @@ fn write_outputs<F: Folder>(
     id: SlotId,
     out: DriveNames<'_>,
 ) -> Result<(), WireRefusal>
-    ensures { IfSome (slot_at id.0 host.now.host.slots) (λ s. AreOutputsWritten F.does (drive_names_of out.entry) s folder.old folder.new result) }
+    ensures { IfSome (slot_at id.0 host.now.host.slots) (λ s. AreOutputsWritten F.does (is_no_name (text_if out.entry.a))
+        (named_drive_outputs (drive_names_of out.entry) s) folder.old folder.new result) }
 {
     if out.a.is_none() {
         return Ok(());
     }
-    let files = match outputs_of(host, alloc, id, out) {
+    let files = match named_drive_outputs(host, alloc, id, out) {
         Ok(files) => files,
         Err(refusal) => return Err(refusal),
     };

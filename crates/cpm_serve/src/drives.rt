@@ -2,7 +2,7 @@
 ghost use Rattle.std.specs.Prelude.{◌≡◌, ◌≤◌, ◌++◌, ◌∷◌, [], IfErr, IfOk, option_map};
 ghost use Rattle.cpm_geom.specs.Disk.{blank_disk};
 ghost use Rattle.cpm_protocol.specs.Requests.{drive_names_of, text_if};
-ghost use Rattle.cpm_serve.specs.Reading.{AreDrivesRead, IsDriveRead, IsFileDisk, IsOneDriveMore, images_had};
+ghost use Rattle.cpm_serve.specs.Reading.{AreNamedDrivesRead, IsDriveRead, IsFileDisk, IsOneDriveMore, images_had};
 ghost use Rattle.cpm_serve.specs.Drives.{disk_named, disk_of_file, drives_read, name_count, some_count};
 
 use crate::folder::{Folder, read_refusal};
@@ -123,7 +123,7 @@ pub(crate) fn drives_named<F: Folder>(
     folder: &mut F,
     names: DriveNames<'_>,
 ) -> Result<Vec<Image>, WireRefusal>
-    ensures { AreDrivesRead F.does (drives_read (drive_names_of names.entry)) (images_had result) folder.old folder.new }
+    ensures { AreNamedDrivesRead F.does (drives_read (drive_names_of names.entry)) (images_had result) folder.old folder.new }
 {
     let drives = with_drive(alloc, folder, Ok(Vec::new(alloc)), names.a);
     let drives = with_drive(alloc, folder, drives, names.b);

@@ -18,6 +18,8 @@ mod same;
 #[cfg(test)]
 mod serve;
 #[cfg(test)]
+mod serve_files;
+#[cfg(test)]
 mod streams;
 #[cfg(test)]
 mod texts;

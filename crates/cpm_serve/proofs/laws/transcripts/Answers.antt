@@ -2,4 +2,4 @@ use Rattle.cpm_serve.proofs.WireLaws.{transcripts}
 use Rattle.cpm_serve.proofs.laws.transcripts.Goals as goal
 
 pub returns : goal.returns
-returns c = transcripts
+returns g c = transcripts g.F.Folder.does
