@@ -7,3 +7,4 @@ pub mod Slots
 pub mod HostWithStore
 pub mod Laws
 pub mod Restoring
+pub mod Remaking

@@ -5,6 +5,7 @@ pub mod event;
 mod fork;
 pub mod host;
 pub mod laws;
+mod remaking;
 mod run;
 mod saved;
 mod slots;
