@@ -31,10 +31,10 @@ IsPlanRefusal OutOfMemory = ⊤
 IsPlanRefusal _ = ⊥
 
 -- a file can't have its name, which is told; or memory was refused
-abbrev pub IsNamingRefusal : HostError → Type 0
-IsNamingRefusal (FileUnwritable shown reason) = ⊤
-IsNamingRefusal OutOfMemory = ⊤
-IsNamingRefusal _ = ⊥
+abbrev pub IsNamingFault : HostError → Type 0
+IsNamingFault (FileUnwritable shown reason) = ⊤
+IsNamingFault OutOfMemory = ⊤
+IsNamingFault _ = ⊥
 
 -- the files before the one at a place were written, and writing that one failed: it is told by its name, or memory was refused
 pub record IsWritingStopped {F : Type 0} (does : F → StoreAccess → F → Type 0) (outputs : List NamedBytes) (old new : F) (e : HostError) : Type 0 where

@@ -1,6 +1,6 @@
 //! The files of a command.
 ghost use Rattle.std.specs.Prelude.{◌≡◌, Bool, List, Option, Some, None, IfErr, IfOk, OnOk, map, string_bytes};
-ghost use Rattle.cpm_commands.specs.Files.{AreUnwritten, AreWritten, IsNamingRefusal, IsPlanRefusal, IsUnread, IsUnwritten};
+ghost use Rattle.cpm_commands.specs.Files.{AreUnwritten, AreWritten, IsNamingFault, IsPlanRefusal, IsUnread, IsUnwritten};
 ghost use Rattle.cpm_commands.specs.Files.{IsWritingStopped};
 ghost use Rattle.cpm_commands.specs.Plan.{Plan, plan_view};
 ghost use Rattle.cpm_host.specs.Refusals.{IsFileRefusal};
@@ -26,8 +26,7 @@ pub trait CommandFiles: Store {
     /// holds those that are read and then written.
     fn see_to(&mut self, plan: &FilePlan<'_>) -> Result<(), HostError>
         ensures seen { OnOk result (sees_to self.old (plan_view plan.now) None self.new) }
-        ensures refused { IfErr result (λ e. sees_to self.old (plan_view plan.now) (Some e) self.new) }
-        ensures refusal { IfErr result IsPlanRefusal };
+        ensures refused { IfErr result (λ e. sees_to self.old (plan_view plan.now) (Some e) self.new) };
 
     // That something has a name, or nothing has it.
     ghost tells_name: { Self → StoreName → Bool → Type 0 };
@@ -57,8 +56,12 @@ pub trait CommandFiles: Store {
     /// Gives what was written its names: to all files of the plan, or where one can't have its own it says which.
     fn give_names(&mut self) -> Result<(), HostError>
         ensures named { OnOk result (gives_names self.old None self.new) }
-        ensures refused { IfErr result (λ e. gives_names self.old (Some e) self.new) }
-        ensures refusal { IfErr result IsNamingRefusal };
+        ensures refused { IfErr result (λ e. gives_names self.old (Some e) self.new) };
+
+    // A plan is refused for a file, whose name is told, or for want of memory; and so are names.
+    ghost sees_told: { (old : Self) (plan : Plan) (e : HostError) (new : Self) → sees_to old plan (Some e) new → IsPlanRefusal e };
+
+    ghost names_told: { (old : Self) (e : HostError) (new : Self) → gives_names old (Some e) new → IsNamingFault e };
 }
 
 /// All bytes of a file.

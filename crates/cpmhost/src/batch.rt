@@ -2,7 +2,7 @@
 //! of them as they were.
 
 ghost use Rattle.std.specs.Prelude.{◌≡◌, IfErr};
-ghost use Rattle.cpm_commands.specs.Files.{IsNamingRefusal};
+ghost use Rattle.cpm_commands.specs.Files.{IsNamingFault};
 
 use crate::beside::Replacement;
 use crate::held::{LockableFiles, Mark};
@@ -46,7 +46,7 @@ struct WholeFile {
 impl WholeFile {
     /// Why it can't have its name.
     fn unwritable(&self, reason: io::Error) -> HostError
-        ensures { IsNamingRefusal result }
+        ensures { IsNamingFault result }
     {
         HostError::FileUnwritable {
             name: self.name,
@@ -56,7 +56,7 @@ impl WholeFile {
 
     /// Fails where the file that it is to replace is no longer what it was when it was read.
     fn check(&self, rt: &impl Files) -> Result<(), HostError>
-        ensures { IfErr result IsNamingRefusal }
+        ensures { IfErr result IsNamingFault }
     {
         match self.naming {
             NamingRule::Replacing(Some(mark)) | NamingRule::ReplacingPlain(Some(mark)) => mark
@@ -72,7 +72,7 @@ impl WholeFile {
         rt: &(impl Files + AllocGlobal),
         keeps_played: bool,
     ) -> Result<(), CommandRefusal>
-        ensures { IfErr result (λ r. IsNamingRefusal r.error) }
+        ensures { IfErr result (λ r. IsNamingFault r.error) }
     {
         if let Err(error) = self.check(rt) {
             if keeps_played {
@@ -195,7 +195,7 @@ impl Batch {
     /// Gives all their names, if those that they replace are still what they were when they were read; else none gets its name. One that can't have its
     /// name then stays beside it, which is said of each.
     pub fn take_names(&mut self, rt: &impl LockableFiles) -> Result<(), CommandRefusal>
-        ensures { IfErr result (λ r. IsNamingRefusal r.error) }
+        ensures { IfErr result (λ r. IsNamingFault r.error) }
     {
         if let Err(error) = self.check(rt) {
             return Err(self.give_up(rt, error));
@@ -232,7 +232,7 @@ impl Batch {
 
     /// Fails where one of the files that they are to replace is no longer what it was when it was read.
     fn check(&self, rt: &impl Files) -> Result<(), HostError>
-        ensures { IfErr result IsNamingRefusal }
+        ensures { IfErr result IsNamingFault }
     {
         for whole in &self.all {
             whole.check(rt)?;

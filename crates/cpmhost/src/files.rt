@@ -1,6 +1,6 @@
 //! The files of the machine that the program runs on.
 ghost use Rattle.std.specs.Prelude.{⊤, ◌≡◌, ◌≤◌, Err, None, Ok, IfErr, IfOk, MatchOption, MatchResult, vec_len};
-ghost use Rattle.cpm_commands.specs.Files.{IsNamingRefusal, IsPlanRefusal};
+ghost use Rattle.cpm_commands.specs.Files.{IsNamingFault, IsPlanRefusal};
 ghost use Rattle.cpm_host.specs.Refusals.{IsFileRefusal, IsOutRefusal};
 ghost use Rattle.cpm_store.specs.Files.{CountsFailure};
 
@@ -278,10 +278,10 @@ impl<R: LockableFiles> Store for MachineFiles<'_, R> {
 }
 
 impl<R: LockableFiles> CommandFiles for MachineFiles<'_, R> {
-    // Of what the machine has nothing can be said, but of how it is refused.
+    // What the machine has isn't known, but how it refuses.
     ghost sees_to = { λ _ _ fault _. MatchOption fault ⊤ IsPlanRefusal };
 
-    ghost gives_names = { λ _ fault _. MatchOption fault ⊤ IsNamingRefusal };
+    ghost gives_names = { λ _ fault _. MatchOption fault ⊤ IsNamingFault };
 
     ghost tells_name = { λ _ _ _. ⊤ };
 
@@ -316,4 +316,8 @@ impl<R: LockableFiles> CommandFiles for MachineFiles<'_, R> {
             Err(refused) => Err(self.keep(refused)),
         }
     }
+
+    ghost sees_told = { λ _ _ _ _ told. told };
+
+    ghost names_told = { λ _ _ _ told. told };
 }
