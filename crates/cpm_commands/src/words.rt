@@ -1,5 +1,5 @@
 //! What the words of a command line ask for, done by whoever does tasks.
-ghost use Rattle.std.specs.Prelude.{◌≡◌, ◌⊎◌, ℕ, Err, IfErr, IfOk, List, Option, Result, map, option_map, string_bytes};
+ghost use Rattle.std.specs.Prelude.{◌≡◌, ◌⊎◌, ℕ, if◌then◌else◌, Err, IfErr, IfOk, List, Option, Result, map, option_map, string_bytes};
 ghost use Rattle.cpm_command_line.specs.Line.{HasUsers};
 ghost use Rattle.cpm_command_line.specs.declared.task.Task.{Task};
 ghost use Rattle.cpm_commands.specs.Words.{IsCommandDone, IsLineDone, IsOrderDone, IsTypedAtTold, IsVersionTold, line_behind, order_of_words};
