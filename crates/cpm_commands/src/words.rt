@@ -45,12 +45,19 @@ fn takes_typed_keys(task: &Task<'_>) -> bool
     }
 }
 
+/// The status that says whether the keys of standard input are typed at a task as they come: 0 where they are.
+fn typed_status(task: &Task<'_>) -> u8
+    ensures { result ≡ (if takes_typed_keys task.now then 0 else 1) }
+{
+    if takes_typed_keys(task) { 0 } else { 1 }
+}
+
 /// Says by its status whether one types at a line, which begins with the program's own name: 0 where one does. The launcher asks for that.
 fn typed_at_status(alloc: Global, line: &[&str]) -> u8
     ensures { IsTypedAtTold (map (λ w. w.now) line.now) result }
 {
     match command(alloc, line) {
-        Ok(task) => { if takes_typed_keys(&task) { 0 } else { 1 } }
+        Ok(task) => typed_status(&task),
         Err(_) => 1,
     }
 }
