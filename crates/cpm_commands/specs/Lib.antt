@@ -19,4 +19,6 @@ pub mod Report
 pub mod Run
 pub mod Saved
 pub mod Task
+pub mod TaskOver
 pub mod Typed
+pub mod Words

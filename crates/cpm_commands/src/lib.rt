@@ -24,6 +24,7 @@ mod run;
 mod saved;
 mod task;
 mod typed;
+mod words;
 
 pub use asm::assemble_file;
 pub use check::check_image;
@@ -40,3 +41,4 @@ pub use report::LineWriter;
 pub use run::{SessionsWatcher, run_sessions};
 pub use saved::tell_saved;
 pub use task::do_task;
+pub use words::{TaskDoer, do_line, do_words, outcome_status};

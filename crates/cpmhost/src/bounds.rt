@@ -1,6 +1,7 @@
 //! Where the files of a run may lie: in the folders of `--within`, and its outputs with `--outputs-here` in the current one.
 
-ghost use Rattle.std.specs.Prelude.{◌≡◌};
+ghost use Rattle.std.specs.Prelude.{◌≡◌, IfErr};
+ghost use Rattle.cpm_commands.specs.Files.{IsPlanRefusal};
 
 use crate::files::unreadable;
 use crate::output::{is_open_already, target_of};
@@ -38,7 +39,9 @@ pub struct Bounds {
 }
 
 /// The refusal of a file, with what is said of it.
-fn refused(name: &str, is_output: bool, behind: RefusalDetail) -> CommandRefusal {
+fn refused(name: &str, is_output: bool, behind: RefusalDetail) -> CommandRefusal
+    ensures { IsPlanRefusal result.error }
+{
     let name = shown(name);
     let error = if is_output {
         RunError::WriteFault(name)
@@ -70,7 +73,9 @@ impl Bounds {
     }
 
     /// Those of the folders of these names; where there is no name there are none.
-    fn new(rt: &(impl Files + AllocGlobal), names: &[&str]) -> Result<Bounds, CommandRefusal> {
+    fn new(rt: &(impl Files + AllocGlobal), names: &[&str]) -> Result<Bounds, CommandRefusal>
+        ensures { IfErr result (λ r. IsPlanRefusal r.error) }
+    {
         let mut folders = Vec::new(rt.alloc());
         for name in names {
             match folder_at(rt, name) {
@@ -158,7 +163,9 @@ impl Bounds {
         rt: &(impl Files + AllocGlobal),
         name: &str,
         is_output: bool,
-    ) -> Result<(), CommandRefusal> {
+    ) -> Result<(), CommandRefusal>
+        ensures { IfErr result (λ r. IsPlanRefusal r.error) }
+    {
         let behind = match self.locate(rt, name)? {
             Location::Inside => return Ok(()),
             Location::Outside => RefusalDetail::Outside,
@@ -173,7 +180,9 @@ impl Bounds {
         &self,
         rt: &(impl Files + AllocGlobal),
         name: &str,
-    ) -> Result<(), CommandRefusal> {
+    ) -> Result<(), CommandRefusal>
+        ensures { IfErr result (λ r. IsPlanRefusal r.error) }
+    {
         self.check(rt, name, true)
     }
 
@@ -182,7 +191,9 @@ impl Bounds {
         &self,
         rt: &(impl Files + AllocGlobal),
         inputs: &[PlannedFile<'_>],
-    ) -> Result<(), CommandRefusal> {
+    ) -> Result<(), CommandRefusal>
+        ensures { IfErr result (λ r. IsPlanRefusal r.error) }
+    {
         for file in inputs {
             if file.role != FileRole::Configuration {
                 self.check(rt, file.name, false)?;
@@ -258,7 +269,9 @@ impl FileRules<'_> {
     }
 
     /// Refuses outputs of which one has a name that is not plain, or scripts that would go to another folder than the current one.
-    fn check_plain(self, outputs: &[PlannedFile<'_>]) -> Result<(), CommandRefusal> {
+    fn check_plain(self, outputs: &[PlannedFile<'_>]) -> Result<(), CommandRefusal>
+        ensures { IfErr result (λ r. IsPlanRefusal r.error) }
+    {
         if !self.has_outputs_here {
             return Ok(());
         }
@@ -274,7 +287,9 @@ impl FileRules<'_> {
     }
 
     /// Refuses scripts that would go to a folder with no name.
-    fn check_scripts(self) -> Result<(), HostError> {
+    fn check_scripts(self) -> Result<(), HostError>
+        ensures { IfErr result IsPlanRefusal }
+    {
         if self.scripts != Some("") {
             return Ok(());
         }
@@ -292,7 +307,9 @@ impl FileRules<'_> {
         self,
         rt: &(impl Files + AllocGlobal),
         plan: &FilePlan<'_>,
-    ) -> Result<Bounds, CommandRefusal> {
+    ) -> Result<Bounds, CommandRefusal>
+        ensures { IfErr result (λ r. IsPlanRefusal r.error) }
+    {
         self.check_plain(&plan.outputs)?;
         self.check_scripts()?;
         Bounds::new(rt, self.folders)

@@ -24,27 +24,25 @@ mod repeated;
 mod screen;
 mod service_folder;
 mod service_journal;
-mod service_try;
 mod stream;
 mod task;
 mod tempo;
 mod terminal;
 mod typing;
 
-use cpm_host::{HostError, Task, VERSION, asks_version, command};
+use cpm_commands::{do_line, outcome_status};
+use cpm_host::HostError;
 use held::LockableFiles;
 use output::Outputs;
-use patient::{PatientError, PatientOutput, StandardInput};
-use refused::CommandRefusal;
+use patient::{PatientError, PatientOutput};
 use std::env::Env;
 use std::fs::{File, OpenOptions};
-use std::io::{ErrorKind, IsTerminal, Write};
+use std::io::{ErrorKind, IsTerminal};
 use std::os::fd::AsRawFd;
 use std::os::unix::fs::FileTypeExt;
 use std::process::{self, ExitCode};
-use std::rt::{Clock, Files};
 use std::{env, fs, io};
-use task::do_task;
+use task::MachineTasks;
 use typing::Terminals;
 
 /// How many standard streams there are: their numbers are those below.
@@ -59,91 +57,6 @@ fn arguments(rt: &(impl Env + AllocGlobal)) -> Result<Vec<String>, HostError>
         Err(error) if error.kind() == ErrorKind::OutOfMemory => Err(HostError::OutOfMemory),
         Err(_) => Err(HostError::NotText),
     }
-}
-
-/// Does what words ask for, which begin with the program's own name.
-fn do_words(
-    rt: &(impl LockableFiles + StandardInput),
-    outputs: Outputs,
-    words: &[&str],
-    terminals: Terminals<'_>,
-) -> Result<ExitCode, CommandRefusal> {
-    if asks_version(words) {
-        print(rt, VERSION)?;
-        return Ok(ExitCode::SUCCESS);
-    }
-    match words {
-        [_, "typed-at", line @ ..] => Ok(tell_typed_at(rt, line)?),
-        [_, "typed-from", end, line @ ..] => {
-            let words = named_line(rt, line)?;
-            let end = Some(*end);
-            let terminals = Terminals { end, ..terminals };
-            do_command(rt, outputs, words.as_slice(), terminals)
-        }
-        _ => do_command(rt, outputs, words, terminals),
-    }
-}
-
-/// Does the command of words, which begin with the program's own name.
-fn do_command(
-    rt: &(impl LockableFiles + StandardInput),
-    outputs: Outputs,
-    words: &[&str],
-    terminals: Terminals<'_>,
-) -> Result<ExitCode, CommandRefusal> {
-    let task = command(rt.alloc(), words).map_err(HostError::from)?;
-    if let Task::Serve(task) = &task {
-        return Ok(service_try::serve(rt, outputs, task)?);
-    }
-    let status = do_task(rt, outputs, &task, terminals)?;
-    Ok(ExitCode::from(status))
-}
-
-/// A line that begins after the program's own name, with that name.
-fn named_line<'a>(rt: &impl AllocGlobal, line: &[&'a str]) -> Result<Vec<&'a str>, HostError> {
-    let mut words = Vec::new(rt.alloc());
-    words.push("cpmhost")?;
-    words.extend_from_slice(line)?;
-    Ok(words)
-}
-
-/// Prints a text of the program's own.
-fn print(rt: &(impl Print + Clock), text: &str) -> Result<(), HostError> {
-    PatientOutput::new(rt)
-        .write_all(text.as_bytes())
-        .map_err(HostError::OutputUnwritable)
-}
-
-/// Whether the keys of standard input are typed at a task as they come.
-fn is_typed_at(task: &Task<'_>) -> bool {
-    match task {
-        Task::Com(task) | Task::Boot(task) => task.is_live,
-        Task::Run(task) => task.keyboard.is_some(),
-        _ => false,
-    }
-}
-
-/// Says by its status whether a line, which begins after the program's own name, is typed at: 0 where it is. The launcher asks for that.
-fn tell_typed_at(rt: &impl AllocGlobal, line: &[&str]) -> Result<ExitCode, HostError> {
-    let words = named_line(rt, line)?;
-    match command(rt.alloc(), words.as_slice()) {
-        Ok(task) if is_typed_at(&task) => Ok(ExitCode::SUCCESS),
-        _ => Ok(ExitCode::from(1)),
-    }
-}
-
-/// Does what the words of the command line ask for.
-fn do_line(
-    rt: &(impl LockableFiles + Env + StandardInput),
-    outputs: Outputs,
-    terminals: Terminals<'_>,
-) -> Result<ExitCode, CommandRefusal> {
-    let words = arguments(rt)?;
-    let mut texts = Vec::new(rt.alloc());
-    for word in &words {
-        texts.push(word.as_str())?;
-    }
-    do_words(rt, outputs, texts.as_slice(), terminals)
 }
 
 /// The device that takes all and has nothing.
@@ -180,11 +93,15 @@ fn main(rt: HostRuntime) -> ExitCode {
         end: None,
     };
     let outputs = Outputs::draw(&rt, process::id(rt.process()));
-    match do_line(&rt, outputs, terminals) {
-        Ok(code) => code,
-        Err(refused) => {
-            let _ = eprintln!(PatientError::new(&rt); "cpmhost: {refused}");
-            ExitCode::from(refused.error.code().status())
-        }
+    let mut tasks = MachineTasks::new(&rt, outputs, terminals);
+    let done = match arguments(&rt) {
+        Ok(words) => do_line(rt.alloc(), &words, &mut tasks, &mut PatientOutput::new(&rt)),
+        Err(error) => Err(error),
+    };
+    let status = outcome_status(&done);
+    if let Err(error) = done {
+        let refused = tasks.refusal(error);
+        let _ = eprintln!(PatientError::new(&rt); "cpmhost: {refused}");
     }
+    ExitCode::from(status)
 }

@@ -1,5 +1,8 @@
 //! What is seen to of the files of a command before any of them is read.
 
+ghost use Rattle.std.specs.Prelude.{IfErr};
+ghost use Rattle.cpm_commands.specs.Files.{IsPlanRefusal};
+
 use crate::bounds::{Bounds, FileRules};
 use crate::files::{check_file, check_folder};
 use crate::held::{HeldFiles, LockableFiles, hold_images};
@@ -42,7 +45,9 @@ impl SeenFiles {
         outputs: Outputs,
         rules: FileRules<'_>,
         plan: &FilePlan<'_>,
-    ) -> Result<SeenFiles, CommandRefusal> {
+    ) -> Result<SeenFiles, CommandRefusal>
+        ensures { IfErr result (λ r. IsPlanRefusal r.error) }
+    {
         let bounds = rules.bounds(rt, plan)?;
         for file in &plan.outputs {
             bounds.check_output(rt, file.name)?;
@@ -82,7 +87,9 @@ fn check_output(
     outputs: Outputs,
     file: PlannedFile<'_>,
     naming: OutputNaming,
-) -> Result<(), CommandRefusal> {
+) -> Result<(), CommandRefusal>
+    ensures { IfErr result (λ r. IsPlanRefusal r.error) }
+{
     if file.role == FileRole::Folder {
         return Ok(check_folder(rt, outputs, file.name)?);
     }
@@ -93,7 +100,9 @@ fn check_output(
 }
 
 /// Refuses a file that is there. In the place of an image nothing may be, not a device either.
-fn check_new(rt: &impl LockableFiles, file: PlannedFile<'_>) -> Result<(), CommandRefusal> {
+fn check_new(rt: &impl LockableFiles, file: PlannedFile<'_>) -> Result<(), CommandRefusal>
+    ensures { IfErr result (λ r. IsPlanRefusal r.error) }
+{
     let name = file.name;
     if file.role == FileRole::Image {
         return if has_name(rt, name) {

@@ -1,0 +1,8 @@
+use Rattle.std.proofs.Common.{inl, inr, refl}
+use Rattle.cpm_commands.proofs.words.typed_at_status.Goals as goal
+
+pub returns-in-Ok : goal.returns-in-Ok
+returns-in-Ok c = inl (c.in-Ok.task, (record { named = c.in-Ok.ensures.task.0; faultless = c.in-Ok.ensures.faultless; options = c.in-Ok.ensures.task.1 }, c.typed_status.ensures))
+
+pub returns-in-Err : goal.returns-in-Err
+returns-in-Err c = inr (c.in-Err.field-0, (c.in-Err.ensures.refusal, refl))
