@@ -4,10 +4,10 @@ use Rattle.cpm_flags.specs.declared.regs.Cpu.{Cpu}
 use Rattle.cpm_flags.specs.declared.regs.Cpu.TheVariants.{I8080, Z80}
 use Rattle.cpm_command_line.specs.declared.fault.UsageFault.{UsageFault}
 use Rattle.cpm_command_line.specs.declared.fault.UsageFault.TheVariants.{FolderWithoutDisk, FolderWithoutDrive, FromWithPlace, FromWithProgram, FromWithStart}
-use Rattle.cpm_command_line.specs.declared.fault.UsageFault.TheVariants.{CheckpointZero, CompactAlone, FramesOutside, NoProgram, OutWithoutDisk, OutWithoutDrive}
+use Rattle.cpm_command_line.specs.declared.fault.UsageFault.TheVariants.{CheckpointZero, FramesOutside, NoProgram, OutWithoutDisk, OutWithoutDrive}
 use Rattle.cpm_command_line.specs.declared.fault.UsageFault.TheVariants.{PaceUntyped, PaceZero, PartialWithoutOut}
 use Rattle.cpm_command_line.specs.declared.fault.UsageFault.TheVariants.{ProgressAtKeyboard, ProgressAtPrompt, RecordAlone, RecordUntyped}
-use Rattle.cpm_command_line.specs.declared.fault.UsageFault.TheVariants.{SystemWithoutFrom, TooManyDisks, TooManyPlaces, TwoJournals, TwoScripts}
+use Rattle.cpm_command_line.specs.declared.fault.UsageFault.TheVariants.{SystemWithoutFrom, TooManyDisks, TooManyPlaces, TwoScripts}
 use Rattle.cpm_command_line.specs.declared.task.DebugTask.{DebugTask}
 use Rattle.cpm_command_line.specs.declared.task.PlayTask.{PlayTask}
 use Rattle.cpm_command_line.specs.declared.task.RunTask.{RunTask}
@@ -98,13 +98,10 @@ abbrev pub is_outside_frames : Option ℕ → Bool
 is_outside_frames None = false
 is_outside_frames (Some n) = nat_lt n 16 || nat_lt 16384 n
 
--- own: what is wrong first with the options of `serve`: one journal is kept at most, and only a journal is made short
+-- own: what is wrong first with the options of `serve`
 abbrev pub fault_of_serve : ServeTask → Option UsageFault
 fault_of_serve task =
-    if is_outside_frames task.frames then Some FramesOutside
-    else (if is_some task.journal && is_some task.resume then Some TwoJournals
-    else (if task.is_compact && not (is_some task.journal || is_some task.resume) then Some CompactAlone
-    else None))
+    if is_outside_frames task.frames then Some FramesOutside else None
 
 -- own: what is wrong first with the options of a task
 abbrev pub task_fault : Task → Option UsageFault

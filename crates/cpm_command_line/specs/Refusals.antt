@@ -51,8 +51,6 @@ kinds_of fault.PaceZero = []
 kinds_of fault.PaceUntyped = []
 kinds_of fault.CheckpointZero = []
 kinds_of fault.FramesOutside = []
-kinds_of fault.TwoJournals = []
-kinds_of fault.CompactAlone = []
 kinds_of (fault.Other word) =
     kind.NoEquals ∷ kind.TooManyValues ∷ kind.TooFewValues ∷ kind.WrongNumberOfValues
     ∷ kind.DisplayVersion ∷ kind.Io ∷ kind.Format ∷ []

@@ -120,12 +120,6 @@ pub enum UsageFault {
     /// No host has so many frames, or so few.
     #[error("'--frames' needs a number from 16 to 16384")]
     FramesOutside,
-    /// A new journal is to be kept, and one that is there gone on with.
-    #[error("'--resume' goes on with the journal that it names; leave out '--journal'")]
-    TwoJournals,
-    /// A journal is to be made short, and none is kept.
-    #[error("'--compact' needs '--journal' or '--resume'")]
-    CompactAlone,
     /// Anything else, in the words of the reader of command lines.
     #[error("{0}")]
     Other(ShownWord),

@@ -3,7 +3,6 @@
 /// The page of `serve`.
 pub const SERVE_PAGE: &str = "\
 Usage: cpmhost serve [--system IMAGE] [--frames N] [--folder FOLDER]
-       [--journal FILE] [--resume FILE] [--compact]
 
 Serve a host of up to 64 sessions to another program: read requests on standard
 input, an object of JSON on each line, and write a reply to each on standard
@@ -19,19 +18,8 @@ Options:
   --folder FOLDER
               the folder that the requests' files are in. No name in a request
               leads out of it. Without it no request has a file
-  --journal FILE
-              write each request that changes a session to the new file FILE
-              before its reply, so that a kill loses nothing that was replied
-  --resume FILE
-              do first what the journal FILE has, without replies, and go on
-              with it as --journal does. The system drive and the frames must
-              be the same
-  --compact   put savings of the sessions in the place of what the journal has,
-              at the start and then every 1,000,000,000 steps, so that it is
-              short and soon done again. It goes with --journal or --resume
   -h, --help  print this page
 
 Examples:
-  cpmhost serve --folder class --journal class.journal
-  cpmhost serve --folder class --resume class.journal --compact
+  cpmhost serve --folder class
 ";

@@ -159,7 +159,7 @@ pub struct DebugTask<'a> {
 
 /// A host that is served lines.
 ///
-/// `serve [--system IMAGE] [--frames N] [--folder FOLDER] [--journal FILE] [--resume FILE] [--compact]`
+/// `serve [--system IMAGE] [--frames N] [--folder FOLDER]`
 #[derive(Drop)]
 pub struct ServeTask<'a> {
     /// The image of the system drive, where one was given.
@@ -168,12 +168,6 @@ pub struct ServeTask<'a> {
     pub frames: Option<u64>,
     /// The folder that its files are in, where one was given.
     pub folder: Option<&'a str>,
-    /// The file of a new journal, where one is kept. Not with `resume`.
-    pub journal: Option<&'a str>,
-    /// The file of the journal that it goes on from, and on with, where one was given.
-    pub resume: Option<&'a str>,
-    /// Whether savings take the place of what the journal has. Only with `journal` or `resume`.
-    pub is_compact: bool,
 }
 
 /// A command of `disk` with its words. The files are those of `user`, from 0 to 15.

@@ -18,6 +18,7 @@ pub mod Replays
 pub mod Report
 pub mod Run
 pub mod Saved
+pub mod Serve
 pub mod Task
 pub mod TaskOver
 pub mod Typed

@@ -7,7 +7,7 @@ use Rattle.cpm_command_line.specs.declared.task.DiskTask.{DiskTask}
 use Rattle.cpm_command_line.specs.declared.task.DiskTask.TheVariants.{New, List as Listing, Put, Get, Remove, Rename}
 use Rattle.cpm_command_line.specs.declared.task.PlayTask.{PlayTask}
 use Rattle.cpm_command_line.specs.declared.task.Task.{Task}
-use Rattle.cpm_command_line.specs.declared.task.Task.TheVariants.{Com, Boot, Asm, List as Lines, Check, Run, Debug, Saved, Disk, Help}
+use Rattle.cpm_command_line.specs.declared.task.Task.TheVariants.{Com, Boot, Asm, List as Lines, Check, Run, Debug, Saved, Serve, Disk, Help}
 use Rattle.cpm_disk_commands.specs.declared.damage.NamedFile.{NamedFile}
 use Rattle.cpm_host.specs.declared.error.HostError.{HostError}
 use Rattle.cpm_play.specs.declared.live.PlayEnd.{PlayEnd}
@@ -15,6 +15,7 @@ use Rattle.cpm_run.specs.Run.{StoreActs}
 use Rattle.cpm_run.specs.Settled.{Streams}
 use Rattle.cpm_run.specs.declared.ending.Ending.{Ending}
 use Rattle.cpm_run.specs.declared.report.SessionReport.{SessionReport}
+use Rattle.cpm_slots.specs.Host.{Host}
 use Rattle.cpm_store.specs.Files.{StoreFiles, StoreName}
 use Rattle.cpm_store.specs.Log.{StoreAccess}
 use Rattle.cpm_commands.specs.Asm.{HasAssembled, IsAsmRefused}
@@ -29,6 +30,7 @@ use Rattle.cpm_commands.specs.Play.{HasPlayedTask, IsPlayRefused, ReadActs}
 use Rattle.cpm_commands.specs.Report.{IsUnprinted}
 use Rattle.cpm_commands.specs.Run.{HasRunSessions, IsRunStopped}
 use Rattle.cpm_commands.specs.Saved.{HasToldSaved, IsSavedTellingRefused}
+use Rattle.cpm_commands.specs.Serve.{HasServed, IsServiceEnded}
 use Rattle.cpm_commands.specs.declared.drives.DrivePlace.{DrivePlace}
 
 -- ---- what a command goes through
@@ -44,14 +46,18 @@ pub record FileActs (F : Type 0) : Type 1 where
   pub lists : F → StoreName → List StoreName → Type 0
   pub unlists : F → StoreName → HostError → Type 0
 
--- where the sessions of a run stood; how the record of what is typed ended; and what was told: of files that are left out of drives, and at last of a
--- program, and of sessions
+-- where the sessions of a run stood; how the record of what is typed ended; what was told: of files that are left out of drives, and at last of a
+-- program, and of sessions; and how a host was served
 pub record ToldActs : Type 1 where
   pub stood : Option Checkpoint
   pub ended : Option HostError → Type 0
   pub told_left_out : List DrivePlace → Type 0
   pub told_end : PlayTask → List (List ℕ × NamedFile) → Ending → (waits : Bool) → Option PlayEnd → (dropped : Bool) → Type 0
   pub told_illegal : List SessionReport → Type 0
+  -- a host that was made so was served all lines of standard input, and is left so; or some of them; and a folder was asked nothing
+  pub talked : (made left : Host) → Type 0
+  pub talked_partly : (made left : Host) → Type 0
+  pub unasked : Type 0
 
 -- what they do as a store
 abbrev pub store_acts : {F : Type 0} → FileActs F → StoreActs F
@@ -119,6 +125,7 @@ IsPlainTaskDone {F} {W} acts told p (Run task) =
     p.io.unread p.io.left p.io.before.console p.io.written.console p.io.unrecorded p.io.record_now
 IsPlainTaskDone {F} {W} acts told p (Debug task) = IsDebugTaskDone acts.does task p.old p.new p.unread p.io.before.console p.io.written.console
 IsPlainTaskDone {F} {W} acts told p (Saved file) = HasToldSaved acts.does file.now p.old p.new p.io.before.console p.io.written.console
+IsPlainTaskDone {F} {W} acts told p (Serve task) = HasServed acts.does told.talked task p.old p.new
 IsPlainTaskDone {F} {W} acts told p (Disk task) = IsDiskTaskDone acts p task
 IsPlainTaskDone {F} {W} acts told p (Help page) = (p.new ≡ p.old) × Appends p.io.before.console p.io.written.console (text_of_page page)
 
@@ -132,7 +139,13 @@ plays_programs _ = false
 -- it takes its orders from standard input
 abbrev pub reads_orders : Task → Bool
 reads_orders (Debug task) = true
+reads_orders (Serve task) = true
 reads_orders _ = false
+
+-- it asks a folder for files by their names
+abbrev pub asks_folder : Task → Bool
+asks_folder (Serve task) = true
+asks_folder _ = false
 
 -- The command that the words name, by their values, and no other; and the exit status.
 abbrev pub IsTaskDone : {F W : Type 0} → FileActs F → ToldActs → Passage F W → Task → (status : ℕ) → Type 0
@@ -177,5 +190,7 @@ IsTaskRefused {F} {W} acts told p (Run task) e =
 IsTaskRefused {F} {W} acts told p (Debug task) e =
     IsDebugTaskRefused acts.does task p.old p.new p.unread p.io.before.console p.io.written.console p.out p.out_now e
 IsTaskRefused {F} {W} acts told p (Saved file) e = IsSavedTellingRefused acts.does file.now p.old p.new p.out p.out_now e
+IsTaskRefused {F} {W} acts told p (Serve task) e =
+    IsServiceEnded acts.does told.talked_partly (told.unasked × IsSilent p) task p.old p.new e
 IsTaskRefused {F} {W} acts told p (Disk task) e = IsDiskTaskRefused acts p task e
 IsTaskRefused {F} {W} acts told p (Help page) e = (p.new ≡ p.old) × IsUnprinted e

@@ -8,9 +8,11 @@ ghost use Rattle.cpm_commands.specs.Drives.{HasToldLeftOut};
 ghost use Rattle.cpm_commands.specs.Messages.{HasToldEnd, HasToldIllegal};
 ghost use Rattle.cpm_commands.specs.Record.{HasEndedRecord};
 ghost use Rattle.cpm_commands.specs.Report.{IsUnprinted};
-ghost use Rattle.cpm_commands.specs.Task.{IsDiskTaskDone, IsDiskTaskRefused, IsTaskDone, IsTaskRefused, plays_programs, reads_orders, with_status};
+ghost use Rattle.cpm_commands.specs.Task.{IsDiskTaskDone, IsDiskTaskRefused, IsTaskDone, IsTaskRefused, asks_folder, plays_programs, reads_orders};
+ghost use Rattle.cpm_commands.specs.Task.{with_status};
 ghost use Rattle.cpm_play.specs.Typist.{nobody};
 ghost use Rattle.cpm_run.specs.Settled.{streams};
+ghost use Rattle.cpm_serve.specs.Talk.{HasTalked, HasTalkedPartly};
 
 use crate::asm::assemble_file;
 use crate::check::check_image;
@@ -25,9 +27,11 @@ use crate::record::KeyRecord;
 use crate::report::{LineWriter, print_text};
 use crate::run::{SessionsWatcher, run_sessions};
 use crate::saved::tell_saved;
+use crate::serve::serve_requests;
 use cpm_checkpoint::Checkpoint;
 use cpm_command_line::{Page, page_text};
 use cpm_host::{DiskTask, HostError, Task, Typist};
+use cpm_serve::Folder;
 use std::alloc::Global;
 use std::io::{BufRead, Write};
 
@@ -152,6 +156,7 @@ pub fn do_task<
     W: LineWriter,
     R: KeyRecord,
     T: SessionsWatcher + Messages,
+    D: Folder,
 >(
     alloc: Global,
     task: &Task<'_>,
@@ -162,6 +167,7 @@ pub fn do_task<
     out: &mut W,
     record: &mut R,
     watcher: &mut T,
+    folder: &mut D,
 ) -> Result<u8, HostError>
     requires { HasUsers task.now }
     ensures done { IfOk result (IsTaskDone
@@ -181,6 +187,9 @@ pub fn do_task<
           told_left_out = λ places. HasToldLeftOut T.tells watcher.old places;
           told_end = λ task unwritten ending waits end dropped. HasToldEnd T.tells T.is_read task unwritten ending waits end dropped watcher.new;
           told_illegal = λ sessions. HasToldIllegal T.tells sessions watcher.new;
+          talked = λ made left. HasTalked D.does (I.remaining input.old) made left folder.old folder.new (W.contents out.old) (W.contents out.new);
+          talked_partly = λ made left. HasTalkedPartly D.does (I.remaining input.old) made left folder.old folder.new;
+          unasked = folder.new ≡ folder.old;
         })
         (record {
           old = files.old;
@@ -208,6 +217,9 @@ pub fn do_task<
           told_left_out = λ places. HasToldLeftOut T.tells watcher.old places;
           told_end = λ task unwritten ending waits end dropped. HasToldEnd T.tells T.is_read task unwritten ending waits end dropped watcher.new;
           told_illegal = λ sessions. HasToldIllegal T.tells sessions watcher.new;
+          talked = λ made left. HasTalked D.does (I.remaining input.old) made left folder.old folder.new (W.contents out.old) (W.contents out.new);
+          talked_partly = λ made left. HasTalkedPartly D.does (I.remaining input.old) made left folder.old folder.new;
+          unasked = folder.new ≡ folder.old;
         })
         (record {
           old = files.old;
@@ -218,9 +230,11 @@ pub fn do_task<
               (R.contents «record».old) (R.contents «record».new);
           unread = I.remaining input.old;
         }) task.now) }
-    // The others leave the typist, the record of what is typed and the messages as they were, and but for the debugger standard input too.
+    // The others leave the typist, the record of what is typed and the messages as they were. Those that take no orders leave standard input as it was, and
+    // those that serve no host the folder.
     ensures apart { plays_programs task.now ≡ false → (typist.new ≡ typist.old) × («record».new ≡ «record».old) × (watcher.new ≡ watcher.old) }
     ensures unread { reads_orders task.now ≡ false → input.new ≡ input.old }
+    ensures unasked { asks_folder task.now ≡ false → folder.new ≡ folder.old }
 {
     match task {
         Task::Com(task) => do_play_task(alloc, task, files, typist, out, record, watcher),
@@ -236,7 +250,7 @@ pub fn do_task<
             alloc, task, stood, files, typist, out, record, watcher,
         )),
         Task::Debug(task) => plain(do_debug_task(alloc, task, files, input, out)),
-        Task::Serve(_) => Err(HostError::OutOfMemory),
+        Task::Serve(task) => plain(serve_requests(alloc, task, files, folder, input, out)),
         Task::Saved { file } => plain(tell_saved(alloc, file, files, out)),
         Task::Disk(task) => plain(do_disk(alloc, task, files, out)),
         Task::Help(page) => plain(print_page(*page, out)),

@@ -155,11 +155,7 @@ impl<'a, R: LockableFiles> MachineFiles<'a, R> {
     }
 
     /// The files of one request of a service, which lie in these folders.
-    pub fn in_folders(
-        rt: &'a R,
-        outputs: Outputs,
-        folders: &'a [&'a str],
-    ) -> MachineFiles<'a, R> {
+    pub fn in_folders(rt: &'a R, outputs: Outputs, folders: &'a [&'a str]) -> MachineFiles<'a, R> {
         let batch = Batch::new(rt, outputs);
         MachineFiles::new(rt, outputs, FileRules::of_service(folders), false, batch)
     }

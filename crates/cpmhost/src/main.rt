@@ -23,7 +23,6 @@ mod refused;
 mod repeated;
 mod screen;
 mod service_folder;
-mod service_journal;
 mod stream;
 mod task;
 mod tempo;

@@ -17,10 +17,13 @@ use crate::progress::{Form, Teller};
 use crate::record::Record;
 use crate::refused::{CommandRefusal, RefusalDetail};
 use crate::screen::{Lines, Screen};
+use crate::service_folder::ServiceFolder;
 use crate::terminal::{TerminalTypist, TypingOutput};
 use crate::typing::Terminals;
 use cpm_commands::{CommandFiles, KeyRecord, Messages, TaskDoer};
 use cpm_host::{HostError, KeyReader, RunTask, Store, Task, Typist};
+use cpm_serve::Folder;
+use std::alloc::{AllocError, Global};
 use std::cell::Cell;
 use std::io;
 use std::io::{BufReader, BufWriter, Read, Write};
@@ -82,6 +85,7 @@ impl<R: LockableFiles + StandardInput> TaskDoer for MachineTasks<'_, R> {
           ends = ⟦<Record<'static, R> as KeyRecord>⟧.ends;
           tells = ⟦<Teller<'static, R> as Messages>⟧.tells;
           is_read = ⟦<Teller<'static, R> as Messages>⟧.is_read;
+          accesses = ⟦<ServiceFolder<'static, R> as Folder>⟧.does;
         }) task done };
 
     fn do_task(&mut self, task: &Task<'_>, end: Option<&str>) -> Result<u8, HostError> {
@@ -148,6 +152,7 @@ fn do_at_terminal<R: LockableFiles + StandardInput, F: CommandFiles, K: KeyRecor
           ends = K.ends;
           tells = ⟦<Teller<'static, R> as Messages>⟧.tells;
           is_read = ⟦<Teller<'static, R> as Messages>⟧.is_read;
+          accesses = ⟦<ServiceFolder<'static, R> as Folder>⟧.does;
         })
         (workplace files.old «record».old before) (workplace files.new «record».new after) task.now result }
 {
@@ -201,6 +206,7 @@ fn do_by_reads<R: LockableFiles + StandardInput, F: CommandFiles, K: KeyRecord>(
           ends = K.ends;
           tells = ⟦<Teller<'static, R> as Messages>⟧.tells;
           is_read = ⟦<Teller<'static, R> as Messages>⟧.is_read;
+          accesses = ⟦<ServiceFolder<'static, R> as Folder>⟧.does;
         })
         (workplace files.old «record».old before) (workplace files.new «record».new after) task.now result }
 {
@@ -251,6 +257,7 @@ fn do_over<R: LockableFiles + StandardInput, F: CommandFiles, K: KeyRecord, P: T
           ends = K.ends;
           tells = ⟦<Teller<'static, R> as Messages>⟧.tells;
           is_read = ⟦<Teller<'static, R> as Messages>⟧.is_read;
+          accesses = ⟦<ServiceFolder<'static, R> as Folder>⟧.does;
         })
         (workplace files.old «record».old (P.typing typist.old)) (workplace files.new «record».new (P.typing typist.new)) task.now result }
 {
@@ -282,6 +289,8 @@ fn do_over<R: LockableFiles + StandardInput, F: CommandFiles, K: KeyRecord, P: T
     let Ok(mut input) = BufReader::new(rt.alloc(), PatientInput::new(rt)) else {
         return Err(HostError::OutOfMemory);
     };
+    let folders = folders_of(rt.alloc(), task)?;
+    let mut folder = ServiceFolder::new(rt, outputs, &folders);
     let done = cpm_commands::do_task(
         rt.alloc(),
         task,
@@ -292,6 +301,7 @@ fn do_over<R: LockableFiles + StandardInput, F: CommandFiles, K: KeyRecord, P: T
         &mut lines,
         record,
         &mut teller,
+        &mut folder,
     );
     teller.end_all();
     if has_shown_escape.get() && takes_raw(task) {
@@ -301,6 +311,17 @@ fn do_over<R: LockableFiles + StandardInput, F: CommandFiles, K: KeyRecord, P: T
         teller.end_task(drops_disks(task));
     }
     done
+}
+
+/// The folder of a service, if it has one.
+fn folders_of<'a>(alloc: Global, task: &Task<'a>) -> Result<Vec<&'a str>, AllocError> {
+    let mut folders = Vec::new(alloc);
+    if let Task::Serve(task) = task
+        && let Some(folder) = task.folder
+    {
+        folders.push(folder)?;
+    }
+    Ok(folders)
 }
 
 /// The files of a task.

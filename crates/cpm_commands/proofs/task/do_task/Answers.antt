@@ -51,6 +51,12 @@ returns-in-Saved-clause-done g c = plain-done _ _ c.tell_saved.result c.plain-in
 pub returns-in-Saved-clause-refusal : goal.returns-in-Saved-clause-refusal
 returns-in-Saved-clause-refusal g c = plain-refused _ _ c.tell_saved.result c.plain-in-Saved.result c.plain-in-Saved.ensures (λ e h. rw c.in-Saved.is h) c.tell_saved.ensures.refusal
 
+pub returns-in-Serve-clause-done : goal.returns-in-Serve-clause-done
+returns-in-Serve-clause-done g c = plain-done _ _ c.serve_requests.result c.plain-in-Serve.result c.plain-in-Serve.ensures (λ h. rw c.in-Serve.is (h, refl)) c.serve_requests.ensures.served
+
+pub returns-in-Serve-clause-refusal : goal.returns-in-Serve-clause-refusal
+returns-in-Serve-clause-refusal g c = plain-refused _ _ c.serve_requests.result c.plain-in-Serve.result c.plain-in-Serve.ensures (λ e h. rw c.in-Serve.is h) c.serve_requests.ensures.refusal
+
 pub returns-in-Disk-clause-done : goal.returns-in-Disk-clause-done
 returns-in-Disk-clause-done g c = plain-done _ _ c.do_disk.result c.plain-in-Disk.result c.plain-in-Disk.ensures (λ h. rw c.in-Disk.is (h, refl)) c.do_disk.ensures.done
 

@@ -1,0 +1,109 @@
+//! The command `serve`.
+ghost use Rattle.std.specs.Prelude.{◌≡◌, ◌≤◌, ◌×◌, IfErr, IfOk, OnOk};
+ghost use Rattle.cpm_commands.specs.Serve.{HasServed, IsHostBegun, IsHostUnbegun, IsServiceEnded, frames_asked, host_error_of_talk};
+ghost use Rattle.cpm_host.specs.Program.{disk_or_blank};
+ghost use Rattle.cpm_host.specs.declared.error.HostError.TheVariants.{OutOfMemory};
+ghost use Rattle.cpm_serve.specs.Talk.{HasTalked, HasTalkedPartly};
+ghost use Rattle.cpm_slots.specs.Host.{new_host};
+
+use crate::begin::read_system;
+use crate::files::CommandFiles;
+use cpm_geom::{Format, Image};
+use cpm_host::{HostError, ServeTask};
+use cpm_serve::{Folder, Server, TalkError, serve_lines};
+use cpm_slots::{Host, LEAST_FRAMES, MOST_FRAMES};
+use std::alloc::Global;
+use std::io::{BufRead, Write};
+
+/// How many frames a host has: as many as there are, unless fewer are asked for.
+fn frames_asked(frames: Option<u64>) -> u16
+    ensures asked { result ≡ frames_asked frames }
+    ensures least { LEAST_FRAMES ≤ result }
+    ensures most { result ≤ MOST_FRAMES }
+{
+    match frames {
+        Some(frames) => {
+            if frames < LEAST_FRAMES as u64 {
+                LEAST_FRAMES
+            } else if frames > MOST_FRAMES as u64 {
+                MOST_FRAMES
+            } else {
+                frames as u16
+            }
+        }
+        None => MOST_FRAMES,
+    }
+}
+
+/// A system drive, or a blank one.
+fn system_or_blank(alloc: Global, system: Option<Image>) -> Result<Image, HostError>
+    ensures drive { IfOk result (λ image. image ≡ disk_or_blank system) }
+    ensures refusal { IfErr result (λ e. e ≡ OutOfMemory) }
+{
+    match system {
+        Some(image) => Ok(image),
+        None => Ok(Image::blank(alloc, Format::Ibm3740)?),
+    }
+}
+
+/// A host of so many frames over this system drive, or over a blank one.
+fn host_over(alloc: Global, system: Option<Image>, frames: u16) -> Result<Host, HostError>
+    requires least { LEAST_FRAMES ≤ frames }
+    requires most { frames ≤ MOST_FRAMES }
+    ensures made { IfOk result (λ h. h.host ≡ new_host (disk_or_blank system) frames) }
+    ensures refusal { IfErr result (λ e. e ≡ OutOfMemory) }
+{
+    let system = system_or_blank(alloc, system)?;
+    match Host::new(alloc, system, frames) {
+        Ok(host) => Ok(host),
+        Err(_) => Err(HostError::OutOfMemory),
+    }
+}
+
+/// A new host over the system drive in a file, if one is named, or over a blank one.
+fn begin_host<F: CommandFiles>(
+    alloc: Global,
+    task: &ServeTask<'_>,
+    files: &mut F,
+) -> Result<Host, HostError>
+    ensures begun { IfOk result (λ h. IsHostBegun F.does task.now files.old files.new h.host) }
+    ensures refusal { IfErr result (IsHostUnbegun F.does task.now files.old files.new) }
+{
+    let system = read_system(alloc, task.system, files)?;
+    host_over(alloc, system, frames_asked(task.frames))
+}
+
+/// What a talk comes to that ended early.
+fn ended_early(error: TalkError) -> HostError
+    ensures { result ≡ host_error_of_talk error }
+{
+    match error {
+        TalkError::Unreadable(reason) => HostError::InputUnreadable(reason),
+        TalkError::Unwritable(reason) => HostError::OutputUnwritable(reason),
+        TalkError::OutOfMemory => HostError::OutOfMemory,
+    }
+}
+
+/// Makes a host, and serves it the lines of an input over a folder of files, with their replies, up to the end of the input.
+pub fn serve_requests<F: CommandFiles, D: Folder, I: BufRead, W: Write>(
+    alloc: Global,
+    task: &ServeTask<'_>,
+    files: &mut F,
+    folder: &mut D,
+    input: &mut I,
+    out: &mut W,
+) -> Result<(), HostError>
+    ensures served { OnOk result (HasServed F.does
+        (λ made left. HasTalked D.does (I.remaining input.old) made left folder.old folder.new (W.contents out.old) (W.contents out.new))
+        task.now files.old files.new) }
+    ensures refusal { IfErr result (IsServiceEnded F.does
+        (λ made left. HasTalkedPartly D.does (I.remaining input.old) made left folder.old folder.new)
+        ((folder.new ≡ folder.old) × (out.new ≡ out.old)) task.now files.old files.new) }
+{
+    let host = begin_host(alloc, task, files)?;
+    let mut server = Server { host };
+    match serve_lines(&mut server, alloc, folder, input, out) {
+        Ok(()) => Ok(()),
+        Err(error) => Err(ended_early(error)),
+    }
+}
