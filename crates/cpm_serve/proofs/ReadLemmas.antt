@@ -1,12 +1,16 @@
 -- Drives that are read, one after another.
 use Rattle.std.proofs.Common.{◌≡◌, ◌∙◌, ℕ, List, [], ◌∷◌, ◌++◌, append_assoc, Option, Some, None, refl, sym, subst, ap, inl, inr, ⊎_elim}
-use Rattle.std.specs.Prelude.{◌⊎◌, Result, Ok, Err}
-use Rattle.cpm_geom.specs.Disk.{Disk}
+use Rattle.std.specs.Prelude.{◌⊎◌, Result, Ok, Err, IfErr, IfOk, Vec, length}
+use Rattle.std.specs.List.{concat}
+use Rattle.std.specs.declared.alloc.Global.{Global}
+use Rattle.cpm_geom.specs.Disk.{Disk, IsDisk, disk_of}
+use Rattle.cpm_geom.specs.Geometry.{format_of_length}
+use Rattle.cpm_geom.proofs.JoinedLemmas.{disk_joined}
 use Rattle.cpm_protocol.specs.declared.word.WireRefusal.{WireRefusal}
 use Rattle.cpm_protocol.specs.declared.word.WireRefusal.TheVariants as refusal
-use Rattle.cpm_serve.specs.Drives.{DrivesRead, disk_answered, disk_named, drives_state, none_read, one_more_disk, with_disk, with_drive_named, with_image_named}
+use Rattle.cpm_serve.specs.Drives.{DrivesRead, disk_answered, disk_in_format, disk_named, disk_of_file, drives_state, none_read, one_more_disk, with_disk, with_drive_named, with_image_named}
 use Rattle.cpm_serve.specs.Folder.{AccessesLead, AreNoFolderWrites, Failed, FolderAccess, FolderAnswer, Given, IsNoFolderWrite, Stored, read_access}
-use Rattle.cpm_serve.specs.Reading.{AreNamedDrivesRead, AreReadWith, IsDriveRead, IsDriveReadOf, IsFileDisk, IsLacked, IsOneDriveMore}
+use Rattle.cpm_serve.specs.Reading.{AreNamedDrivesRead, AreReadWith, IsDriveRead, IsDriveReadOf, IsFileDisk, IsLacked, IsOneDriveMore, images_had}
 
 -- ---- accesses
 
@@ -144,3 +148,40 @@ more-drive does n disks r after from to drive is = λ read start k. ⊎_elim
 -- none so far
 pub none-more : {F : Type 0} (does : F → FolderAccess → F → Type 0) (from : F) → AreNamedDrivesRead does none_read (Ok []) from from
 none-more does from = ([], [], record { leads = refl; unwritten = tt; is = inl (λ more. refl) })
+
+-- ---- one drive
+
+abbrev disk_had : Disk → Result Disk WireRefusal
+disk_had d = Ok d
+
+abbrev disk_lacked : WireRefusal → Result Disk WireRefusal
+disk_lacked why = Err why
+
+-- the disk that bytes are
+pub disk-file : (bytes : List ℕ) (d : Disk) → format_of_length (length bytes) ≡ Some d.format → concat d.sectors ≡ bytes → IsDisk d → disk_had d ≡ disk_of_file bytes
+disk-file bytes d format sectors whole =
+    ap disk_had (sym (disk_joined d whole)) ∙ ap (λ bs. disk_had (disk_of d.format bs)) sectors ∙ ap (λ f. disk_in_format f bytes) (sym format)
+
+pub no_disk-file : (bytes : List ℕ) → format_of_length (length bytes) ≡ None → disk_lacked refusal.DamagedDisk ≡ disk_of_file bytes
+no_disk-file bytes none = ap (λ f. disk_in_format f bytes) (sym none)
+
+blank-read : {F : Type 0} (does : F → FolderAccess → F → Type 0) (n : List ℕ) (blank : Disk) (from : F) (r : Result Disk WireRefusal) → IfOk r (λ image. image ≡ blank) →
+    IfErr r (λ why. why ≡ refusal.OutOfMemory) → IsDriveReadOf does n (Some blank) from from r
+blank-read does n blank from (Ok image) made lacked = (refl, inl (ap disk_had made))
+blank-read does n blank from (Err why) made lacked = (refl, inr (ap disk_lacked lacked))
+
+pub drive-blank : {F : Type 0} (does : F → FolderAccess → F → Type 0) (n : List ℕ) (blank : Disk) (from : F) (r : Result Disk WireRefusal) → Some blank ≡ disk_named n → IfOk r (λ image. image ≡ blank) →
+    IfErr r (λ why. why ≡ refusal.OutOfMemory) → IsDriveRead does n from from r
+drive-blank does n blank from r e made lacked = subst (λ (o : Option Disk). IsDriveReadOf does n o from from r) e (blank-read does n blank from r made lacked)
+
+pub drive-file : {F : Type 0} (does : F → FolderAccess → F → Type 0) (n : List ℕ) (from to : F) (r : Result Disk WireRefusal) → None ≡ disk_named n → IsFileDisk does n from to r → IsDriveRead does n from to r
+drive-file does n from to r e k = subst (λ (o : Option Disk). IsDriveReadOf does n o from to r) e k
+
+-- drives with one more, as the code has them
+pub pushed-drive : (disks : List Disk) (drive : Disk) (r : Result (Vec Disk Global) WireRefusal) → IfOk r (λ all. all.items ≡ disks ++ drive ∷ []) → IfErr r (λ why. why ≡ refusal.OutOfMemory) →
+    IsPushed disks (Ok drive) (images_had r)
+pushed-drive disks drive (Ok all) made lacked = inl (ap (λ (ds : List Disk). let x : Result (List Disk) WireRefusal = Ok ds in x) made)
+pushed-drive disks drive (Err why) made lacked = inr (ap (λ (w : WireRefusal). let x : Result (List Disk) WireRefusal = Err w in x) lacked)
+
+pub unread-drive : (disks : List Disk) (why : WireRefusal) → IsPushed disks (Err why) (Err why)
+unread-drive disks why = inl refl

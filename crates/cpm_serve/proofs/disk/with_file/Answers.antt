@@ -1,0 +1,2 @@
+use Rattle.std.proofs.Common.{◌∙◌, refl}
+use Rattle.cpm_serve.proofs.disk.with_file.Goals as goal
