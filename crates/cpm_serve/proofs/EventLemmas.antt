@@ -1,5 +1,5 @@
 -- A request, as an event of its value.
-use Rattle.std.proofs.Common.{◌≡◌, ◌∙◌, List, [], ◌∷◌, Bool, false, refl, sym, subst, ap}
+use Rattle.std.proofs.Common.{◌≡◌, ◌∙◌, [], ◌∷◌, Bool, false, refl, sym, subst, ap}
 use Rattle.std.specs.Prelude.{Result, Ok, Err}
 use Rattle.serde_json.specs.Data.{Data}
 use Rattle.cpm_slots.specs.Host.{Host}
@@ -7,7 +7,7 @@ use Rattle.cpm_protocol.specs.Replies.{Answered, Wrong, reply_json}
 use Rattle.cpm_protocol.specs.Requests.{AskedFault, WireAsked, request_asked}
 use Rattle.cpm_serve.specs.DriveFiles.{no_work}
 use Rattle.cpm_serve.specs.Folder.{AccessesLead, AreNoFolderWrites, FolderAccess}
-use Rattle.cpm_serve.specs.Lines.{EventsLead, IsRequestTrue, WireEvent, request_accesses, request_served, tag_shown}
+use Rattle.cpm_serve.specs.Lines.{EventsLead, IsRequestTrue, request_accesses, request_served, tag_shown}
 use Rattle.cpm_serve.specs.Parts.{IsEventServed, event_of}
 use Rattle.cpm_serve.specs.Served.{IsRequestServed, Served, served_if}
 use Rattle.cpm_serve.specs.ServedWith.{IsDiskWork, IsRequestServedWith, accesses_of, served_with_if}

@@ -24,7 +24,7 @@ use Rattle.cpm_serve.specs.Folder.{AccessesLead, AreNoFolderWrites, Failed, Fold
 use Rattle.cpm_serve.specs.Reading.{AreMade, AreOutputsWritten, IsLacked, or_bad_drives, outputs_written, written_result}
 use Rattle.cpm_serve.specs.Seen.{save_refusal}
 use Rattle.cpm_serve.specs.Served.{Served, after_asks, is_no_name, outcome, refused}
-use Rattle.cpm_serve.specs.ServedWith.{IsRequestServedWith, accesses_of_outputs, answer_with_outputs, asks_when_stored, asks_with_outputs, closed_answer, session_saving}
+use Rattle.cpm_serve.specs.ServedWith.{IsRequestServedWith, answer_with_outputs, asks_when_stored, asks_with_outputs, closed_answer, session_saving}
 use Rattle.cpm_serve.specs.ServedWith.{slot_accesses, slot_served_with}
 use Rattle.cpm_serve.specs.Slot.{look_answer}
 use Rattle.cpm_serve.proofs.ServedLemmas.{if-open, same-outcome}

@@ -10,7 +10,7 @@ use Rattle.cpm_protocol.specs.declared.word.WireRefusal.{WireRefusal}
 use Rattle.cpm_protocol.specs.declared.word.WireRefusal.TheVariants as refusal
 use Rattle.cpm_serve.specs.Drives.{DrivesRead, disk_answered, disk_in_format, disk_named, disk_of_file, drives_state, none_read, one_more_disk, with_disk, with_drive_named, with_image_named}
 use Rattle.cpm_serve.specs.Folder.{AccessesLead, AreNoFolderWrites, Failed, FolderAccess, FolderAnswer, Given, IsNoFolderWrite, Stored, read_access}
-use Rattle.cpm_serve.specs.Reading.{AreNamedDrivesRead, AreReadWith, IsDriveRead, IsDriveReadOf, IsFileDisk, IsLacked, IsOneDriveMore, images_had}
+use Rattle.cpm_serve.specs.Reading.{AreNamedDrivesRead, IsDriveRead, IsDriveReadOf, IsFileDisk, IsLacked, IsOneDriveMore, images_had}
 
 -- ---- accesses
 
@@ -55,14 +55,18 @@ pub more-none : {F : Type 0} (does : F → FolderAccess → F → Type 0) (r : R
 more-none does r from = λ read start k. k
 
 pub more-fault : {F : Type 0} (does : F → FolderAccess → F → Type 0) (name : Option (List ℕ)) (why : WireRefusal) (from : F) → IsOneDriveMore does name (Err why) (Err why) from from
-more-fault does name why from = λ read start k. (k.0, k.1, record {
-  leads = k.2.leads;
-  unwritten = k.2.unwritten;
-  is = ⊎_elim
-      (λ exact. inl (λ more. ap (with_drive_named name) (exact more) ∙ fault-stays name why k.1 more))
-      (λ lack. let n = none-left name (read k.0) lack.2 in inr (lack.0, n.0 ∙ lack.1, n.1))
-      k.2.is;
-})
+more-fault does name why from = λ read start k. (
+  k.0,
+  k.1,
+  record {
+    leads = k.2.leads;
+    unwritten = k.2.unwritten;
+    is = ⊎_elim
+        (λ exact. inl (λ more. ap (with_drive_named name) (exact more) ∙ fault-stays name why k.1 more))
+        (λ lack. let n = none-left name (read k.0) lack.2 in inr (lack.0, n.0 ∙ lack.1, n.1))
+        k.2.is;
+  },
+)
 
 -- the drives so far with one more, if it was read; or memory was refused
 abbrev pub IsPushed : List Disk → Result Disk WireRefusal → Result (List Disk) WireRefusal → Type 0
@@ -81,16 +85,24 @@ more-blank : {F : Type 0} (does : F → FolderAccess → F → Type 0) (n : List
     (start to : F) (answers : List FolderAnswer) (log : List FolderAccess) → disk_named n ≡ Some blank → IsExact read disks answers log → AccessesLead does start to log → AreNoFolderWrites log →
     (after ≡ Ok (disks ++ blank ∷ [])) ⊎ IsLacked after → AreNamedDrivesRead does (λ answers. with_drive_named (Some n) (read answers)) after start to
 more-blank does n blank disks after read start to answers log e exact leads unwritten is = ⊎_elim
-    (λ (had : after ≡ Ok (disks ++ blank ∷ [])). (answers, log, record {
-      leads = leads;
-      unwritten = unwritten;
-      is = inl (λ more. ap (with_drive_named (Some n)) (exact more) ∙ step-named n (Some blank) disks log more e ∙ ap (λ (x : Result (List Disk) WireRefusal). drives_state x log more) (sym had));
-    }))
-    (λ (lacked : IsLacked after). let k = none-left (Some n) (read (answers ++ [])) (ap (λ (x : DrivesRead). x.rest) (exact [])) in (answers ++ [], log, record {
-      leads = leads;
-      unwritten = unwritten;
-      is = inr (lacked, k.0 ∙ ap (λ (x : DrivesRead). x.accesses) (exact []), k.1);
-    }))
+    (λ (had : after ≡ Ok (disks ++ blank ∷ [])). (
+      answers,
+      log,
+      record {
+        leads = leads;
+        unwritten = unwritten;
+        is = inl (λ more. ap (with_drive_named (Some n)) (exact more) ∙ step-named n (Some blank) disks log more e ∙ ap (λ (x : Result (List Disk) WireRefusal). drives_state x log more) (sym had));
+      },
+    ))
+    (λ (lacked : IsLacked after). let k = none-left (Some n) (read (answers ++ [])) (ap (λ (x : DrivesRead). x.rest) (exact [])) in (
+      answers ++ [],
+      log,
+      record {
+        leads = leads;
+        unwritten = unwritten;
+        is = inr (lacked, k.0 ∙ ap (λ (x : DrivesRead). x.accesses) (exact []), k.1);
+      },
+    ))
     is
 
 -- the disk in a file
@@ -102,17 +114,20 @@ more-file does n disks r after read start from to answers log e exact leads unwr
     let a = file.answer in
     let all = log ++ read_access n a ∷ [] in
     let stepped : (more : List FolderAnswer) → with_drive_named (Some n) (read (answers ++ a ∷ more)) ≡ drives_state (one_more_disk disks (disk_answered a)) all more =
-    λ more. ap (with_drive_named (Some n)) (exact (a ∷ more)) ∙ step-named n None disks log (a ∷ more) e in
-    (answers ++ a ∷ [], all, record {
-      leads = accesses-more does start from to log (read_access n a) leads file.did;
-      unwritten = reads-more log n a unwritten;
-      is = ⊎_elim
-          (λ (had : after ≡ one_more_disk disks r). inl (λ more.
-          ap (λ (xs : List FolderAnswer). with_drive_named (Some n) (read xs)) (append_assoc answers (a ∷ []) more) ∙ stepped more
-          ∙ ap (λ (x : Result (List Disk) WireRefusal). drives_state x all more) (ap (one_more_disk disks) (sym file.is) ∙ sym had)))
-          (λ (lacked : IsLacked after). inr (lacked, ap (λ (x : DrivesRead). x.accesses) (stepped []), ap (λ (x : DrivesRead). x.rest) (stepped [])))
-          is;
-    })
+    λ more. ap (with_drive_named (Some n)) (exact (a ∷ more)) ∙ step-named n None disks log (a ∷ more) e in (
+      answers ++ a ∷ [],
+      all,
+      record {
+        leads = accesses-more does start from to log (read_access n a) leads file.did;
+        unwritten = reads-more log n a unwritten;
+        is = ⊎_elim
+            (λ (had : after ≡ one_more_disk disks r). inl (λ more.
+            ap (λ (xs : List FolderAnswer). with_drive_named (Some n) (read xs)) (append_assoc answers (a ∷ []) more) ∙ stepped more
+            ∙ ap (λ (x : Result (List Disk) WireRefusal). drives_state x all more) (ap (one_more_disk disks) (sym file.is) ∙ sym had)))
+            (λ (lacked : IsLacked after). inr (lacked, ap (λ (x : DrivesRead). x.accesses) (stepped []), ap (λ (x : DrivesRead). x.rest) (stepped [])))
+            is;
+      },
+    )
 
 pushed-blank : (disks : List Disk) (blank : Disk) (r : Result Disk WireRefusal) (after : Result (List Disk) WireRefusal) → (r ≡ Ok blank) ⊎ IsLacked r → IsPushed disks r after →
     (after ≡ Ok (disks ++ blank ∷ [])) ⊎ IsLacked after

@@ -1,7 +1,6 @@
-use Rattle.std.proofs.Common.{◌≡◌, ◌∙◌, Option, Some, None, refl, sym, ap, subst}
-use Rattle.std.specs.Prelude.{IfSome, Result, Ok, Err}
+use Rattle.std.proofs.Common.{◌≡◌, ◌∙◌}
+use Rattle.std.specs.Prelude.{Ok, Err}
 use Rattle.cpm_protocol.specs.Requests.{drive_names_of}
-use Rattle.cpm_slots.specs.Host.{slot_at}
 use Rattle.cpm_serve.specs.Owned.{owned_answer}
 use Rattle.cpm_serve.proofs.OutputLemmas.{close-absent, close-by, close-refused, cpu-absent}
 use Rattle.cpm_serve.proofs.close.close.Goals as goal

@@ -1,10 +1,5 @@
-use Rattle.std.proofs.Common.{◌≡◌, ◌∙◌, ap, ap₂, refl}
-use Rattle.cpm_flags.specs.declared.regs.Cpu.{Cpu}
-use Rattle.cpm_machine.specs.declared.reply.Look.{Look}
-use Rattle.cpm_machine.specs.Serve.{look_of}
-use Rattle.cpm_protocol.specs.Replies.{Looked}
+use Rattle.std.proofs.Common.{◌≡◌, ◌∙◌}
 use Rattle.cpm_slots.specs.Host.{slot_at}
-use Rattle.cpm_serve.specs.Seen.{look_seen}
 use Rattle.cpm_serve.proofs.ServedLemmas.{closed-unknown, if-open}
 use Rattle.cpm_serve.proofs.close.finish.Goals as goal
 

@@ -1,7 +1,5 @@
-use Rattle.std.proofs.Common.{◌∙◌, inr, refl, sym}
-use Rattle.cpm_slots.specs.Drives.{drive_image}
-use Rattle.cpm_slots.specs.Host.{slot_at}
-use Rattle.cpm_serve.proofs.OutputLemmas.{output-absent, output-fault, output-lacked, output-more, output-twice}
+use Rattle.std.proofs.Common.{◌∙◌}
+use Rattle.cpm_serve.proofs.OutputLemmas.{output-fault}
 use Rattle.cpm_serve.proofs.close.with_output.Goals as goal
 
 pub returns-in-Err : goal.returns-in-Err

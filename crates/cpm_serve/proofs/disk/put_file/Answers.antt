@@ -1,6 +1,5 @@
-use Rattle.std.proofs.Common.{◌∙◌, ap, sym, subst, refl}
-use Rattle.std.specs.Prelude.{Ok, Err, List, chars, length}
-use Rattle.cpm_slots.specs.Host.{Host}
+use Rattle.std.proofs.Common.{◌∙◌, ap, sym, subst}
+use Rattle.std.specs.Prelude.{Ok, Err, List, chars}
 use Rattle.cpm_protocol.specs.Requests.{Put}
 use Rattle.cpm_serve.specs.DriveFiles.{stored_answer}
 use Rattle.cpm_serve.specs.Folder.{AccessesLead, write_answer}

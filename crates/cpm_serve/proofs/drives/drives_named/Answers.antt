@@ -1,4 +1,3 @@
-use Rattle.std.proofs.Common.{[]}
 use Rattle.cpm_serve.proofs.ReadLemmas.{none-more}
 use Rattle.cpm_serve.proofs.drives.drives_named.Goals as goal
 
