@@ -1,13 +1,13 @@
 -- A request, as an event of its value.
-use Rattle.std.proofs.Common.{◌≡◌, ◌∙◌, List, [], ◌∷◌, Bool, false, refl, subst, ap}
+use Rattle.std.proofs.Common.{◌≡◌, ◌∙◌, [], ◌∷◌, Bool, false, refl, sym, subst, ap}
 use Rattle.std.specs.Prelude.{Result, Ok, Err}
 use Rattle.serde_json.specs.Data.{Data}
 use Rattle.cpm_slots.specs.Host.{Host}
 use Rattle.cpm_protocol.specs.Replies.{Answered, Wrong, reply_json}
 use Rattle.cpm_protocol.specs.Requests.{AskedFault, WireAsked, request_asked}
 use Rattle.cpm_serve.specs.DriveFiles.{no_work}
-use Rattle.cpm_serve.specs.Folder.{AccessesLead, FolderAccess}
-use Rattle.cpm_serve.specs.Lines.{EventsLead, IsRequestTrue, WireEvent, request_accesses, request_served, tag_shown}
+use Rattle.cpm_serve.specs.Folder.{AccessesLead, AreNoFolderWrites, FolderAccess}
+use Rattle.cpm_serve.specs.Lines.{EventsLead, IsRequestTrue, request_accesses, request_served, tag_shown}
 use Rattle.cpm_serve.specs.Parts.{IsEventServed, event_of}
 use Rattle.cpm_serve.specs.Served.{IsRequestServed, Served, served_if}
 use Rattle.cpm_serve.specs.ServedWith.{IsDiskWork, IsRequestServedWith, accesses_of, served_with_if}
@@ -28,8 +28,8 @@ plain-with does r old new from a same none work k = record {
   made = no_work;
   work = work;
   served = k.served ∙ same k.lacked;
-  leads = rw none refl;
-  unwritten = λ e. rw none tt;
+  leads = subst (AccessesLead does from from) (sym none) refl;
+  unwritten = λ e. subst AreNoFolderWrites (sym none) tt;
 }
 
 pub event-served : {F : Type 0} (does : F → FolderAccess → F → Type 0) (d : Data) (r : WireAsked) (old new : Host) (from to : F) (a : Answered) (reply : Data) →

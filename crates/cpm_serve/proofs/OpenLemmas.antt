@@ -17,12 +17,12 @@ use Rattle.cpm_protocol.specs.Requests.{FourNames, Open, Resume}
 use Rattle.cpm_protocol.specs.declared.word.WireRefusal.{WireRefusal}
 use Rattle.cpm_protocol.specs.declared.word.WireRefusal.TheVariants as refusal
 use Rattle.cpm_serve.specs.Seen.{open_refusal, open_result}
-use Rattle.cpm_serve.specs.Served.{IsSessionOpened, Served, added_if, opened_with_disks, outcome, refused}
+use Rattle.cpm_serve.specs.Served.{IsSessionOpened, Served, added_if, outcome, refused}
 use Rattle.cpm_serve.specs.declared.folder.FolderError.{FolderError}
 use Rattle.cpm_serve.specs.DriveFiles.{no_work}
 use Rattle.cpm_serve.specs.Drives.{drives_read, drives_state, name_count}
 use Rattle.cpm_serve.specs.Folder.{AccessesLead, AreNoFolderWrites, Failed, FolderAccess, FolderAnswer, Given, read_access, read_refusal}
-use Rattle.cpm_serve.specs.Reading.{AreNamedDrivesRead, AreReadWith, IsLacked, restore_result}
+use Rattle.cpm_serve.specs.Reading.{AreNamedDrivesRead, IsLacked, restore_result}
 use Rattle.cpm_serve.specs.ServedWith.{IsRequestServedWith, accesses_if_fit, opened_if_fit, opened_read, restore_refusal, resumed_if}
 use Rattle.cpm_serve.proofs.ServedLemmas.{same-outcome}
 

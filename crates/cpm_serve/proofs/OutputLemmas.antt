@@ -1,16 +1,21 @@
 -- Drives that are written.
 use Rattle.std.proofs.Common.{◌≡◌, ◌∙◌, ℕ, List, [], ◌∷◌, ◌++◌, Bool, true, false, not, ◌&&◌, Option, Some, None, refl, sym, subst, ap, inl, inr, ⊎_elim, if◌then◌else◌}
-use Rattle.std.specs.Prelude.{⊤, ◌⊎◌, Result, Ok, Err, length}
+use Rattle.std.specs.Prelude.{⊤, ◌⊎◌, IfSome, Result, Ok, Err, is_none, length}
+use Rattle.std.specs.Borrow.{Bor}
+use Rattle.cpm_flags.specs.declared.regs.Cpu.{Cpu}
 use Rattle.std.specs.List.{concat}
 use Rattle.cpm_geom.specs.Disk.{Disk}
 use Rattle.cpm_machine.specs.MachineState.{MachineState}
-use Rattle.cpm_slots.specs.Host.{Host, IsSaveRefusal, after_ask, slot_at}
+use Rattle.cpm_slots.specs.Drives.{drive_image}
+use Rattle.cpm_slots.specs.Host.{Host, IsSaveRefusal, after_ask, cpu_reply, slot_at}
 use Rattle.cpm_slots.specs.Serving.{Closes}
+use Rattle.cpm_slots.specs.declared.event.Refusal.{Refusal}
 use Rattle.cpm_slots.specs.declared.event.SaveError.{SaveError}
 use Rattle.cpm_store.specs.Laws.{has_name_among}
 use Rattle.cpm_store.specs.Writes.{NamedBytes}
 use Rattle.cpm_protocol.specs.Replies.{Answered, Refused}
-use Rattle.cpm_protocol.specs.Requests.{Close, FourNames, Save, WireAsked}
+use Rattle.cpm_protocol.specs.Requests.{Close, FourNames, Save, drive_names_of, text_if}
+use Rattle.cpm_protocol.specs.declared.request.DriveNames.{DriveNames}
 use Rattle.cpm_protocol.specs.declared.word.WireRefusal.{WireRefusal}
 use Rattle.cpm_protocol.specs.declared.word.WireRefusal.TheVariants as refusal
 use Rattle.cpm_serve.specs.DriveFiles.{no_work, stored_answer}
@@ -19,10 +24,10 @@ use Rattle.cpm_serve.specs.Folder.{AccessesLead, AreNoFolderWrites, Failed, Fold
 use Rattle.cpm_serve.specs.Reading.{AreMade, AreOutputsWritten, IsLacked, or_bad_drives, outputs_written, written_result}
 use Rattle.cpm_serve.specs.Seen.{save_refusal}
 use Rattle.cpm_serve.specs.Served.{Served, after_asks, is_no_name, outcome, refused}
-use Rattle.cpm_serve.specs.ServedWith.{IsRequestServedWith, accesses_of_outputs, answer_with_outputs, asks_when_stored, asks_with_outputs, closed_answer, session_saving}
+use Rattle.cpm_serve.specs.ServedWith.{IsRequestServedWith, answer_with_outputs, asks_when_stored, asks_with_outputs, closed_answer, session_saving}
 use Rattle.cpm_serve.specs.ServedWith.{slot_accesses, slot_served_with}
 use Rattle.cpm_serve.specs.Slot.{look_answer}
-use Rattle.cpm_serve.proofs.ServedLemmas.{same-outcome}
+use Rattle.cpm_serve.proofs.ServedLemmas.{if-open, same-outcome}
 
 abbrev files_made : List NamedBytes → Result (List NamedBytes) WireRefusal
 files_made files = Ok files
@@ -54,7 +59,7 @@ made-wanted (Some other) files k = ⊎_elim (λ (e : files_made files ≡ or_bad
 
 with-more : (n : List ℕ) (disk : Disk) (files : List NamedBytes) (b : Bool) → has_name_among n files ≡ b →
     with_output_of n (Some disk) (Some files) ≡ (if b then None else Some (files ++ (n, concat disk.sectors) ∷ []))
-with-more n disk files b e = rw e refl
+with-more n disk files b e = ap (λ t. let o : Option (List NamedBytes) = if t then None else Some (files ++ (n, concat disk.sectors) ∷ []) in o) e
 
 pub output-twice : (n : List ℕ) (disk : Disk) (image : Option Disk) (wanted : Option (List NamedBytes)) (files : List NamedBytes) → image ≡ Some disk → AreMade wanted (Ok files) →
     has_name_among n files ≡ true → AreMade (with_output (Some n) image wanted) (Err refusal.BadDrives)
@@ -65,6 +70,16 @@ pub output-more : (n : List ℕ) (disk : Disk) (image : Option Disk) (wanted : O
     has_name_among n files ≡ false → all ≡ files ++ (n, concat disk.sectors) ∷ [] → AreMade (with_output (Some n) image wanted) (Ok all)
 output-more n disk image wanted files all at k e is =
     inl (ap files_made is ∙ ap or_bad_drives (sym (ap (λ d. with_output_of n d wanted) at ∙ ap (with_output_of n (Some disk)) (made-wanted wanted files k) ∙ with-more n disk files false e)))
+
+pub output-lacked : (name : Option (List ℕ)) (disk : Option Disk) (wanted : Option (List NamedBytes)) → AreMade (with_output name disk wanted) (Err refusal.OutOfMemory)
+output-lacked name disk wanted = inr refl
+
+-- of a slot that is open
+pub outputs-at : (n : FourNames) (o : Option MachineState) (s : MachineState) (r : Result (List NamedBytes) WireRefusal) → o ≡ Some s →
+    AreMade (with_output n.d (drive_image 3 o) (with_output n.c (drive_image 2 o) (with_output n.b (drive_image 1 o) (with_output n.a (drive_image 0 o) (Some []))))) r →
+    AreMade (named_drive_outputs n s) r
+outputs-at n o s r at k =
+    subst (λ (p : Option MachineState). AreMade (with_output n.d (drive_image 3 p) (with_output n.c (drive_image 2 p) (with_output n.b (drive_image 1 p) (with_output n.a (drive_image 0 p) (Some []))))) r) at k
 
 -- ---- all written
 
@@ -194,3 +209,81 @@ save-refused does h new slot file None error a from at why same is =
     save-absent does h new slot file false None a from at (same-outcome same (is ∙ ap (λ e. Refused (save_refusal e)) why)) refl
 save-refused does h new slot file (Some s) error a from at why same is =
     save-absent does h new slot file true (Some s) a from at (same-outcome same (is ∙ ap (λ e. Refused (save_refusal e)) why)) refl
+
+-- ---- by what the host said of the slot
+
+abbrev cpu_had : Cpu → Result Cpu Refusal
+cpu_had cpu = Ok cpu
+
+abbrev cpu_missing : Refusal → Result Cpu Refusal
+cpu_missing fault = Err fault
+
+-- a slot that has a processor is open
+open-slot_of : (o : Option MachineState) (cpu : Cpu) → cpu_had cpu ≡ cpu_reply o → (s : MachineState) × (o ≡ Some s) × (cpu ≡ s.cpu)
+open-slot_of None cpu e = absurd cc
+open-slot_of (Some s) cpu e = (s, refl, cc)
+
+pub cpu-absent : (o : Option MachineState) (fault : Refusal) → cpu_missing fault ≡ cpu_reply o → o ≡ None
+cpu-absent None fault e = refl
+cpu-absent (Some s) fault e = absurd cc
+
+at-open : (o : Option MachineState) (s : MachineState) (P : MachineState → Type 0) → o ≡ Some s → IfSome o P → P s
+at-open o s P at k = subst (λ (x : Option MachineState). IfSome x P) at k
+
+-- its drives were written, and it was closed
+pub close-by : {F : Type 0} (does : F → FolderAccess → F → Type 0) (h new : Host) (slot : ℕ) (out : FourNames) (cpu : Cpu) (a : Answered) (from to : F) → cpu_had cpu ≡ cpu_reply (slot_at slot h.slots) →
+    IfSome (slot_at slot h.slots) (λ s. AreOutputsWritten does (is_no_name out.a) (named_drive_outputs out s) from to (Ok tt)) → new ≡ after_ask h slot Closes →
+    IfSome (slot_at slot h.slots) (λ s. cpu ≡ s.cpu → a ≡ look_answer s) → IsRequestServedWith (AccessesLead does from to) (Close slot out) h new a
+close-by does h new slot out cpu a from to had written host reply =
+    let k = open-slot_of (slot_at slot h.slots) cpu had in
+    let s = k.0 in
+    let w = at-open (slot_at slot h.slots) s (λ x. AreOutputsWritten does (is_no_name out.a) (named_drive_outputs out x) from to (Ok tt)) k.1 written in
+    let said = at-open (slot_at slot h.slots) s (λ x. cpu ≡ x.cpu → a ≡ look_answer x) k.1 reply in
+    close-served does h new slot out s a from to (Ok tt) k.1 w (λ e. (host, said k.2)) (λ why e. absurd (not-done why e))
+  where
+    not-done : (why : WireRefusal) → done_well ≡ not_done why → ⊥
+    not-done why e = cc
+
+-- its drives were not written
+pub close-refused : {F : Type 0} (does : F → FolderAccess → F → Type 0) (h : Host) (slot : ℕ) (out : FourNames) (cpu : Cpu) (why : WireRefusal) (a : Answered) (from to : F) → cpu_had cpu ≡ cpu_reply (slot_at slot h.slots) →
+    IfSome (slot_at slot h.slots) (λ s. AreOutputsWritten does (is_no_name out.a) (named_drive_outputs out s) from to (Err why)) → a ≡ Refused why →
+    IsRequestServedWith (AccessesLead does from to) (Close slot out) h h a
+close-refused does h slot out cpu why a from to had written is =
+    let k = open-slot_of (slot_at slot h.slots) cpu had in
+    let s = k.0 in
+    let w = at-open (slot_at slot h.slots) s (λ x. AreOutputsWritten does (is_no_name out.a) (named_drive_outputs out x) from to (Err why)) k.1 written in
+    close-served does h h slot out s a from to (Err why) k.1 w (λ e. absurd (not-well e)) (λ other e. (refl, is ∙ ap (λ v. Refused v) (same other e)))
+  where
+    not-well : not_done why ≡ done_well → ⊥
+    not-well e = cc
+
+    same : (other : WireRefusal) → not_done why ≡ not_done other → why ≡ other
+    same other e = cc
+
+-- ---- written, of a slot that may be open
+
+none-name : (o : Option (Bor (List ℕ))) → is_none o ≡ true → is_no_name (text_if o) ≡ true
+none-name None e = refl
+none-name (Some t) e = absurd cc
+
+some-name : (o : Option (Bor (List ℕ))) → is_none o ≡ false → is_no_name (text_if o) ≡ false
+some-name None e = absurd cc
+some-name (Some t) e = refl
+
+pub written-plain : {F : Type 0} (does : F → FolderAccess → F → Type 0) (o : Option MachineState) (out : DriveNames) (from : F) → is_none out.a ≡ true →
+    IfSome o (λ s. AreOutputsWritten does (is_no_name (text_if out.a)) (named_drive_outputs (drive_names_of out) s) from from (Ok tt))
+written-plain does o out from e = if-open o _ (λ s at. outputs-plain does (is_no_name (text_if out.a)) (named_drive_outputs (drive_names_of out) s) from (none-name out.a e))
+
+pub written-not : {F : Type 0} (does : F → FolderAccess → F → Type 0) (o : Option MachineState) (out : DriveNames) (why : WireRefusal) (from : F) → is_none out.a ≡ false →
+    IfSome o (λ s. AreMade (named_drive_outputs (drive_names_of out) s) (Err why)) →
+    IfSome o (λ s. AreOutputsWritten does (is_no_name (text_if out.a)) (named_drive_outputs (drive_names_of out) s) from from (Err why))
+written-not does o out why from e k = if-open o _
+    (λ s at. outputs-refused does (is_no_name (text_if out.a)) (named_drive_outputs (drive_names_of out) s) from why (some-name out.a e)
+    (at-open o s (λ x. AreMade (named_drive_outputs (drive_names_of out) x) (Err why)) at k))
+
+pub written-by : {F : Type 0} (does : F → FolderAccess → F → Type 0) (o : Option MachineState) (out : DriveNames) (files : List NamedBytes) (a : FolderAnswer) (from to : F) (r : Result ⊤ WireRefusal) → is_none out.a ≡ false →
+    IfSome o (λ s. AreMade (named_drive_outputs (drive_names_of out) s) (Ok files)) → does from (write_access files a) to → r ≡ written_result a →
+    IfSome o (λ s. AreOutputsWritten does (is_no_name (text_if out.a)) (named_drive_outputs (drive_names_of out) s) from to r)
+written-by does o out files a from to r e k did is = if-open o _
+    (λ s at. outputs-done does (is_no_name (text_if out.a)) (named_drive_outputs (drive_names_of out) s) files a from to r (some-name out.a e)
+    (at-open o s (λ x. AreMade (named_drive_outputs (drive_names_of out) x) (Ok files)) at k) did is)

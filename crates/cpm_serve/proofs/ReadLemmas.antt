@@ -1,12 +1,16 @@
 -- Drives that are read, one after another.
 use Rattle.std.proofs.Common.{◌≡◌, ◌∙◌, ℕ, List, [], ◌∷◌, ◌++◌, append_assoc, Option, Some, None, refl, sym, subst, ap, inl, inr, ⊎_elim}
-use Rattle.std.specs.Prelude.{◌⊎◌, Result, Ok, Err}
-use Rattle.cpm_geom.specs.Disk.{Disk}
+use Rattle.std.specs.Prelude.{◌⊎◌, Result, Ok, Err, IfErr, IfOk, Vec, length}
+use Rattle.std.specs.List.{concat}
+use Rattle.std.specs.declared.alloc.Global.{Global}
+use Rattle.cpm_geom.specs.Disk.{Disk, IsDisk, disk_of}
+use Rattle.cpm_geom.specs.Geometry.{format_of_length}
+use Rattle.cpm_geom.proofs.JoinedLemmas.{disk_joined}
 use Rattle.cpm_protocol.specs.declared.word.WireRefusal.{WireRefusal}
 use Rattle.cpm_protocol.specs.declared.word.WireRefusal.TheVariants as refusal
-use Rattle.cpm_serve.specs.Drives.{DrivesRead, disk_answered, disk_named, drives_state, none_read, one_more_disk, with_disk, with_drive_named, with_image_named}
+use Rattle.cpm_serve.specs.Drives.{DrivesRead, disk_answered, disk_in_format, disk_named, disk_of_file, drives_state, none_read, one_more_disk, with_disk, with_drive_named, with_image_named}
 use Rattle.cpm_serve.specs.Folder.{AccessesLead, AreNoFolderWrites, Failed, FolderAccess, FolderAnswer, Given, IsNoFolderWrite, Stored, read_access}
-use Rattle.cpm_serve.specs.Reading.{AreNamedDrivesRead, AreReadWith, IsDriveRead, IsDriveReadOf, IsFileDisk, IsLacked, IsOneDriveMore}
+use Rattle.cpm_serve.specs.Reading.{AreNamedDrivesRead, IsDriveRead, IsDriveReadOf, IsFileDisk, IsLacked, IsOneDriveMore, images_had}
 
 -- ---- accesses
 
@@ -51,14 +55,18 @@ pub more-none : {F : Type 0} (does : F → FolderAccess → F → Type 0) (r : R
 more-none does r from = λ read start k. k
 
 pub more-fault : {F : Type 0} (does : F → FolderAccess → F → Type 0) (name : Option (List ℕ)) (why : WireRefusal) (from : F) → IsOneDriveMore does name (Err why) (Err why) from from
-more-fault does name why from = λ read start k. (k.0, k.1, record {
-  leads = k.2.leads;
-  unwritten = k.2.unwritten;
-  is = ⊎_elim
-      (λ exact. inl (λ more. ap (with_drive_named name) (exact more) ∙ fault-stays name why k.1 more))
-      (λ lack. let n = none-left name (read k.0) lack.2 in inr (lack.0, n.0 ∙ lack.1, n.1))
-      k.2.is;
-})
+more-fault does name why from = λ read start k. (
+  k.0,
+  k.1,
+  record {
+    leads = k.2.leads;
+    unwritten = k.2.unwritten;
+    is = ⊎_elim
+        (λ exact. inl (λ more. ap (with_drive_named name) (exact more) ∙ fault-stays name why k.1 more))
+        (λ lack. let n = none-left name (read k.0) lack.2 in inr (lack.0, n.0 ∙ lack.1, n.1))
+        k.2.is;
+  },
+)
 
 -- the drives so far with one more, if it was read; or memory was refused
 abbrev pub IsPushed : List Disk → Result Disk WireRefusal → Result (List Disk) WireRefusal → Type 0
@@ -77,16 +85,24 @@ more-blank : {F : Type 0} (does : F → FolderAccess → F → Type 0) (n : List
     (start to : F) (answers : List FolderAnswer) (log : List FolderAccess) → disk_named n ≡ Some blank → IsExact read disks answers log → AccessesLead does start to log → AreNoFolderWrites log →
     (after ≡ Ok (disks ++ blank ∷ [])) ⊎ IsLacked after → AreNamedDrivesRead does (λ answers. with_drive_named (Some n) (read answers)) after start to
 more-blank does n blank disks after read start to answers log e exact leads unwritten is = ⊎_elim
-    (λ (had : after ≡ Ok (disks ++ blank ∷ [])). (answers, log, record {
-      leads = leads;
-      unwritten = unwritten;
-      is = inl (λ more. ap (with_drive_named (Some n)) (exact more) ∙ step-named n (Some blank) disks log more e ∙ ap (λ (x : Result (List Disk) WireRefusal). drives_state x log more) (sym had));
-    }))
-    (λ (lacked : IsLacked after). let k = none-left (Some n) (read (answers ++ [])) (ap (λ (x : DrivesRead). x.rest) (exact [])) in (answers ++ [], log, record {
-      leads = leads;
-      unwritten = unwritten;
-      is = inr (lacked, k.0 ∙ ap (λ (x : DrivesRead). x.accesses) (exact []), k.1);
-    }))
+    (λ (had : after ≡ Ok (disks ++ blank ∷ [])). (
+      answers,
+      log,
+      record {
+        leads = leads;
+        unwritten = unwritten;
+        is = inl (λ more. ap (with_drive_named (Some n)) (exact more) ∙ step-named n (Some blank) disks log more e ∙ ap (λ (x : Result (List Disk) WireRefusal). drives_state x log more) (sym had));
+      },
+    ))
+    (λ (lacked : IsLacked after). let k = none-left (Some n) (read (answers ++ [])) (ap (λ (x : DrivesRead). x.rest) (exact [])) in (
+      answers ++ [],
+      log,
+      record {
+        leads = leads;
+        unwritten = unwritten;
+        is = inr (lacked, k.0 ∙ ap (λ (x : DrivesRead). x.accesses) (exact []), k.1);
+      },
+    ))
     is
 
 -- the disk in a file
@@ -98,17 +114,20 @@ more-file does n disks r after read start from to answers log e exact leads unwr
     let a = file.answer in
     let all = log ++ read_access n a ∷ [] in
     let stepped : (more : List FolderAnswer) → with_drive_named (Some n) (read (answers ++ a ∷ more)) ≡ drives_state (one_more_disk disks (disk_answered a)) all more =
-    λ more. ap (with_drive_named (Some n)) (exact (a ∷ more)) ∙ step-named n None disks log (a ∷ more) e in
-    (answers ++ a ∷ [], all, record {
-      leads = accesses-more does start from to log (read_access n a) leads file.did;
-      unwritten = reads-more log n a unwritten;
-      is = ⊎_elim
-          (λ (had : after ≡ one_more_disk disks r). inl (λ more.
-          ap (λ (xs : List FolderAnswer). with_drive_named (Some n) (read xs)) (append_assoc answers (a ∷ []) more) ∙ stepped more
-          ∙ ap (λ (x : Result (List Disk) WireRefusal). drives_state x all more) (ap (one_more_disk disks) (sym file.is) ∙ sym had)))
-          (λ (lacked : IsLacked after). inr (lacked, ap (λ (x : DrivesRead). x.accesses) (stepped []), ap (λ (x : DrivesRead). x.rest) (stepped [])))
-          is;
-    })
+    λ more. ap (with_drive_named (Some n)) (exact (a ∷ more)) ∙ step-named n None disks log (a ∷ more) e in (
+      answers ++ a ∷ [],
+      all,
+      record {
+        leads = accesses-more does start from to log (read_access n a) leads file.did;
+        unwritten = reads-more log n a unwritten;
+        is = ⊎_elim
+            (λ (had : after ≡ one_more_disk disks r). inl (λ more.
+            ap (λ (xs : List FolderAnswer). with_drive_named (Some n) (read xs)) (append_assoc answers (a ∷ []) more) ∙ stepped more
+            ∙ ap (λ (x : Result (List Disk) WireRefusal). drives_state x all more) (ap (one_more_disk disks) (sym file.is) ∙ sym had)))
+            (λ (lacked : IsLacked after). inr (lacked, ap (λ (x : DrivesRead). x.accesses) (stepped []), ap (λ (x : DrivesRead). x.rest) (stepped [])))
+            is;
+      },
+    )
 
 pushed-blank : (disks : List Disk) (blank : Disk) (r : Result Disk WireRefusal) (after : Result (List Disk) WireRefusal) → (r ≡ Ok blank) ⊎ IsLacked r → IsPushed disks r after →
     (after ≡ Ok (disks ++ blank ∷ [])) ⊎ IsLacked after
@@ -144,3 +163,40 @@ more-drive does n disks r after from to drive is = λ read start k. ⊎_elim
 -- none so far
 pub none-more : {F : Type 0} (does : F → FolderAccess → F → Type 0) (from : F) → AreNamedDrivesRead does none_read (Ok []) from from
 none-more does from = ([], [], record { leads = refl; unwritten = tt; is = inl (λ more. refl) })
+
+-- ---- one drive
+
+abbrev disk_had : Disk → Result Disk WireRefusal
+disk_had d = Ok d
+
+abbrev disk_lacked : WireRefusal → Result Disk WireRefusal
+disk_lacked why = Err why
+
+-- the disk that bytes are
+pub disk-file : (bytes : List ℕ) (d : Disk) → format_of_length (length bytes) ≡ Some d.format → concat d.sectors ≡ bytes → IsDisk d → disk_had d ≡ disk_of_file bytes
+disk-file bytes d format sectors whole =
+    ap disk_had (sym (disk_joined d whole)) ∙ ap (λ bs. disk_had (disk_of d.format bs)) sectors ∙ ap (λ f. disk_in_format f bytes) (sym format)
+
+pub no_disk-file : (bytes : List ℕ) → format_of_length (length bytes) ≡ None → disk_lacked refusal.DamagedDisk ≡ disk_of_file bytes
+no_disk-file bytes none = ap (λ f. disk_in_format f bytes) (sym none)
+
+blank-read : {F : Type 0} (does : F → FolderAccess → F → Type 0) (n : List ℕ) (blank : Disk) (from : F) (r : Result Disk WireRefusal) → IfOk r (λ image. image ≡ blank) →
+    IfErr r (λ why. why ≡ refusal.OutOfMemory) → IsDriveReadOf does n (Some blank) from from r
+blank-read does n blank from (Ok image) made lacked = (refl, inl (ap disk_had made))
+blank-read does n blank from (Err why) made lacked = (refl, inr (ap disk_lacked lacked))
+
+pub drive-blank : {F : Type 0} (does : F → FolderAccess → F → Type 0) (n : List ℕ) (blank : Disk) (from : F) (r : Result Disk WireRefusal) → Some blank ≡ disk_named n → IfOk r (λ image. image ≡ blank) →
+    IfErr r (λ why. why ≡ refusal.OutOfMemory) → IsDriveRead does n from from r
+drive-blank does n blank from r e made lacked = subst (λ (o : Option Disk). IsDriveReadOf does n o from from r) e (blank-read does n blank from r made lacked)
+
+pub drive-file : {F : Type 0} (does : F → FolderAccess → F → Type 0) (n : List ℕ) (from to : F) (r : Result Disk WireRefusal) → None ≡ disk_named n → IsFileDisk does n from to r → IsDriveRead does n from to r
+drive-file does n from to r e k = subst (λ (o : Option Disk). IsDriveReadOf does n o from to r) e k
+
+-- drives with one more, as the code has them
+pub pushed-drive : (disks : List Disk) (drive : Disk) (r : Result (Vec Disk Global) WireRefusal) → IfOk r (λ all. all.items ≡ disks ++ drive ∷ []) → IfErr r (λ why. why ≡ refusal.OutOfMemory) →
+    IsPushed disks (Ok drive) (images_had r)
+pushed-drive disks drive (Ok all) made lacked = inl (ap (λ (ds : List Disk). let x : Result (List Disk) WireRefusal = Ok ds in x) made)
+pushed-drive disks drive (Err why) made lacked = inr (ap (λ (w : WireRefusal). let x : Result (List Disk) WireRefusal = Err w in x) lacked)
+
+pub unread-drive : (disks : List Disk) (why : WireRefusal) → IsPushed disks (Err why) (Err why)
+unread-drive disks why = inl refl

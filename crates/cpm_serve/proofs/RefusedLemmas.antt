@@ -1,5 +1,5 @@
 -- A request that is refused leaves the host.
-use Rattle.std.proofs.Common.{◌≡◌, ℕ, List, [], ◌∷◌, Bool, true, false, Option, Some, None, refl, ap, ◌∙◌, ◌&&◌, if◌then◌else◌}
+use Rattle.std.proofs.Common.{◌≡◌, ℕ, List, [], ◌∷◌, Bool, true, false, Option, Some, None, refl, ◌∙◌, ◌&&◌, if◌then◌else◌}
 use Rattle.std.specs.Prelude.{Result, Ok, Err}
 use Rattle.cpm_flags.specs.declared.regs.Cpu.{Cpu}
 use Rattle.cpm_geom.specs.Disk.{Disk}
@@ -25,7 +25,7 @@ use Rattle.cpm_serve.specs.Laws.{RefusedRequests}
 use Rattle.cpm_serve.specs.Lines.{WireEvent, request_served}
 use Rattle.cpm_serve.specs.Served.{Served, added_if, after_asks, forked_answer, is_no_name, refused, slot_served, takes_memory}
 use Rattle.cpm_serve.specs.ServedWith.{answer_with_outputs, asks_when_stored, asks_with_outputs, closed_answer, opened_if_fit, opened_read, resumed_if, resumed_with, served_with}
-use Rattle.cpm_serve.specs.ServedWith.{served_with_if, slot_served_with}
+use Rattle.cpm_serve.specs.ServedWith.{slot_served_with}
 use Rattle.cpm_serve.specs.Slot.{look_answer}
 
 -- what it leaves

@@ -63,9 +63,12 @@ IsGetWork disk name (Ok text) = IsGot disk 0 name text
 IsGetWork disk name (Err why) = IsDriveFileRefusal (IsGetRefusal disk 0 name) why
 
 -- a line for each file of user 0, in their order
+unfoldable pub name_line : DiskFile → List ℕ
+name_line file = if file.user == 0 then seen_name file.name ++ 0x0A ∷ [] else []
+
 unfoldable pub name_lines : List DiskFile → List ℕ
 name_lines [] = []
-name_lines (file ∷ files) = (if file.user == 0 then seen_name file.name ++ 0x0A ∷ [] else []) ++ name_lines files
+name_lines (file ∷ files) = name_line file ++ name_lines files
 
 abbrev pub IsListWork : Disk → DiskWork → Type 0
 IsListWork disk (Ok text) = (listing : DiskListing) × IsListed disk listing × (text ≡ name_lines listing.files.items)

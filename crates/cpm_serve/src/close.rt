@@ -59,7 +59,7 @@ pub(crate) fn save<F: Folder>(
 fn has_name(files: &[Output<'_>], name: &str) -> bool
     ensures { result ≡ has_name_among name.now (map named_output files.now) }
 {
-    files.iter().any(|file| file.name == name)
+    files.iter().any(|file| name == file.name)
 }
 
 /// Files, and an image as one more.

@@ -1,9 +1,9 @@
 //! Files on a drive that no session has.
-ghost use Rattle.std.specs.Prelude.{◌≡◌, ◌++◌, ◌∷◌, [], IfOk, IfSome, OnOk, chars, option_map, true};
+ghost use Rattle.std.specs.Prelude.{◌≡◌, ◌++◌, IfOk, IfSome, OnOk, chars, option_map, true};
 ghost use Rattle.cpm_protocol.specs.Bytes.{is_byte_text};
 ghost use Rattle.cpm_protocol.specs.Requests.{Files, Get, Put};
 ghost use Rattle.cpm_slots.specs.Host.{Host};
-ghost use Rattle.cpm_serve.specs.DriveFiles.{IsGetWork, IsListWork, IsPutWork, disk_file_name, disk_refusal, file_refusal, name_lines};
+ghost use Rattle.cpm_serve.specs.DriveFiles.{IsGetWork, IsListWork, IsPutWork, disk_file_name, disk_refusal, file_refusal, name_line, name_lines};
 ghost use Rattle.cpm_serve.specs.Folder.{AccessesLead};
 ghost use Rattle.cpm_serve.specs.Owned.{owned_answer};
 ghost use Rattle.cpm_serve.specs.Reading.{IsHeldDisk, text_work, work_answer};
@@ -91,26 +91,28 @@ fn bytes_on(alloc: Global, image: &Image, file: &FileName) -> Result<Vec<u8>, Wi
     }
 }
 
+/// Adds the line of a file, if it is one of user 0.
+#[tactic(auto, unfolding(crate::specs::DriveFiles::name_line))]
+fn add_name_line(text: &mut Vec<u8>, file: &DiskFile) -> Result<(), AllocError>
+    ensures { OnOk result (text.new.items ≡ text.old.items ++ name_line file.now) }
+{
+    if file.user != 0 {
+        return Ok(());
+    }
+    add_name(text, &file.name)?;
+    text.push(b'\n')?;
+    Ok(())
+}
+
 /// A line for each file of user 0.
 fn name_lines(alloc: Global, files: &[DiskFile]) -> Result<Vec<u8>, AllocError>
     ensures { IfOk result (λ text. text.items ≡ name_lines files.now) }
 {
     let mut text = Vec::new(alloc);
     for file in files {
-        if file.user == 0 {
-            add_line(&mut text, file)?;
-        }
+        add_name_line(&mut text, file)?;
     }
     Ok(text)
-}
-
-/// Adds the line of a file.
-fn add_line(text: &mut Vec<u8>, file: &DiskFile) -> Result<(), AllocError>
-    ensures { OnOk result (text.new.items ≡ text.old.items ++ name_lines (file.now ∷ [])) }
-{
-    add_name(text, &file.name)?;
-    text.push(b'\n')?;
-    Ok(())
 }
 
 /// The list of a disk's files.

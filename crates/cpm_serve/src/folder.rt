@@ -2,7 +2,7 @@
 ghost use Rattle.cpm_serve.specs.Folder.{FolderAccess, hold_access, read_access, read_answer, read_refusal, write_access, write_answer};
 ghost use Rattle.cpm_serve.specs.Folder.{IsNoFolderAccess, write_refusal};
 ghost use Rattle.cpm_store.specs.Writes.{named_output};
-ghost use Rattle.std.specs.Prelude.{◌≡◌, ◌×◌, ◌∷◌, [], Err, map};
+ghost use Rattle.std.specs.Prelude.{◌≡◌, ◌∷◌, [], Err, map};
 
 use cpm_protocol::WireRefusal;
 use cpm_store::Output;

@@ -271,7 +271,7 @@ fn drives_are_written_where_a_session_is_closed(rt: HostRuntime) {
     refuses(&rt, &mut scene, 0, FolderError::Fault, closes);
     refuses(&rt, &mut scene, 0, FolderError::OutOfMemory, closes);
     same(&rt, scene.folder.store.file("after.img").is_none(), true);
-    begins(&rt, &mut scene, closes, r#"{"af":0,"#);
+    begins(&rt, &mut scene, closes, r#"{"af":2,"#);
     same(
         &rt,
         scene.folder.store.file("after.img"),

@@ -1,5 +1,4 @@
 use Rattle.std.proofs.Common.{refl}
-use Rattle.cpm_protocol.specs.Requests.{request_seen}
 use Rattle.cpm_serve.specs.Owned.{owned_answer}
 use Rattle.cpm_serve.proofs.EventLemmas.{plain-with}
 use Rattle.cpm_serve.proofs.many.perform.Goals as goal
