@@ -1,5 +1,5 @@
 -- The lines of a journal. All of it is own: docs/JOURNAL.md.
-use Rattle.std.specs.Prelude.{◌≡◌, ◌<◌, ℕ, ◌==◌, ◌||◌, Bool, false, List, [], ◌∷◌, ◌++◌, length, Option, IfSome, if◌then◌else◌}
+use Rattle.std.specs.Prelude.{◌≡◌, ◌<◌, ℕ, ◌==◌, ◌||◌, Bool, false, List, [], ◌∷◌, ◌++◌, length, Option, Some, if◌then◌else◌}
 use Rattle.cpm_journal.specs.declared.lines.JournalLine.{JournalLine}
 use Rattle.cpm_journal.specs.declared.lines.JournalLine.TheVariants as line
 
@@ -26,9 +26,15 @@ abbrev pub lines_text : List (List ℕ) → List ℕ
 lines_text [] = []
 lines_text (line ∷ lines) = line ++ 0x0A ∷ lines_text lines
 
+-- a whole line was read, and this is left behind it
+pub record IsWholeLine (text : List ℕ) (rest : Option (List ℕ)) (line : List ℕ) : Type 0 where
+  pub free : has_line_feed line ≡ false
+  pub behind : List ℕ
+  pub left : rest ≡ Some behind
+  pub text_is : text ≡ line ++ 0x0A ∷ behind
+
 -- what a reader had left, and what is left of it behind a line
 abbrev pub IsJournalLine : (text : List ℕ) (rest : Option (List ℕ)) → JournalLine → Type 0
-IsJournalLine text rest (line.Whole bytes) =
-    (has_line_feed bytes.items ≡ false) × IfSome rest (λ behind. text ≡ bytes.items ++ 0x0A ∷ behind)
+IsJournalLine text rest (line.Whole bytes) = IsWholeLine text rest bytes.items
 IsJournalLine text rest (line.Torn count) = (has_line_feed text ≡ false) × (length text ≡ count) × (0 < count)
 IsJournalLine text rest line.End = text ≡ []

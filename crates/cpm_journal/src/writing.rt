@@ -3,7 +3,7 @@ ghost use Rattle.std.specs.Prelude.{◌≡◌, IfOk, OnErr, OnOk};
 ghost use Rattle.hex.specs.Hex.{encode_lower};
 ghost use Rattle.serde_json.specs.Data.{string};
 ghost use Rattle.serde_json.specs.View.{view};
-ghost use Rattle.cpm_journal.specs.Entries.{IsLineAdded, KeptNumber, KeptRequest, KeptSaving, close_json, entry_json, one_member};
+ghost use Rattle.cpm_journal.specs.Entries.{IsKeepable, IsLineAdded, KeptNumber, KeptRequest, KeptSaving, close_json, entry_json, one_member};
 ghost use Rattle.cpm_journal.specs.Heads.{head_json};
 
 use crate::head::{JournalHead, VERSION};
@@ -102,6 +102,7 @@ pub fn append_restore(out: &mut Vec<u8>, alloc: Global, saving: &[u8]) -> Result
 
 /// Appends the entry of the number that the next slot has.
 pub fn append_number(out: &mut Vec<u8>, alloc: Global, next: u64) -> Result<(), AllocError>
+    ensures keepable { IsKeepable (KeptNumber next) }
     ensures added { OnOk result (IsLineAdded (entry_json (KeptNumber next)) out.old.items out.new.items) }
     ensures unchanged { OnErr result (out.new.items ≡ out.old.items) }
 {

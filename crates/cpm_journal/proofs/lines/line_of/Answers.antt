@@ -1,4 +1,5 @@
-use Rattle.std.proofs.Common.{◌∙◌, ◌+◌, ◌++◌, ◌∷◌, [], ℕ, arith, ap, sym}
+use Rattle.std.proofs.Common.{◌∙◌, ◌+◌, ◌++◌, ◌∷◌, [], ℕ, arith, ap, refl, sym}
+use Rattle.std.specs.Io.BufRead.{drop_through}
 use Rattle.cpm_journal.proofs.LineLaws.{read-none, read-torn, read-whole}
 use Rattle.cpm_journal.proofs.lines.line_of.Goals as goal
 
@@ -8,7 +9,8 @@ returns-in-None c text e = read-none text c.args.line.items (sym c.args.line.ok.
 pub returns-in-Some-eq10 : goal.returns-in-Some-eq10
 returns-in-Some-eq10 c text e =
     let left = c.pop.new.self.items in
-    read-whole text left (ap (λ (b : ℕ). left ++ b ∷ []) (sym c.in-Some-eq10.field-0-test) ∙ sym c.in-Some-eq10.ensures.items ∙ e)
+    let whole = read-whole text left (ap (λ (b : ℕ). left ++ b ∷ []) (sym c.in-Some-eq10.field-0-test) ∙ sym c.in-Some-eq10.ensures.items ∙ e) in
+    record { free = whole.0; behind = drop_through 0x0A text; left = refl; text_is = whole.1 }
 
 pub returns-in-Some : goal.returns-in-Some
 returns-in-Some c text e =
