@@ -4,6 +4,7 @@ What a session does is told by `prompt.Prompt`. Where that doesn't know it, a me
 """
 
 import json
+import re
 
 from .disk import LARGE, SMALL
 from .prompt import Beyond, Prompt
@@ -60,34 +61,32 @@ def constant(text):
     raise NoJson(text)
 
 
-def is_sound(value, depth=0):
-    """Whether a value nests at most so deep, and its texts can be written."""
-    if isinstance(value, str):
-        return not any(0xD800 <= ord(c) < 0xE000 for c in value)
-    if isinstance(value, dict):
-        return depth < MOST_DEPTH and all(is_sound(name) and is_sound(item, depth + 1) for name, item in value.items())
-    if isinstance(value, list):
-        return depth < MOST_DEPTH and all(is_sound(item, depth + 1) for item in value)
-    return True
+# what may be half of a pair in a text, and is no character by itself
+HALF = re.compile(rb"\\u[dD][89a-fA-F]")
+
+
+def nests(value):
+    """How deep a value nests, whose objects are lists of pairs."""
+    if isinstance(value, tuple):
+        return nests(value[1])
+    return 1 + max(map(nests, value), default=0) if isinstance(value, list) else 0
 
 
 def value_of(line):
     """The value of a line, which is bytes without its LF."""
     try:
-        value = json.loads(line.decode("utf-8"), parse_int=whole, parse_float=real, parse_constant=constant)
-        # (a name that stands twice hides the value before it, which is looked at all the same)
-        pairs = json.loads(line.decode("utf-8"), object_pairs_hook=lambda them: [list(it) for it in them], parse_int=str, parse_float=str)
+        text = line.decode("utf-8")
+        value = json.loads(text, parse_int=whole, parse_float=real, parse_constant=constant)
+        is_deep = line.count(b"[") + line.count(b"{") > MOST_DEPTH
+        if is_deep or HALF.search(line):
+            # (all of it, also what a name that stands twice hides)
+            pairs = json.loads(text, object_pairs_hook=list)
+            json.dumps(pairs, ensure_ascii=False).encode("utf-8")
+            if nests(pairs) > MOST_DEPTH:
+                raise NoJson
     except (ValueError, RecursionError) as fault:
         raise NoJson from fault
-    if not is_sound(value) or not are_texts_sound(pairs):
-        raise NoJson
     return value
-
-
-def are_texts_sound(pairs):
-    if isinstance(pairs, list):
-        return all(map(are_texts_sound, pairs))
-    return is_sound(pairs)
 
 
 # ---- fields
