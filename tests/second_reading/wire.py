@@ -189,6 +189,7 @@ def fields_of(value, needed, others):
 
 # ---- a host
 
+PLAIN = re.compile(r"[A-Za-z0-9]{1,8}(\.[A-Za-z0-9]{1,3})?")
 BLANK = {name: b"\xe5" * form.size for name, form in (("blank", SMALL), ("blank-large", LARGE))}
 
 
@@ -317,9 +318,12 @@ class Host:
         return self.known(slot_, ask, "accepted", "executed", "why", "text", "list", "waiting", "end")
 
     def do_put(self, drive_, name_, text_):
-        raise Refusal("AbsentFile")
+        return self.do_get(drive_, name_)
 
     def do_get(self, drive_, name_):
+        if not PLAIN.fullmatch(name_):
+            # (it may be no name on a disk, which is told first)
+            return {"refused": ANY, "why": ANY}
         raise Refusal("AbsentFile")
 
     def do_files(self, drive_):

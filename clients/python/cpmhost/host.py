@@ -82,7 +82,7 @@ class Drive(DriveState):
         return self._host.run(self._get(name))
 
     def put(self, name: str, data: Bytes) -> int:
-        """Writes a file that isn't there yet, and returns how many bytes it was given."""
+        """Writes a file, in the place of one of that name, and returns how many bytes it was given."""
         return self._host.run(self._put(name, data))
 
     def names(self) -> List[str]:
