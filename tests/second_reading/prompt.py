@@ -214,7 +214,7 @@ class Prompt:
         (rf" *SAVE +([0-9]{{1,3}}) +({NAME}) *", "save_file"),
         (rf" *TYPE +({NAME}) *", "type_file"),
         (r" *USER +([0-9]{1,3}) *", "user"),
-        (r" *(?!(?:DIR|ERA|REN|SAVE|TYPE|USER)\b)([A-Z0-9]{1,8}) *", "program"),
+        (r" *(?!(?:DIR|ERA|REN|SAVE|TYPE|USER)\b)([A-Z0-9]+) *", "program"),
     )
 
     def begin(self):
@@ -326,7 +326,7 @@ class Prompt:
         return self.ends() if end else self.goes_on(self.show_next)
 
     def program(self, name):
-        self.calls.fcb = block_of(f"{name}.COM")
+        self.calls.fcb = block_of(f"{name[:8]}.COM")
         if self.file_call(15) != 0xFF:
             raise Beyond("a program")
         self.ends(name.encode() + b"?")
