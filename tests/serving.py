@@ -1,5 +1,6 @@
 """What the tests of `cpmhost serve` share: whether the program has the command, and a host over its pipes that is asked line by line."""
 
+import contextlib
 import os
 import subprocess
 import sys
@@ -29,12 +30,19 @@ class Lines:
         self.process = subprocess.Popen([lib.CPMHOST, "serve", *words], stdin=subprocess.PIPE, stdout=subprocess.PIPE, stderr=subprocess.PIPE)
 
     def ask(self, line):
-        self.process.stdin.write(line + b"\n")
-        self.process.stdin.flush()
+        """The reply to a line, with its LF; nothing where the host has ended."""
+        try:
+            self.process.stdin.write(line + b"\n")
+            self.process.stdin.flush()
+        except BrokenPipeError:
+            return b""
         return self.process.stdout.readline()
 
     def end(self):
         """What it says on standard error, and its status, once the input has ended."""
+        with contextlib.suppress(BrokenPipeError):
+            self.process.stdin.close()
+        self.process.stdin = None
         out, error = self.process.communicate(timeout=lib.SECONDS)
         lib.check(out == b"", f"a reply to no line: {out[:80]!r}")
         return error, self.process.returncode

@@ -214,7 +214,7 @@ class Prompt:
         (rf" *SAVE +([0-9]{{1,3}}) +({NAME}) *", "save_file"),
         (rf" *TYPE +({NAME}) *", "type_file"),
         (r" *USER +([0-9]{1,3}) *", "user"),
-        (r" *(?!(?:DIR|ERA|REN|SAVE|TYPE|USER)\b)([A-Z0-9]+) *", "program"),
+        (r" *(?!(?:DIR|ERA|REN|SAVE|TYPE|USER)\b)([A-Z0-9]+)(?: [ -~]*)?", "program"),
     )
 
     def begin(self):
