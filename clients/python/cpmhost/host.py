@@ -2,7 +2,7 @@
 
 import subprocess
 from types import TracebackType
-from typing import BinaryIO, List, Optional, Sequence, Tuple, Type, TypeVar, Union
+from typing import BinaryIO, Iterator, List, Optional, Sequence, Tuple, Type, TypeVar, Union
 
 from .faults import HostGone, fault_of
 from .plans import DriveState, Outcome, Plan, SessionState, Wanted, many_plan
@@ -92,6 +92,9 @@ class Drive(DriveState):
         """Makes the image a blank one."""
         self._host.run(self._create(large))
         return self
+
+    def __iter__(self) -> Iterator[str]:
+        return iter(self.names())
 
     __getitem__ = get
 

@@ -129,7 +129,7 @@ class Examples(unittest.TestCase):
     def test_files(self):
         drive = self.host.files["work.img"]
         self.assertEqual(drive.put("HELLO.TXT", b"Hello\r\n"), 7)
-        self.assertEqual(drive.names(), ["HELLO.TXT"])
+        self.assertEqual((drive.names(), list(drive), "HELLO.TXT" in drive), (["HELLO.TXT"], ["HELLO.TXT"], True))
         with self.assertRaises(cpmhost.NoFile) as raised:
             drive["HELLO.TXT"]
         self.assertEqual((raised.exception.word, raised.exception.why), ("NoFile", "no such file"))
