@@ -1,0 +1,114 @@
+"""Lines, and what stands in them: what the plain and the asyncio client share with any other."""
+
+import json
+import os
+from dataclasses import dataclass
+from typing import Any, Dict, List, Optional, Sequence, Union
+
+Request = Dict[str, Any]
+Reply = Dict[str, Any]
+Bytes = Union[str, bytes]
+
+
+def text_of(data: Bytes) -> str:
+    """Bytes as the protocol has them: a text whose characters are U+0000 to U+00FF. A text stays what it is."""
+    return data if isinstance(data, str) else data.decode("latin-1")
+
+
+def bytes_of(text: str) -> bytes:
+    """The bytes of such a text."""
+    return text.encode("latin-1")
+
+
+def line_of(request: Request) -> bytes:
+    return json.dumps(request, ensure_ascii=False, separators=(",", ":")).encode() + b"\n"
+
+
+def reply_of(line: bytes) -> Reply:
+    reply = json.loads(line)
+    if not isinstance(reply, dict):
+        raise ValueError(f"no reply: {line[:80]!r}")
+    return reply
+
+
+def serve_words(
+    program: Optional[str] = None,
+    folder: Optional[str] = None,
+    system: Optional[str] = None,
+    frames: Optional[int] = None,
+    journal: Optional[str] = None,
+    resume: Optional[str] = None,
+    compact: bool = False,
+) -> List[str]:
+    """The command that serves. The program is the one that the variable CPMHOST names, or else `cpmhost`."""
+    words = [program or os.environ.get("CPMHOST", "cpmhost"), "serve"]
+    named = {"--folder": folder, "--system": system, "--frames": frames, "--journal": journal, "--resume": resume}
+    for option, value in named.items():
+        if value is not None:
+            words += [option, str(value)]
+    return words + ["--compact"] * compact
+
+
+def open_request(cpu: str, quota: int, drives: Sequence[str], from_file: Optional[str]) -> Request:
+    if from_file is not None:
+        return {"do": "open", "from": from_file}
+    return {"do": "open", "cpu": cpu, "quota": quota, "drives": list(drives)}
+
+
+@dataclass(frozen=True)
+class Look:
+    """What is seen of a session. The Z80's alternate registers are `other_af` to `other_hl`."""
+
+    af: int
+    bc: int
+    de: int
+    hl: int
+    ix: int
+    iy: int
+    sp: int
+    pc: int
+    i: int
+    r: int
+    iff1: bool
+    iff2: bool
+    other_af: int
+    other_bc: int
+    other_de: int
+    other_hl: int
+    count: int
+    end: str
+    pages: int
+    waiting: bool
+    keys: int
+    console: int
+    list: int
+
+    @classmethod
+    def of(cls, reply: Reply) -> "Look":
+        named = {f"other_{name[:-1]}" if name.endswith("'") else name: value for name, value in reply.items()}
+        return cls(**{name: named[name] for name in cls.__dataclass_fields__})
+
+
+@dataclass(frozen=True)
+class Granted:
+    """How many steps were executed, and why no more: All, Stopped, Break, Blocked or Waiting."""
+
+    executed: int
+    why: str
+
+
+@dataclass(frozen=True)
+class Turn:
+    """What a turn did."""
+
+    accepted: int
+    executed: int
+    why: str
+    text: str
+    list: str
+    waiting: bool
+    end: str
+
+    @classmethod
+    def of(cls, reply: Reply) -> "Turn":
+        return cls(**{name: reply[name] for name in cls.__dataclass_fields__})
