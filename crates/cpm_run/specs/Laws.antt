@@ -84,7 +84,8 @@ pub record GoesOnFrom (before : SessionOutput) (j : SettledSession) : Type 0 whe
   pub start : j.start ≡ Restores saving
 
 -- And so it is where it goes on from what was read of the file that the other session left for its saving.
--- (Of each run that succeeds the keys of each session are in order, and what is restored of its saving is that: `HasRun`, orders and savings.)
+-- (Of each run that succeeds the keys of each session are in order, and what is restored of its saving is that: `HasRun`, orders and savings. A run that went
+-- on from a checkpoint says this of the savings of its rest: they are these, and so are the files, if the checkpoint is true, by `RestIsWhole`.)
 abbrev pub SavedFileGoesOn : Type 0
 SavedFileGoesOn = (system : Disk) (first second : List SettledSession) (place other : ℕ) (i j : SettledSession) (before after : SessionOutput) →
     HasLeft system first place i before → HasLeft system second other j after → IsInOrder 0 i.keys → IsRestorable system first i →

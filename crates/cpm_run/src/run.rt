@@ -171,7 +171,8 @@ pub fn run_host<'a, S: Store, P: Typist, W: Write, R: Write, T: RunWatcher>(
     watcher: &mut T,
 ) -> Result<Report, RunError>
     // Each session stands in its files and its report as its machine alone by its keys, whatever the turns. So it is of each store, by the calls that were
-    // made, and by what its files hold, where it tells that.
+    // made, and by what its files hold, where it tells that. Where the run goes on from a checkpoint, the rest of each session is its machine alone, behind
+    // what the checkpoint says that it had shown: as the whole, if the checkpoint is true (`laws::rest_is_whole`).
     ensures run { IfOk result (λ report. HasRun (record { does = S.does; files = S.files }) config.entry.now options.entry report
         (streams (P.typing typist.old) (P.typing typist.new) (W.contents out.old) (W.contents out.new) (R.contents «record».old) (R.contents «record».new))
         store.old store.new) }
