@@ -1,4 +1,5 @@
 pub mod Ending
+pub mod Keeping
 pub mod Kept
 pub mod Laws
 pub mod Openings

@@ -11,7 +11,7 @@ ghost use Rattle.cpm_slots.specs.Host.{new_host};
 
 use crate::beginning::RunBeginning;
 use crate::error::RunError;
-use crate::keeper::{Keeper, parents_of};
+use crate::keeper::{Keeper, RunBefore};
 use crate::play::play_all;
 use crate::pressable::are_pressable;
 use crate::report::SessionReport;
@@ -175,8 +175,7 @@ fn play_rest<'a, T: RunWatcher>(
         alloc,
         watcher,
         beginning,
-        before: kept,
-        parents: parents_of(alloc, inputs)?,
+        before: Some(RunBefore { inputs, kept }),
     };
     let played = match play_all(alloc, config, system, rest, &mut keeper) {
         Ok(played) => played,
@@ -211,8 +210,7 @@ pub(crate) fn play_kept<'a, T: RunWatcher>(
         alloc,
         watcher,
         beginning,
-        before: &[],
-        parents: Vec::new(alloc),
+        before: None,
     };
     play_all(alloc, config, system, inputs, &mut keeper)
 }
