@@ -13,8 +13,9 @@ use Rattle.cpm_play.specs.Playing.{EndsAs, IsInOrder, alone_by, coming_keys, sta
 use Rattle.cpm_play.specs.Players.{HaveBecome}
 use Rattle.cpm_play.specs.declared.player.Player.{Player}
 use Rattle.cpm_run.specs.Ending.{ending_of}
-use Rattle.cpm_run.specs.Kept.{HaveFewKeys, standing_of}
-use Rattle.cpm_run.specs.Playing.{ArePressable, HavePlayers}
+use Rattle.cpm_run.specs.Kept.{standing_of}
+use Rattle.cpm_run.specs.Pressable.{ArePressable, HaveFewKeys}
+use Rattle.cpm_run.specs.Playing.{HavePlayers}
 use Rattle.cpm_run.specs.Run.{IsRestorable, files_left, left_of, reports_behind, reports_of, run_of, start_of}
 use Rattle.cpm_run.specs.Settled.{SettledSession}
 use Rattle.cpm_run.specs.Rest.{RunStanding, outputs_behind, rest_of, stands_all}
