@@ -235,7 +235,8 @@ abbrev pub kept_by_options : Disk → RunOptions → List SettledSession → Opt
 kept_by_options system options inputs = standing_given (run_beginning system inputs) (option_map (λ c. checkpoint_value c.now) options.kept)
 
 -- it was played so: from somewhere, or from its beginning, and this holds of what that leaves
-pub record HasPlayedFrom (system : Disk) (frames : ℕ) (inputs : List SettledSession) (kept : Option RunStanding) (Leaves : Option RunStanding → Type 0) : Type 0 where
+pub record HasPlayedFrom (system : Disk) (frames : ℕ) (inputs : List SettledSession) (kept : Option RunStanding) (Leaves : Option RunStanding → Type 0)
+    : Type 0 where
   pub from : Option RunStanding
   pub gone : GoesOnOrBegins system frames inputs kept from
   pub left : Leaves from

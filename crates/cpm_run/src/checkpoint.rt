@@ -72,7 +72,8 @@ pub(crate) fn kept_of(
     checkpoint: Option<&Checkpoint>,
     beginning: &RunBeginning,
 ) -> Result<Option<Vec<Option<KeptSession>>>, AllocError>
-    ensures { IfOk result (λ k. option_map (λ v. standing_view v.items) k ≡ standing_given beginning.now (option_map (λ c. checkpoint_value c.now) checkpoint.entry)) }
+    ensures { IfOk result (λ k. option_map (λ v. standing_view v.items) k
+        ≡ standing_given beginning.now (option_map (λ c. checkpoint_value c.now) checkpoint.entry)) }
 {
     match checkpoint {
         Some(checkpoint) if checkpoint.beginning == *beginning => kept_sessions(alloc, checkpoint),

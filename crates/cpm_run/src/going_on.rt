@@ -173,7 +173,8 @@ fn play_rest<'a, T: RunWatcher>(
         ≡ files_from system (map settled_view inputs.now) (Some (standing_view kept.now)))) }
     ensures savings { IfOk result (λ left. IfSome left (λ p. AreRestorable system (rest_of (map settled_view inputs.now) (standing_view kept.now)))) }
     ensures refused { IfOk result (λ left. left ≡ None
-        → AllAccepted (starts_of (map settled_view rest.entry.items)) (new_host system config.entry.now.frames) (starts_of (map settled_view rest.entry.items)) → ⊥) }
+        → AllAccepted (starts_of (map settled_view rest.entry.items)) (new_host system config.entry.now.frames)
+        (starts_of (map settled_view rest.entry.items)) → ⊥) }
 {
     let mut keeper = Keeper {
         alloc,

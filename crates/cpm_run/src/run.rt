@@ -8,7 +8,8 @@ ghost use Rattle.cpm_batch.specs.Outputs.{left_by};
 ghost use Rattle.cpm_run.specs.Playing.{IsSlotRefusal};
 ghost use Rattle.cpm_run.specs.Pressable.{ArePressable};
 ghost use Rattle.cpm_run.specs.Refusing.{IsDeviceFault, IsRunRefusal, IsWriteRefusal};
-ghost use Rattle.cpm_run.specs.Run.{HasPlayedFrom, HasRun, HasWrittenOutputs, LeavesFiles, LeavesOutputs, config_fault, kept_by_options, report_view, top_fault};
+ghost use Rattle.cpm_run.specs.Run.{HasPlayedFrom, HasRun, HasWrittenOutputs, LeavesFiles, LeavesOutputs, config_fault, kept_by_options};
+ghost use Rattle.cpm_run.specs.Run.{report_view, top_fault};
 ghost use Rattle.cpm_run.specs.Settled.{settled_view, starts_of, streams};
 ghost use Rattle.cpm_run.specs.Settling.{AreSound};
 
