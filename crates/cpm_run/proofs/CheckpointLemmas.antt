@@ -1,5 +1,5 @@
 -- What a checkpoint says of one session more.
-use Rattle.std.proofs.Common.{◌≡◌, ◌∙◌, ◌<◌, ◌+◌, ℕ, List, [], ◌∷◌, ◌++◌, Option, None, Some, ap, drop, get_or, length, map, refl, subst, sym, take}
+use Rattle.std.proofs.Common.{◌≡◌, ◌∙◌, ◌<◌, ◌+◌, ℕ, zero, suc, List, [], ◌∷◌, ◌++◌, Option, None, Some, ap, arith, drop, get_or, length, map, refl, subst, sym, take}
 use Rattle.std.specs.Prelude.{option_and_then, option_map}
 use Rattle.std.proofs.lemmas.List.{map-append, map_more}
 use Rattle.std.proofs.lemmas.Option.{none-some, same_Some}
@@ -26,6 +26,20 @@ read-one-more [] v ss s is one =
     ap (λ (m : Option (Option SessionStanding)). read-both m (Some [])) one ∙ ap (λ (xs : RunStanding). Some (xs ++ s ∷ [])) (same_Some [] ss is)
 read-one-more (w ∷ vs) v ss s is one =
     read-behind (standing_if_begun w) (standing_read vs) (standing_read (vs ++ v ∷ [])) ss s is (λ rs are. read-one-more vs v rs s are one)
+
+both-none : (m : Option (Option SessionStanding)) → read-both m None ≡ None
+both-none None = refl
+both-none (Some a) = refl
+
+-- one of the sessions of a checkpoint can't be read
+pub read-none : (cs : List (Option CheckpointSession)) (i : ℕ) (c : Option CheckpointSession) → i < length cs → c ≡ get_or cs i c → standing_if_begun (option_map session_value c) ≡ None
+    → standing_read (session_values cs) ≡ None
+read-none [] i c within is none = absurd (omega (arith, within))
+read-none (x ∷ cs) zero c within is none =
+    ap (λ (m : Option (Option SessionStanding)). read-both m (standing_read (session_values cs))) (ap (λ (y : Option CheckpointSession). standing_if_begun (option_map session_value y)) (sym is) ∙ none)
+read-none (x ∷ cs) (suc i) c within is none =
+    ap (λ (r : Option RunStanding). read-both (standing_if_begun (option_map session_value x)) r) (read-none cs i c (omega (arith, within)) is none)
+    ∙ both-none (standing_if_begun (option_map session_value x))
 
 -- of the sessions of a checkpoint one more was read
 pub read-more : (cs : List (Option CheckpointSession)) (i : ℕ) (c : Option CheckpointSession) (ss more : RunStanding) (s : Option SessionStanding) → i < length cs → c ≡ get_or cs i c
