@@ -1,5 +1,5 @@
 -- Savings that sessions go on from. All of it is own.
-use Rattle.std.specs.Prelude.{⊤, ◌≡◌, ◌≢◌, ℕ, List, length, count_by, is_some, chars, Option, Some, Err, IfSome, option_map, string_bytes}
+use Rattle.std.specs.Prelude.{⊤, ◌≡◌, ◌≢◌, ℕ, List, length, count_by, is_some, chars, Option, Some, Err, IfSome, option_map, slice_index_or, string_bytes}
 use Rattle.cpm_command_line.specs.Shown.{shown_of}
 use Rattle.cpm_config.specs.declared.config.SessionConfig.{SessionConfig}
 use Rattle.cpm_drives.specs.Disks.{images_of}
@@ -39,8 +39,14 @@ IsMisnamedTold session s (error.SavedDrives shown drives count) =
 IsMisnamedTold session s error.OutOfMemory = ⊤
 IsMisnamedTold session s _ = ⊥
 
--- how the bytes of a file are refused: they are no saving, for their first part that can't be read, with the name of the file as it is shown
+-- the number of the format that stands in the bytes of a saving, as their byte 8; 0 where there is none
+abbrev pub version_in : (bytes : List ℕ) → ℕ
+version_in bytes = slice_index_or bytes 8 0
+
+-- how the bytes of a file are refused: they are no saving, for their first part that can't be read; with the name of the file as it is shown, and the number
+-- of the format that stands there
 abbrev pub IsUnreadSaving : StoreName → (bytes : List ℕ) → ReadError → Type 0
-IsUnreadSaving name bytes (error.Saving refusal) = (refusal.name.bytes ≡ shown_of (chars name)) × (restored bytes ≡ Err refusal.damage)
+IsUnreadSaving name bytes (error.Saving refusal) =
+    (refusal.name.bytes ≡ shown_of (chars name)) × (restored bytes ≡ Err refusal.damage) × (refusal.version ≡ version_in bytes)
 IsUnreadSaving name bytes error.OutOfMemory = ⊤
 IsUnreadSaving name bytes _ = ⊥

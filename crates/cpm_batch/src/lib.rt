@@ -13,5 +13,5 @@ mod source;
 pub use error::ReadError;
 pub use input::{Input, Start, read_inputs};
 pub use output::{SessionFiles, outputs_of};
-pub use saved::{SavedMachine, SavingRefusal};
+pub use saved::{SavedMachine, SavingRefusal, version_in};
 pub use source::{Replay, key_file};

@@ -1,11 +1,12 @@
 //! Machines that were saved in files.
-ghost use Rattle.std.specs.Prelude.{◌≡◌, IfErr, IfOk, List, Ok, count_by, is_some, ℕ};
+ghost use Rattle.std.specs.Prelude.{◌≡◌, IfErr, IfOk, Ok, count_by, is_some};
 ghost use Rattle.cpm_machine.specs.Saving.{IsUnrestored, bytes_of_saving, restored};
-ghost use Rattle.cpm_batch.specs.Savings.{IsUnreadSaving, drive_count, saving_view};
+ghost use Rattle.cpm_batch.specs.Savings.{IsUnreadSaving, drive_count, saving_view, version_in};
 
 use crate::error::ReadError;
 use cpm_command_line::{ShownWord, shown};
 use cpm_geom::Image;
+use cpm_machine::saving::VERSION;
 use cpm_machine::{Machine, RestoreError, SavingDamage, SavingPart, SystemDigest};
 use std::alloc::{AllocError, Global};
 use std::fmt;
@@ -73,17 +74,36 @@ pub struct SavingRefusal {
     /// The name of the file.
     pub name: ShownWord,
     pub damage: SavingDamage,
+    /// The number of the format that stands in the file.
+    pub version: u8,
+}
+
+/// The place of the number of the format.
+const VERSION_PLACE: usize = 8;
+
+/// The number of the format that stands in the bytes of a saving; 0 where none does.
+pub fn version_in(bytes: &[u8]) -> u8
+    ensures { result ≡ version_in bytes.now }
+{
+    match bytes.get(VERSION_PLACE) {
+        Some(version) => *version,
+        None => 0,
+    }
 }
 
 impl fmt::Display for SavingRefusal {
     fn fmt<W: fmt::Write>(&self, f: &mut fmt::Formatter<W>) -> fmt::Result {
-        let SavingRefusal { name, damage } = *self;
+        let SavingRefusal {
+            name,
+            damage,
+            version,
+        } = *self;
         let at = damage.at;
         match damage.field {
             SavingPart::Magic => write!(f, "'{name}' is no saved machine"),
             SavingPart::Version => write!(
                 f,
-                "'{name}' was saved in another version of the format than 1"
+                "'{name}' is of version {version} of the format, and this program knows version {VERSION}"
             ),
             SavingPart::Rest => write!(
                 f,
@@ -131,13 +151,14 @@ fn part_name(part: SavingPart) -> &'static str {
 }
 
 /// The refusal of the saving in a file of this name.
-fn unread(name: &str, error: RestoreError) -> ReadError
-    ensures { (bytes : List ℕ) → IsUnrestored (restored bytes) error → IsUnreadSaving name.now bytes result }
+fn unread(name: &str, error: RestoreError, bytes: &[u8]) -> ReadError
+    ensures { IsUnrestored (restored bytes.now) error → IsUnreadSaving name.now bytes.now result }
 {
     match error {
         RestoreError::Damaged(damage) => ReadError::Saving(SavingRefusal {
             name: shown(name),
             damage,
+            version: version_in(bytes),
         }),
         RestoreError::OutOfMemory => ReadError::OutOfMemory,
     }
@@ -154,7 +175,7 @@ pub(crate) fn restored_machine(
 {
     let (digest, machine) = match Machine::restored(alloc, bytes) {
         Ok(restored) => restored,
-        Err(error) => return Err(unread(name, error)),
+        Err(error) => return Err(unread(name, error, bytes)),
     };
     Ok(SavedMachine { digest, machine })
 }

@@ -25,7 +25,7 @@ use Rattle.cpm_memory.specs.Contents.{touched_of}
 use Rattle.cpm_run.specs.Ending.{end_word}
 use Rattle.hex.specs.Hex.{encode_lower}
 use Rattle.cpm_host.specs.declared.error.HostError.{HostError}
-use Rattle.cpm_host.specs.SavedText.{AreDrivesTold, HasAppended, IsDriveTold, IsDriveToldIfAny, IsSavedTold, drive_line, machine_text, processor_word, program_words, waiting_words}
+use Rattle.cpm_host.specs.SavedText.{AreDrivesTold, HasAppended, IsDriveTold, IsDriveToldIfAny, IsSavedTold, drive_line, head_text, machine_text, processor_word, program_words, waiting_words}
 use Rattle.cpm_host.specs.SavedText.IsDriveTold.{Listed, Unlisted}
 
 -- the parts of the text, joined as they are written
@@ -48,7 +48,7 @@ regroup cpu program ended waits registers pages quota digest = simp append_assoc
 
 pub text_joined : (x : Saving) (look : Look) (cpu program ended waits registers : List ℕ) (pages quota : ℕ) (digest : List ℕ) → look ≡ look_of x.state → cpu ≡ processor_word x.state.cpu →
     program ≡ program_words x.state.with_program → ended ≡ end_word look.ended → waits ≡ waiting_words look.waiting → registers ≡ regs_line x.state.cpu look.regs look.count →
-    pages ≡ look.pages → quota ≡ x.state.quota → digest ≡ encode_lower x.system_digest → joined cpu program ended waits registers pages quota digest ≡ machine_text x
+    pages ≡ look.pages → quota ≡ x.state.quota → digest ≡ encode_lower x.system_digest → joined cpu program ended waits registers pages quota digest ≡ head_text x
 unfolding look_of touched_of
 text_joined x look cpu program ended waits registers pages quota digest is_look is_cpu is_program is_ended is_waits is_registers is_pages is_quota is_digest =
     let e = is_ended ∙ ap (λ (l : Look). end_word l.ended) is_look in

@@ -1,6 +1,7 @@
 -- Machines that were saved in files, and machines that are saved. All of it is own.
 use Rattle.std.specs.Prelude.{⊤, ◌≡◌, ℕ, Bool, true, false, List, Option, Some, None, Err, nat_eq, chars}
 use Rattle.std.specs.Cmp.Lexicographic.{pointwise}
+use Rattle.cpm_batch.specs.Savings.{version_in}
 use Rattle.cpm_command_line.specs.Shown.{shown_of}
 use Rattle.cpm_geom.specs.Disk.{Disk}
 use Rattle.cpm_machine.specs.MachineState.{MachineState}
@@ -22,14 +23,17 @@ abbrev pub saved_if : Bool → Disk → MachineState → Option (List ℕ)
 saved_if true system s = Some (bytes_of_saving (saving_with (system_digest system) s))
 saved_if false system s = None
 
--- what is told of a saving that is refused, in the file of this name
-abbrev pub IsSavingTold : StoreName → RestoreError → HostError → Type 0
-IsSavingTold name (Damaged damage) (SavingRefused refusal) = (refusal.name.bytes ≡ shown_of (chars name)) × (refusal.damage ≡ damage)
-IsSavingTold name (Damaged damage) _ = ⊥
-IsSavingTold name read.OutOfMemory e = e ≡ OutOfMemory
+-- what is told of a saving that is refused, in the file of this name, which has these bytes
+abbrev pub IsSavingTold : StoreName → (bytes : List ℕ) → RestoreError → HostError → Type 0
+IsSavingTold name bytes (Damaged damage) (SavingRefused refusal) =
+    (refusal.name.bytes ≡ shown_of (chars name)) × (refusal.damage ≡ damage) × (refusal.version ≡ version_in bytes)
+IsSavingTold name bytes (Damaged damage) _ = ⊥
+IsSavingTold name bytes read.OutOfMemory e = e ≡ OutOfMemory
 
--- how the bytes of a file are refused: they are no saving, for its first part that can't be read, with the name of the file as it is shown
+-- how the bytes of a file are refused: they are no saving, for its first part that can't be read; with the name of the file as it is shown, and the number of
+-- the format that stands there
 abbrev pub IsSavingRefusal : StoreName → (bytes : List ℕ) → HostError → Type 0
-IsSavingRefusal name bytes (SavingRefused refusal) = (refusal.name.bytes ≡ shown_of (chars name)) × (restored bytes ≡ Err refusal.damage)
+IsSavingRefusal name bytes (SavingRefused refusal) =
+    (refusal.name.bytes ≡ shown_of (chars name)) × (restored bytes ≡ Err refusal.damage) × (refusal.version ≡ version_in bytes)
 IsSavingRefusal name bytes OutOfMemory = ⊤
 IsSavingRefusal name bytes _ = ⊥

@@ -11,6 +11,7 @@ pub mod laws;
 mod list;
 mod program;
 mod saved;
+mod saved_step;
 mod saved_text;
 mod start;
 mod tail;

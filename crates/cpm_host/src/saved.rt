@@ -7,7 +7,7 @@ ghost use Rattle.cpm_batch.specs.Savings.{saving_view};
 ghost use Rattle.cpm_host.specs.Saved.{IsSavingRefusal, IsSavingTold, is_of_system, saved_if};
 
 use crate::error::HostError;
-use cpm_batch::{SavedMachine, SavingRefusal};
+use cpm_batch::{SavedMachine, SavingRefusal, version_in};
 use cpm_command_line::shown;
 use cpm_geom::Image;
 use cpm_machine::{Machine, RestoreError, digest_of};
@@ -26,13 +26,14 @@ pub(crate) fn machine_over(saved: SavedMachine, system: &Image) -> Result<Machin
 }
 
 /// The refusal of the saving in a file of this name.
-fn saving_refused(name: &str, error: RestoreError) -> HostError
-    ensures { IsSavingTold name.now error result }
+fn saving_refused(name: &str, error: RestoreError, bytes: &[u8]) -> HostError
+    ensures { IsSavingTold name.now bytes.now error result }
 {
     match error {
         RestoreError::Damaged(damage) => HostError::SavingRefused(SavingRefusal {
             name: shown(name),
             damage,
+            version: version_in(bytes),
         }),
         RestoreError::OutOfMemory => HostError::OutOfMemory,
     }
@@ -56,7 +57,7 @@ pub fn saved_machine_of(
 {
     let (digest, machine) = match Machine::restored(alloc, bytes) {
         Ok(restored) => restored,
-        Err(error) => return Err(saving_refused(name, error)),
+        Err(error) => return Err(saving_refused(name, error, bytes)),
     };
     Ok(boxed(alloc, SavedMachine { digest, machine })?)
 }

@@ -2,10 +2,11 @@
 ghost use Rattle.std.specs.Prelude.{◌≡◌, IfErr, IfOk, OnOk, string_bytes};
 ghost use Rattle.std.specs.Io.KnownBytes.{Appends};
 ghost use Rattle.cpm_batch.specs.Savings.{saving_view};
-ghost use Rattle.cpm_host.specs.SavedText.{AreDrivesTold, HasAppended, IsDriveToldIfAny, IsSavedTold, IsUntold, IsOutputRefused, machine_text};
+ghost use Rattle.cpm_host.specs.SavedText.{AreDrivesTold, HasAppended, IsDriveToldIfAny, IsSavedTold, IsUntold, IsOutputRefused, head_text, machine_text};
 ghost use Rattle.cpm_host.specs.SavedText.{processor_word, program_words, waiting_words};
 
 use crate::error::HostError;
+use crate::saved_step::{pending_text, step_text};
 use cpm_batch::SavedMachine;
 use cpm_disk_commands::{DiskCommandError, list_files, write_list};
 use cpm_flags::Cpu;
@@ -40,10 +41,10 @@ fn waiting_words(waits: bool) -> &'static str
     if waits { ", waits for a key" } else { "" }
 }
 
-/// What a saved machine is but for its drives.
+/// The first lines of what a saved machine is.
 #[tactic(auto, unfolding(cpm_machine::specs::Serve::look_of))]
-fn machine_text(alloc: Global, saved: &SavedMachine) -> Result<String, AllocError>
-    ensures { IfOk result (λ text. string_bytes text ≡ machine_text (saving_view saved.now)) }
+fn head_text(alloc: Global, saved: &SavedMachine) -> Result<String, AllocError>
+    ensures { IfOk result (λ text. string_bytes text ≡ head_text (saving_view saved.now)) }
 {
     let machine = &saved.machine;
     let look = machine.look();
@@ -59,6 +60,16 @@ fn machine_text(alloc: Global, saved: &SavedMachine) -> Result<String, AllocErro
     format!(in alloc;
         "format 1\n{cpu}{program}, {end}{waits}\n{registers}\n{pages} of {quota} pages are written\nsystem drive {digest}\n"
     )
+}
+
+/// What a saved machine is but for its drives.
+fn machine_text(alloc: Global, saved: &SavedMachine) -> Result<String, AllocError>
+    ensures { IfOk result (λ text. string_bytes text ≡ machine_text (saving_view saved.now)) }
+{
+    let mut text = head_text(alloc, saved)?;
+    text.push_str(step_text(alloc, saved)?.as_str())?;
+    text.push_str(pending_text(alloc, &saved.machine)?.as_str())?;
+    Ok(text)
 }
 
 /// Writes a text.

@@ -19,7 +19,7 @@ use Rattle.cpm_run.proofs.StandingLemmas.{begins_with, begun, keys_back, next-st
 use Rattle.cpm_run.proofs.RestLemmas.{first-left, one-more-left}
 use Rattle.cpm_run.specs.Kept.{FitIfAny, FitTogether, kept_view, standing_view}
 use Rattle.cpm_run.specs.Laws.{StandingsJoin, later_keys}
-use Rattle.cpm_run.specs.Playing.{ArePressable, IsForkPressable, IsPressableBy}
+use Rattle.cpm_run.specs.Pressable.{ArePressable, IsForkPressable, IsPressableBy}
 use Rattle.cpm_run.specs.Run.{start_of}
 use Rattle.cpm_run.specs.Settled.{SettledSession, settled_view}
 use Rattle.cpm_run.specs.declared.settled.SettledInput.{SettledInput}

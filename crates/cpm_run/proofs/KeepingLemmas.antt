@@ -26,8 +26,9 @@ use Rattle.cpm_play.proofs.PlayerLemmas.{parent-of, waiting-given}
 use Rattle.cpm_play.proofs.RunLemmas.{bare, quiet-bare}
 use Rattle.cpm_run.proofs.PlayLemmas.{all_ready, keys_are, start_is, steps_are}
 use Rattle.cpm_run.specs.Kept.{standing_of, standing_of_player, standing_of_slot}
+use Rattle.cpm_run.specs.Pressable.{ArePressable}
 use Rattle.cpm_run.specs.Laws.{KeptIsTrue}
-use Rattle.cpm_run.specs.Playing.{ArePressable, HasPlayer, HasPlayerBy, HavePlayers}
+use Rattle.cpm_run.specs.Playing.{HasPlayer, HasPlayerBy, HavePlayers}
 use Rattle.cpm_run.specs.Run.{start_of}
 use Rattle.cpm_run.specs.Settled.{SettledSession}
 use Rattle.cpm_run.specs.Rest.{RunStanding, SessionStanding, standing_at, stands_by}

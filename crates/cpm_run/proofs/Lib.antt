@@ -1,3 +1,4 @@
+pub mod BeginningLemmas
 pub mod CheckpointLemmas
 pub mod ComingLemmas
 pub mod EndingLemmas

@@ -22,7 +22,8 @@ use Rattle.cpm_config.specs.declared.config.SessionConfig.{SessionConfig}
 use Rattle.cpm_play.specs.declared.error.PlayError.TheVariants.{ForkRefused}
 use Rattle.cpm_slots.specs.declared.event.ForkError.{ForkError}
 use Rattle.cpm_slots.specs.declared.event.ForkError.TheVariants as fork
-use Rattle.cpm_run.specs.Playing.{AllEnded, ArePressable, HasEnded, HasPlayer, HasPlayerBy, HasSlot, HavePlayers, IsForkFor, IsForkPressable, IsForkRefused, IsForksRefusal, IsPressableBy, IsRefusedAmong, IsRefusedByName, IsSlotRefusal}
+use Rattle.cpm_run.specs.Playing.{AllEnded, HasEnded, HasPlayer, HasPlayerBy, HasSlot, HavePlayers, IsForkFor, IsForkRefused, IsForksRefusal, IsRefusedAmong, IsRefusedByName, IsSlotRefusal}
+use Rattle.cpm_run.specs.Pressable.{ArePressable, IsForkPressable, IsPressableBy}
 use Rattle.cpm_run.specs.Run.{HasForkRoom, IsForkAt, IsShortFor, IsShownAs, fork_of, fork_pages_in, forks_in, name_at, pages_by}
 use Rattle.cpm_run.specs.declared.error.RunError.{RunError}
 use Rattle.cpm_run.specs.declared.error.RunError.TheVariants as refusal

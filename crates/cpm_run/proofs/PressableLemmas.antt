@@ -12,7 +12,7 @@ use Rattle.cpm_geom.specs.Disk.{Disk}
 use Rattle.cpm_machine.specs.MachineState.{MachineState}
 use Rattle.cpm_play.specs.Playing.{HaveRoom, IsInOrder}
 use Rattle.cpm_play.proofs.RoomLemmas.{few-room}
-use Rattle.cpm_run.specs.Playing.{ArePressable, IsForkPressable, IsPressableBy}
+use Rattle.cpm_run.specs.Pressable.{ArePressable, IsForkPressable, IsPressableBy}
 use Rattle.cpm_run.specs.Settled.{SettledSession, opening_of, settled_view}
 use Rattle.cpm_run.specs.declared.settled.SettledInput.{SettledInput}
 use Rattle.cpm_script.specs.Fork.{keys_before}

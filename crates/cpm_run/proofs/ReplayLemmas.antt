@@ -15,7 +15,7 @@ use Rattle.cpm_script.specs.Recording.{AreTyped, recorded, recording}
 use Rattle.cpm_script.specs.Script.{most_keys, script}
 use Rattle.cpm_script.specs.declared.script.Key.{Key}
 use Rattle.cpm_run.proofs.OrderLemmas.{order_from}
-use Rattle.cpm_run.specs.Playing.{IsPressableBy}
+use Rattle.cpm_run.specs.Pressable.{IsPressableBy}
 use Rattle.cpm_run.specs.Run.{GivesItsKeysAgain, own_keys}
 use Rattle.cpm_run.specs.Settled.{SessionPart, SettledSession}
 use Rattle.cpm_run.specs.Settling.{AreBelow80h, AreCounts, AreSound, AreSoundKeys}

@@ -8,13 +8,16 @@ use Rattle.cpm_batch.specs.Outputs.{SessionOutput, left_by}
 use Rattle.cpm_batch.specs.declared.output.SessionFiles.{SessionFiles}
 use Rattle.cpm_config.specs.declared.config.SessionConfig.{SessionConfig}
 use Rattle.cpm_geom.specs.Disk.{Disk}
+use Rattle.cpm_machine.specs.SystemDigest.{system_digest}
 use Rattle.cpm_run.specs.Kept.{standing_view}
-use Rattle.cpm_run.specs.Run.{AreRestorable, IsLeftFrom, ReportEntry, files_from, files_left, left_of, report_behind, report_view, reported_of, reports_behind, reports_from, reports_of, run_of, session_output}
-use Rattle.cpm_run.specs.Settled.{SettledSession, settled_view}
+use Rattle.cpm_run.specs.Pressable.{ArePressable, HaveFewKeys}
+use Rattle.cpm_run.specs.Run.{AllAccepted, AreRestorable, CanGoOn, HasPlayedFrom, LeavesFiles, ReportEntry, files_from, files_left, left_of, report_behind, report_view, reported_of, reports_behind, reports_from, reports_of, run_of, session_output}
+use Rattle.cpm_run.specs.Settled.{SettledSession, settled_view, starts_of}
 use Rattle.cpm_run.specs.Rest.{RunStanding, SessionStanding, output_behind, outputs_behind, rest_from, rest_of, rest_of_session, rest_start, rests, standing_at, stands_all, stands_by}
 use Rattle.cpm_run.specs.declared.report.SessionReport.{SessionReport}
 use Rattle.cpm_run.specs.declared.settled.SettledInput.{SettledInput}
 use Rattle.cpm_run.specs.declared.standing.KeptSession.{KeptSession}
+use Rattle.cpm_slots.specs.Host.{new_host}
 
 -- ---- standings at places
 
@@ -160,6 +163,9 @@ files-none rs (f ∷ fs) none same = absurd (bad (ap (map (λ (x : SessionReport
 
 -- ---- the system drive
 
+abbrev pub AreOver : Disk → RunStanding → Type 0
+AreOver system ss = (place : ℕ) → IfSome (standing_at ss place) (λ s. s.saving.system_digest ≡ system_digest system)
+
 abbrev pub IsOver : List ℕ → RunStanding → ℕ → Type 0
 IsOver digest ss place = IfSome (standing_at ss place) (λ s. s.saving.system_digest ≡ digest)
 
@@ -188,14 +194,40 @@ over-all digest system kept n is past before place = by_place (cases_lt place n)
     by_place (inr most) =
         subst (λ (o : Option SessionStanding). IfSome o (λ s. s.saving.system_digest ≡ system)) (sym (none-past kept place (let low : n ≤ place = most in let end : length kept ≤ n = past in omega arith))) tt
 
+-- ---- a run that goes on, or begins
+
 -- what the rest of a run leaves that was played over a copy of the system drive
-pub left_by_rest : (system drive : Disk) (inputs sessions : List SettledSession) (s : RunStanding) (reports : List ReportEntry) (files : List SessionOutput) → drive ≡ system → sessions ≡ inputs
-    → reports ≡ reports_from drive sessions (Some s) → files ≡ files_from drive sessions (Some s) → AreRestorable drive (rest_of sessions s)
-    → IsLeftFrom system inputs s reports files
-left_by_rest system drive inputs sessions s reports files same are reported left savings = record {
+pub left_by_rest : (system drive : Disk) (frames : ℕ) (inputs sessions rest : List SettledSession) (s : RunStanding) (reports : List ReportEntry) (files : List SessionOutput) → drive ≡ system → sessions ≡ inputs
+    → rest ≡ rest_of sessions s → AreOver system s × ArePressable system rest → reports ≡ reports_from drive sessions (Some s) → files ≡ files_from drive sessions (Some s) → AreRestorable drive (rest_of sessions s)
+    → HasPlayedFrom system frames inputs (Some s) (LeavesFiles system inputs reports files)
+left_by_rest system drive frames inputs sessions rest s reports files same are is can reported left savings = record {
   from = Some s;
-  either = refl;
-  reported = reported ∙ (λ i. reports_from (same i) (are i) (Some s));
-  files = left ∙ (λ i. files_from (same i) (are i) (Some s));
+  gone = (refl, can.0, subst (λ (is : List SettledSession). ArePressable system (rest_of is s)) are (subst (ArePressable system) is can.1));
+  left = (reported ∙ (λ i. reports_from (same i) (are i) (Some s)), left ∙ (λ i. files_from (same i) (are i) (Some s)));
   savings = subst (λ (d : Disk). AreRestorable d (rest_of inputs s)) same (subst (λ (is : List SettledSession). AreRestorable drive (rest_of is s)) are savings);
 }
+
+-- what a run leaves that begins, since it can't go on
+pub left_anew : (system : Disk) (frames : ℕ) (inputs : List SettledSession) (s : RunStanding) (reports : List ReportEntry) (files : List SessionOutput) → (CanGoOn system frames inputs s → ⊥)
+    → reports ≡ reports_of system inputs → files ≡ files_left system inputs → AreRestorable system inputs → HasPlayedFrom system frames inputs (Some s) (LeavesFiles system inputs reports files)
+left_anew system frames inputs s reports files cannot reported left savings = record {
+  from = None;
+  gone = cannot;
+  left = (reported, left);
+  savings = savings;
+}
+
+-- it can't, by what was looked at before
+pub no_keys : (system : Disk) (frames : ℕ) (inputs sessions rest : List SettledSession) (s : RunStanding) → sessions ≡ inputs → rest ≡ rest_of sessions s
+    → (AreOver system s → ArePressable system rest → HaveFewKeys rest → ⊥) → CanGoOn system frames inputs s → ⊥
+no_keys system frames inputs sessions rest s are is no can =
+    let same : rest_of inputs s ≡ rest = ap (λ (xs : List SettledSession). rest_of xs s) (sym are) ∙ sym is in
+    no can.over (subst (ArePressable system) same can.keys) (subst HaveFewKeys same can.few)
+
+-- it can't, since a host refuses what is left
+pub no_room : (system drive : Disk) (frames : ℕ) (inputs sessions rest : List SettledSession) (s : RunStanding) → drive ≡ system → sessions ≡ inputs → rest ≡ rest_of sessions s
+    → (AllAccepted (starts_of rest) (new_host drive frames) (starts_of rest) → ⊥) → CanGoOn system frames inputs s → ⊥
+no_room system drive frames inputs sessions rest s over are is no can =
+    let same : rest_of inputs s ≡ rest = ap (λ (xs : List SettledSession). rest_of xs s) (sym are) ∙ sym is in
+    no (subst (λ (d : Disk). AllAccepted (starts_of rest) (new_host d frames) (starts_of rest)) (sym over)
+    (subst (λ (xs : List SettledSession). AllAccepted (starts_of xs) (new_host system frames) (starts_of xs)) same can.accepted))

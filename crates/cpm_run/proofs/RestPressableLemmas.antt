@@ -11,9 +11,8 @@ use Rattle.cpm_play.specs.Players.{AllBefore}
 use Rattle.cpm_play.specs.Playing.{HaveRoom, IsInOrder}
 use Rattle.cpm_play.proofs.RoomLemmas.{few-room}
 use Rattle.cpm_run.proofs.StandingLemmas.{begins_with, rest-at, starts-there}
-use Rattle.cpm_run.specs.Kept.{HasFewKeys, HaveFewKeys}
+use Rattle.cpm_run.specs.Pressable.{ArePressable, HasFewKeys, HaveFewKeys, IsForkPressable, IsPressableBy}
 use Rattle.cpm_run.specs.Laws.{RestCanBePlayed}
-use Rattle.cpm_run.specs.Playing.{ArePressable, IsForkPressable, IsPressableBy}
 use Rattle.cpm_run.specs.Run.{start_of}
 use Rattle.cpm_run.specs.Settled.{SettledSession, opening_at, opening_of, start_by, starts_of}
 use Rattle.cpm_run.specs.Rest.{RunStanding, SessionStanding, keys_left, rest_from, rest_of, rest_of_session, rest_start, rests, standing_at, stands_by}

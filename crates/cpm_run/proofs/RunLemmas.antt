@@ -24,11 +24,12 @@ use Rattle.cpm_store.specs.Files.{WhereTold}
 use Rattle.cpm_store.specs.Log.{AreNoWrites, LogLeadsBy, StopsAfter}
 use Rattle.cpm_store.specs.Writes.{NamedBytes, StopsAt, named_output}
 use Rattle.cpm_store.specs.declared.writes.Output.{Output}
-use Rattle.cpm_run.specs.Playing.{ArePressable, AreUnforked, IsPressableBy, IsRefusedAmong, IsRefusedByName, IsSlotRefusal}
+use Rattle.cpm_run.specs.Playing.{AreUnforked, IsRefusedAmong, IsRefusedByName, IsSlotRefusal}
+use Rattle.cpm_run.specs.Pressable.{ArePressable, IsPressableBy}
 use Rattle.cpm_run.specs.Refusals.{run_error_of_reading}
 use Rattle.cpm_run.specs.Refusing.{FailsAtInput, IsOutputAt, IsPlaceRefusal, IsRunRefusal, IsRunnable, IsSettleRefusal, IsWriteRefusal, StopsAfterReading, StopsWriting}
-use Rattle.cpm_run.specs.Rest.{IsKeptBy, RunStanding}
-use Rattle.cpm_run.specs.Run.{AllAccepted, AreParts, GivesItsKeysAgain, HasForkRoom, HasReadInputs, HasWrittenOutputs, IsOpening, RunParts, StoreActs, config_fault, outputs_by, restoring_fault, starts_read}
+use Rattle.cpm_run.specs.Rest.{RunStanding}
+use Rattle.cpm_run.specs.Run.{AllAccepted, AreParts, GivesItsKeysAgain, GoesOnOrBegins, HasForkRoom, HasReadInputs, HasWrittenOutputs, IsOpening, RunParts, StoreActs, config_fault, kept_by_options, outputs_by, restoring_fault, starts_read}
 use Rattle.cpm_run.specs.Settled.{AreSettled, AreUntouched, SettledSession, Streams, TypedSession, starts_of}
 use Rattle.cpm_run.specs.Settling.{AreBelow80h, AreSettledBy, AreSound}
 use Rattle.cpm_run.specs.declared.error.RunError.{RunError}
@@ -195,6 +196,20 @@ play_settled config options io system inputs settled e h r =
     by_error refusal.OutOfMemory r = inr (inr (record { accepted = h.accepted; typed = h.typed; heard = h.heard }))
     by_error _ r = absurd r
 
+-- what a host refuses for a session it doesn't accept
+pub slot_unaccepted : (sessions : List SessionConfig) (system : Disk) (frames : ℕ) (starts : List StartInput) (e : RunError) → IsSlotRefusal sessions (new_host system frames) starts e → (e ≡ refusal.OutOfMemory → ⊥)
+    → AllAccepted starts (new_host system frames) starts → ⊥
+slot_unaccepted sessions system frames starts e r other accepted = by_error e r other
+  where
+    never : (fault : StartFault) (shown : List ℕ) → IsRefusedByName sessions (new_host system frames) starts fault shown → ⊥
+    never fault shown isn = never_both starts starts (new_host system frames) 0 fault isn.place (omega arith) accepted isn.first
+
+    by_error : (e : RunError) → IsSlotRefusal sessions (new_host system frames) starts e → (e ≡ refusal.OutOfMemory → ⊥) → ⊥
+    by_error (refusal.SessionRefused name fault) r other = never (Unopened fault) name.bytes r
+    by_error (refusal.SavedElsewhere name) r other = never Elsewhere name.bytes r
+    by_error refusal.OutOfMemory r other = other refl
+    by_error _ r other = absurd r
+
 -- ---- what was played
 
 -- what comes together in a run that was settled so
@@ -203,12 +218,12 @@ abbrev pub parts_by : (config : Config) (options : RunOptions) (io : Streams) (s
 parts_by config options io system inputs settled h from = record { system = system; inputs = inputs; typed = h.typed; settled = settled; from = from }
 
 pub are_parts : (config : Config) (options : RunOptions) (io : Streams) (system : Disk) (inputs : List SessionInput) (settled : List SettledSession) (h : AreSettledBy config options io system inputs settled)
-    (from : Option RunStanding) → IsKeptBy (option_map (λ c. c.now) options.kept) from → AreParts config options io (parts_by config options io system inputs settled h from)
-are_parts config options io system inputs settled h from kept = record {
+    (from : Option RunStanding) → GoesOnOrBegins system config.frames settled (kept_by_options system options settled) from → AreParts config options io (parts_by config options io system inputs settled h from)
+are_parts config options io system inputs settled h from gone = record {
   accepted = h.accepted;
   heard = h.heard;
   keys = h.keys;
-  kept = kept;
+  gone = gone;
 }
 
 -- all that is written, by the parts of the run

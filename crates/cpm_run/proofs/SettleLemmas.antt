@@ -27,7 +27,7 @@ use Rattle.cpm_script.specs.declared.cue.Cue.{Cue}
 use Rattle.cpm_script.specs.declared.cue.Cue.TheVariants.{Key as Timed}
 use Rattle.cpm_script.specs.declared.script.Key.{Key}
 use Rattle.cpm_script.proofs.CueLemmas.{ascii-append, counted-keys}
-use Rattle.cpm_run.specs.Playing.{IsForkPressable, IsPressableBy}
+use Rattle.cpm_run.specs.Pressable.{IsForkPressable, IsPressableBy}
 use Rattle.cpm_run.specs.Run.{GivesItsKeysAgain, starts_read}
 use Rattle.cpm_run.specs.Settled.{AreSettled, HasPlayedKeys, IsSettled, SessionPart, SettledSession, TypedSession}
 use Rattle.cpm_run.specs.Settled.{before_in, forked_at, keys_if_settled, opened_by, opening_at, opening_of, part_of, said_at, settled_steps, settled_view, start_by, starts_of, steps_at, typing_at}

@@ -1,15 +1,12 @@
 -- What is kept of the sessions of a run on its way, as where they stand. All of it is own.
-use Rattle.std.specs.Prelude.{⊤, ◌+◌, ◌<◌, ◌≤◌, ◌^◌, ℕ, List, length, map, slice_get, Option, None, Some, IfSome, option_map}
+use Rattle.std.specs.Prelude.{⊤, ◌+◌, ◌<◌, ◌^◌, ℕ, List, map, Option, None, Some, option_map}
 use Rattle.cpm_batch.specs.Savings.{saving_view}
 use Rattle.cpm_play.specs.declared.player.Player.{Player}
 use Rattle.cpm_play.specs.declared.player.Player.TheVariants.{Playing, Waiting}
 use Rattle.cpm_play.specs.declared.scripted_slot.ScriptedSlot.{ScriptedSlot}
 use Rattle.cpm_machine.specs.MachineState.{MachineState}
-use Rattle.cpm_run.specs.Run.{start_of}
-use Rattle.cpm_run.specs.Settled.{SettledSession}
 use Rattle.cpm_run.specs.Rest.{RunStanding, SessionStanding}
 use Rattle.cpm_run.specs.declared.standing.KeptSession.{KeptSession}
-use Rattle.cpm_script.specs.Script.{most_keys}
 use Rattle.cpm_slots.specs.Host.{Host, saving_of, slot_at}
 
 -- the code's value
@@ -46,11 +43,3 @@ abbrev pub FitIfAny : Option SessionStanding → Option SessionStanding → Type
 FitIfAny None rest = ⊤
 FitIfAny (Some s) None = ⊤
 FitIfAny (Some s) (Some rest) = FitTogether s rest
-
--- a session has no more keys than may be pending, with those that are where it begins
-abbrev pub HasFewKeys : List SettledSession → SettledSession → Type 0
-HasFewKeys inputs i = length (start_of inputs i).session.console.keys + length i.keys ≤ most_keys
-
--- and so each of a run
-abbrev pub HaveFewKeys : List SettledSession → Type 0
-HaveFewKeys inputs = (place : ℕ) → IfSome (slice_get inputs place) (HasFewKeys inputs)

@@ -13,8 +13,9 @@ use Rattle.cpm_play.specs.Playing.{EndsAs, IsInOrder, alone_by, coming_keys, sta
 use Rattle.cpm_play.specs.Players.{HaveBecome}
 use Rattle.cpm_play.specs.declared.player.Player.{Player}
 use Rattle.cpm_run.specs.Ending.{ending_of}
-use Rattle.cpm_run.specs.Kept.{HaveFewKeys, standing_of}
-use Rattle.cpm_run.specs.Playing.{ArePressable, HavePlayers}
+use Rattle.cpm_run.specs.Kept.{standing_of}
+use Rattle.cpm_run.specs.Pressable.{ArePressable, HaveFewKeys}
+use Rattle.cpm_run.specs.Playing.{HavePlayers}
 use Rattle.cpm_run.specs.Run.{IsRestorable, files_left, left_of, reports_behind, reports_of, run_of, start_of}
 use Rattle.cpm_run.specs.Settled.{SettledSession}
 use Rattle.cpm_run.specs.Rest.{RunStanding, outputs_behind, rest_of, stands_all}
@@ -84,7 +85,8 @@ pub record GoesOnFrom (before : SessionOutput) (j : SettledSession) : Type 0 whe
   pub start : j.start ≡ Restores saving
 
 -- And so it is where it goes on from what was read of the file that the other session left for its saving.
--- (Of each run that succeeds the keys of each session are in order, and what is restored of its saving is that: `HasRun`, orders and savings.)
+-- (Of each run that succeeds the keys of each session are in order, and what is restored of its saving is that: `HasRun`, orders and savings. A run that went
+-- on from a checkpoint says this of the savings of its rest: they are these, and so are the files, if the checkpoint is true, by `RestIsWhole`.)
 abbrev pub SavedFileGoesOn : Type 0
 SavedFileGoesOn = (system : Disk) (first second : List SettledSession) (place other : ℕ) (i j : SettledSession) (before after : SessionOutput) →
     HasLeft system first place i before → HasLeft system second other j after → IsInOrder 0 i.keys → IsRestorable system first i →

@@ -1,8 +1,11 @@
+pub mod Beginning
 pub mod Ending
+pub mod Keeping
 pub mod Kept
 pub mod Laws
 pub mod Openings
 pub mod Playing
+pub mod Pressable
 pub mod Refusals
 pub mod Refusing
 pub mod Rest

@@ -1,16 +1,15 @@
 -- Sessions of a configuration in the slots of a host. All of it is own.
-use Rattle.std.specs.Prelude.{⊤, ◌≡◌, ◌≢◌, ◌+◌, ℕ, Bool, List, [], ◌∷◌, ◌++◌, ◌≤◌, length, map, slice_get, Option, Some, None, IfSome, Ok, Vec, true}
+use Rattle.std.specs.Prelude.{⊤, ◌≡◌, ◌≢◌, ◌+◌, ℕ, Bool, List, [], ◌∷◌, length, map, slice_get, Option, Some, None, Ok, Vec, true}
 use Rattle.std.specs.List.{All}
 use Rattle.std.specs.Prelude.{if◌then◌else◌, option_map, string_bytes}
 use Rattle.std.specs.declared.alloc.Global.{Global}
-use Rattle.cpm_batch.specs.Inputs.{Forks, IsOpened, Opens, Restores, StartInput}
+use Rattle.cpm_batch.specs.Inputs.{Forks, Opens, Restores, StartInput}
 use Rattle.cpm_batch.specs.Outputs.{SessionOutput, left_by}
 use Rattle.cpm_batch.specs.declared.output.SessionFiles.{SessionFiles}
 use Rattle.cpm_config.specs.declared.config.Config.{Config}
 use Rattle.cpm_config.specs.declared.config.SessionConfig.{SessionConfig}
 use Rattle.cpm_drives.specs.Disks.{images_of}
 use Rattle.cpm_geom.specs.Disk.{Disk}
-use Rattle.cpm_script.specs.Fork.{keys_before}
 use Rattle.cpm_script.specs.declared.script.Key.{Key}
 use Rattle.cpm_slots.specs.Host.{Host, SlotState, refusal_of, slot_at, with_added, with_opened}
 use Rattle.cpm_machine.specs.MachineState.{MachineState, opened_machine}
@@ -19,7 +18,7 @@ use Rattle.cpm_machine.specs.SystemDigest.{system_digest}
 use Rattle.cpm_machine.specs.declared.opening.Opening.{Opening}
 use Rattle.cpm_machine.specs.declared.opening.OpenError.{OpenError}
 use Rattle.cpm_play.specs.Players.{fork_pages, forks_of}
-use Rattle.cpm_play.specs.Playing.{HaveRoom, IsInOrder, IsPlayed}
+use Rattle.cpm_play.specs.Playing.{IsPlayed}
 use Rattle.cpm_play.specs.ScriptedSlots.{IsNew, script_keys, steps_of}
 use Rattle.cpm_play.specs.declared.player.Fork.{Fork}
 use Rattle.cpm_play.specs.declared.player.Player.{Player}
@@ -35,7 +34,7 @@ use Rattle.cpm_run.specs.declared.error.RunError.{RunError}
 use Rattle.cpm_run.specs.declared.error.RunError.TheVariants as refusal
 use Rattle.cpm_run.specs.declared.error.StartFault.{StartFault}
 use Rattle.cpm_run.specs.declared.error.StartFault.TheVariants.{Elsewhere, Unopened}
-use Rattle.cpm_run.specs.Settled.{SettledSession, opening_of}
+use Rattle.cpm_run.specs.Settled.{SettledSession}
 
 -- ---- before they are played
 
@@ -98,28 +97,6 @@ HavePlayers slots [] [] = ⊤
 HavePlayers slots (i ∷ is) (p ∷ ps) = HasPlayer slots i p × HavePlayers slots is ps
 HavePlayers slots [] (p ∷ ps) = ⊥
 HavePlayers slots (i ∷ is) [] = ⊥
-
--- the keys of a forked session can be pressed: they are those of a session that isn't before the fork and then others in order,
--- the machine takes each where it comes, and it has the steps up to the fork
-pub record IsForkPressable (system : Disk) (inputs : List SettledSession) (i : SettledSession) (parent at : ℕ) : Type 0 where
-  pub other : SettledSession
-  pub there : slice_get inputs parent ≡ Some other
-  pub opened : IsOpened other.start
-  pub own : List Key
-  pub keys : i.keys ≡ keys_before at other.keys ++ own
-  pub order : IsInOrder at own
-  pub room : HaveRoom system (opening_of other.start) i.keys
-  pub within : at ≤ i.steps
-
--- those of one that isn't: their counts don't fall, and the machine takes each where it comes
-abbrev pub IsPressableBy : Disk → List SettledSession → StartInput → SettledSession → Type 0
-IsPressableBy system inputs (Opens cpu quota drives) i = IsInOrder 0 i.keys × HaveRoom system (opened_machine cpu quota drives) i.keys
-IsPressableBy system inputs (Forks parent at) i = IsForkPressable system inputs i parent at
-IsPressableBy system inputs (Restores x) i = IsInOrder 0 i.keys × HaveRoom system x.state i.keys
-
--- those of each session
-abbrev pub ArePressable : Disk → List SettledSession → Type 0
-ArePressable system inputs = (place : ℕ) → IfSome (slice_get inputs place) (λ i. IsPressableBy system inputs i.start i)
 
 -- ---- refusals
 

@@ -1,9 +1,10 @@
 -- Where the sessions of a run stand on its way, and what is left of them to play. All of it is own.
-use Rattle.std.specs.Prelude.{⊤, ◌≡◌, ℕ, ◌-◌, List, [], ◌∷◌, ◌++◌, map, drop, slice_get, Option, Some, None, option_and_then, option_map, Result, Ok, Err}
+use Rattle.std.specs.Prelude.{ℕ, ◌-◌, List, [], ◌∷◌, ◌++◌, map, drop, slice_get, nat_eq, if◌then◌else◌}
+use Rattle.std.specs.Prelude.{Option, Some, None, option_and_then, option_map, Result, Ok, Err}
+use Rattle.std.specs.Cmp.Lexicographic.{pointwise}
 use Rattle.cpm_batch.specs.Inputs.{Forks, Opens, Restores, StartInput}
 use Rattle.cpm_batch.specs.Outputs.{SessionOutput}
-use Rattle.cpm_checkpoint.specs.CheckpointBytes.{SessionValue, checkpoint_value}
-use Rattle.cpm_checkpoint.specs.declared.checkpoint.Checkpoint.{Checkpoint}
+use Rattle.cpm_checkpoint.specs.CheckpointBytes.{CheckpointValue, SessionValue}
 use Rattle.cpm_machine.specs.Saving.{Saving, restored}
 use Rattle.cpm_saved.specs.declared.part.SavingDamage.{SavingDamage}
 use Rattle.cpm_script.specs.declared.script.Key.{Key}
@@ -108,8 +109,7 @@ abbrev pub standing_read : List (Option SessionValue) → Option RunStanding
 standing_read [] = Some []
 standing_read (v ∷ vs) = option_and_then (λ s. option_map (λ ss. s ∷ ss) (standing_read vs)) (standing_if_begun v)
 
--- where the sessions of a run stood from which it goes on, where it does: as a checkpoint says that it was given
-abbrev pub IsKeptBy : Option Checkpoint → Option RunStanding → Type 0
-IsKeptBy given None = ⊤
-IsKeptBy None (Some s) = ⊥
-IsKeptBy (Some c) (Some s) = standing_read (checkpoint_value c).sessions ≡ Some s
+-- where the sessions of a run with this beginning stand, as a checkpoint says that is given: none, where it is of another run, or damaged
+abbrev pub standing_given : (beginning : List ℕ) → Option CheckpointValue → Option RunStanding
+standing_given beginning None = None
+standing_given beginning (Some c) = if pointwise nat_eq c.beginning beginning then standing_read c.sessions else None

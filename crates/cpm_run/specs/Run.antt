@@ -5,7 +5,7 @@ use Rattle.std.specs.List.{All}
 use Rattle.cpm_batch.specs.Inputs.{AreInputs, Forks, Opens, Restores, SessionInput, StartInput}
 use Rattle.cpm_batch.specs.Outputs.{SessionOutput, files_of_all}
 use Rattle.cpm_batch.specs.Reads.{AreRead}
-use Rattle.cpm_checkpoint.specs.declared.checkpoint.Checkpoint.{Checkpoint}
+use Rattle.cpm_checkpoint.specs.CheckpointBytes.{checkpoint_value}
 use Rattle.cpm_command_line.specs.Shown.{shown_of}
 use Rattle.cpm_config.specs.Rules.{config_view, fault_or, forks_fault}
 use Rattle.cpm_config.specs.declared.config.Config.{Config}
@@ -43,7 +43,9 @@ use Rattle.cpm_run.specs.declared.report.SessionStop.{SessionStop}
 use Rattle.cpm_script.specs.Recording.{recorded, recording}
 use Rattle.cpm_script.specs.Script.{script, most_keys}
 use Rattle.cpm_script.specs.declared.script.Key.{Key}
-use Rattle.cpm_run.specs.Rest.{RunStanding, SessionStanding, IsKeptBy, outputs_behind, rest_if, rest_of, stands_all, standing_at}
+use Rattle.cpm_run.specs.Beginning.{run_beginning}
+use Rattle.cpm_run.specs.Pressable.{ArePressable, HaveFewKeys}
+use Rattle.cpm_run.specs.Rest.{RunStanding, SessionStanding, outputs_behind, rest_if, rest_of, stands_all, standing_at, standing_given}
 use Rattle.cpm_run.specs.Settled.{AreSettled, IsTypedIfAny, SettledSession, Streams, TypedSession, opening_at, start_by, starts_of}
 
 -- ---- a session
@@ -124,28 +126,6 @@ reports_from system inputs (Some s) = reports_behind (stands_all s inputs s) (re
 abbrev pub files_from : Disk → List SettledSession → Option RunStanding → List SessionOutput
 files_from system inputs None = files_left system inputs
 files_from system inputs (Some s) = outputs_behind (stands_all s inputs s) (files_left system (rest_of inputs s))
-
--- from where they stood, or where that can't be gone on with, from their beginnings
-abbrev pub IsEither : RunStanding → Option RunStanding → Type 0
-IsEither standing None = ⊤
-IsEither standing (Some s) = s ≡ standing
-
-pub record IsLeftFrom (system : Disk) (inputs : List SettledSession) (standing : RunStanding) (reports : List ReportEntry) (left : List SessionOutput)
-    : Type 0 where
-  pub from : Option RunStanding
-  pub either : IsEither standing from
-  pub reported : reports ≡ reports_from system inputs from
-  pub files : left ≡ files_from system inputs from
-  pub savings : AreRestorable system (rest_if inputs from)
-
--- so it is where this was given of where they stood
-pub record IsLeftAsGiven (system : Disk) (given : Option Checkpoint) (inputs : List SettledSession) (reports : List ReportEntry) (left : List SessionOutput)
-    : Type 0 where
-  pub from : Option RunStanding
-  pub kept : IsKeptBy given from
-  pub reported : reports ≡ reports_from system inputs from
-  pub files : left ≡ files_from system inputs from
-  pub savings : AreRestorable system (rest_if inputs from)
 
 -- ---- records
 
@@ -231,6 +211,41 @@ AllAccepted all h (b ∷ bs) = IsAccepted h b (λ next. AllAccepted all next bs)
 abbrev pub starts_read : List SessionInput → List StartInput
 starts_read inputs = map (λ i. i.start) inputs
 
+-- ---- a run that goes on, or begins
+
+-- A run of a host with so many frames can go on from where its sessions stood: each saving was made over this system drive, the keys that are left can be
+-- pressed and are few, and the host takes all that is left.
+pub record CanGoOn (system : Disk) (frames : ℕ) (inputs : List SettledSession) (s : RunStanding) : Type 0 where
+  pub over : (place : ℕ) → IfSome (standing_at s place) (λ x. x.saving.system_digest ≡ system_digest system)
+  pub keys : ArePressable system (rest_of inputs s)
+  pub few : HaveFewKeys (rest_of inputs s)
+  pub accepted : AllAccepted (starts_of (rest_of inputs s)) (new_host system frames) (starts_of (rest_of inputs s))
+
+-- It goes on from where its sessions stood, as that was kept of them, or else it begins. It goes on only from savings over its system drive, with keys that can
+-- be pressed; and it begins only where nothing was kept, or where it can't go on.
+abbrev pub GoesOnOrBegins : Disk → (frames : ℕ) → List SettledSession → (kept from : Option RunStanding) → Type 0
+GoesOnOrBegins system frames inputs None None = ⊤
+GoesOnOrBegins system frames inputs None (Some s) = ⊥
+GoesOnOrBegins system frames inputs (Some s) None = CanGoOn system frames inputs s → ⊥
+GoesOnOrBegins system frames inputs (Some s) (Some from) =
+    (from ≡ s) × ((place : ℕ) → IfSome (standing_at s place) (λ x. x.saving.system_digest ≡ system_digest system)) × ArePressable system (rest_of inputs s)
+
+-- what was kept of the sessions of a run: by the checkpoint that was given, if its digest is that of what they begin with, and each of its savings restores
+abbrev pub kept_by_options : Disk → RunOptions → List SettledSession → Option RunStanding
+kept_by_options system options inputs = standing_given (run_beginning system inputs) (option_map (λ c. checkpoint_value c.now) options.kept)
+
+-- it was played so: from somewhere, or from its beginning, and this holds of what that leaves
+pub record HasPlayedFrom (system : Disk) (frames : ℕ) (inputs : List SettledSession) (kept : Option RunStanding) (Leaves : Option RunStanding → Type 0)
+    : Type 0 where
+  pub from : Option RunStanding
+  pub gone : GoesOnOrBegins system frames inputs kept from
+  pub left : Leaves from
+  pub savings : AreRestorable system (rest_if inputs from)
+
+-- these are its reports, and its files
+abbrev pub LeavesFiles : Disk → List SettledSession → List ReportEntry → List SessionOutput → (from : Option RunStanding) → Type 0
+LeavesFiles system inputs reports left from = (reports ≡ reports_from system inputs from) × (left ≡ files_from system inputs from)
+
 -- ---- a run
 
 -- what comes together in a run: the system drive, what was read for each session, what was typed at one, what they are played by, and where they stood where
@@ -248,7 +263,7 @@ pub record AreParts (config : Config) (options : RunOptions) (io : Streams) (r :
   pub accepted : AllAccepted (starts_read r.inputs) (new_host r.system config.frames) (starts_read r.inputs)
   pub heard : IsTypedIfAny r.system config.sessions.items (option_map (λ n. n.now) options.typed) r.inputs io r.typed
   pub keys : AreSettled r.system options.stops_idle r.typed config.sessions.items [] r.inputs r.settled
-  pub kept : IsKeptBy (option_map (λ c. c.now) options.kept) r.from
+  pub gone : GoesOnOrBegins r.system config.frames r.settled (kept_by_options r.system options r.settled) r.from
 
 abbrev pub outputs_by : RunOptions → RunParts → List NamedBytes
 outputs_by options r = outputs_of r.system options.records.now r.settled r.from
@@ -262,13 +277,10 @@ pub record AreReportedOf (system : Disk) (settled : List SettledSession) (from :
   pub sessions : map report_view report.sessions.items ≡ reports_from system settled from
   pub stops : report.stops.items ≡ map stop_of settled
 
--- what is reported of sessions, and what is written after them, where they go on from where they stood if that was given, or from their beginnings
-pub record HasPlayedAll (system : Disk) (options : RunOptions) (settled : List SettledSession) (report : Report) (outputs : List NamedBytes) : Type 0 where
-  pub from : Option RunStanding
-  pub kept : IsKeptBy (option_map (λ c. c.now) options.kept) from
-  pub reported : AreReportedOf system settled from report
-  pub written : outputs ≡ outputs_of system options.records.now settled from
-  pub savings : AreRestorable system (rest_if settled from)
+-- these are its reports, and all that it writes
+abbrev pub LeavesOutputs : Disk → RunOptions → List SettledSession → Report → List NamedBytes → (from : Option RunStanding) → Type 0
+LeavesOutputs system options settled report outputs from =
+    AreReportedOf system settled from report × (outputs ≡ outputs_of system options.records.now settled from)
 
 -- What a store does by its calls, and what its files hold, where it tells that.
 pub record StoreActs (S : Type 0) : Type 1 where

@@ -14,7 +14,7 @@ use Rattle.cpm_script.specs.Cues.{CueText, all_said, cued_key_count}
 use Rattle.cpm_script.specs.Laws.{CountsRise, KeysAreAscii, PressesFollow}
 use Rattle.cpm_script.specs.Script.{most_keys}
 use Rattle.cpm_script.specs.declared.script.Key.{Key}
-use Rattle.cpm_run.specs.Playing.{IsPressableBy}
+use Rattle.cpm_run.specs.Pressable.{IsPressableBy}
 use Rattle.cpm_run.specs.Refusing.{IsLimited, IsOverfull}
 use Rattle.cpm_slots.specs.Host.{new_host}
 use Rattle.cpm_run.specs.Run.{AllAccepted, GivesItsKeysAgain, IsOpening, starts_read}

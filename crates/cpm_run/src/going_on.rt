@@ -1,17 +1,19 @@
 //! A run that goes on from where it stood: its rest is played, and what was shown before is put in front.
-ghost use Rattle.std.specs.Prelude.{◌≡◌, ◌≤◌, ◌++◌, ℕ, IfErr, IfOk, IfSome, OnOk, Some, length, map, option_map, false, true};
+ghost use Rattle.std.specs.Prelude.{◌≡◌, ◌≤◌, ◌++◌, ℕ, IfErr, IfOk, IfSome, None, OnOk, Some, length, map, option_map, false, true};
 ghost use Rattle.cpm_batch.specs.Outputs.{left_by};
 ghost use Rattle.cpm_machine.specs.SystemDigest.{system_digest};
 ghost use Rattle.cpm_run.specs.Kept.{kept_view, standing_view};
-ghost use Rattle.cpm_run.specs.Playing.{ArePressable, IsSlotRefusal};
-ghost use Rattle.cpm_run.specs.Run.{AreRestorable, IsLeftFrom, files_from, files_left, report_behind, report_view, reports_behind, reports_from, reports_of};
+ghost use Rattle.cpm_run.specs.Pressable.{ArePressable, HaveFewKeys};
+ghost use Rattle.cpm_run.specs.Playing.{IsSlotRefusal};
+ghost use Rattle.cpm_run.specs.Run.{AllAccepted, AreRestorable, HasPlayedFrom, LeavesFiles, files_from, files_left, report_behind, report_view};
+ghost use Rattle.cpm_run.specs.Run.{reports_behind, reports_from, reports_of};
 ghost use Rattle.cpm_run.specs.Settled.{settled_view, starts_of};
 ghost use Rattle.cpm_run.specs.Rest.{output_behind, outputs_behind, rest_of, stands_all, standing_at};
 ghost use Rattle.cpm_slots.specs.Host.{new_host};
 
 use crate::beginning::RunBeginning;
 use crate::error::RunError;
-use crate::keeper::{Keeper, parents_of};
+use crate::keeper::{Keeper, RunBefore};
 use crate::play::play_all;
 use crate::pressable::are_pressable;
 use crate::report::SessionReport;
@@ -170,13 +172,15 @@ fn play_rest<'a, T: RunWatcher>(
     ensures files { IfOk result (λ left. IfSome left (λ p. map left_by p.1.items
         ≡ files_from system (map settled_view inputs.now) (Some (standing_view kept.now)))) }
     ensures savings { IfOk result (λ left. IfSome left (λ p. AreRestorable system (rest_of (map settled_view inputs.now) (standing_view kept.now)))) }
+    ensures refused { IfOk result (λ left. left ≡ None
+        → AllAccepted (starts_of (map settled_view rest.entry.items)) (new_host system config.entry.now.frames)
+        (starts_of (map settled_view rest.entry.items)) → ⊥) }
 {
     let mut keeper = Keeper {
         alloc,
         watcher,
         beginning,
-        before: kept,
-        parents: parents_of(alloc, inputs)?,
+        before: Some(RunBefore { inputs, kept }),
     };
     let played = match play_all(alloc, config, system, rest, &mut keeper) {
         Ok(played) => played,
@@ -211,10 +215,30 @@ pub(crate) fn play_kept<'a, T: RunWatcher>(
         alloc,
         watcher,
         beginning,
-        before: &[],
-        parents: Vec::new(alloc),
+        before: None,
     };
     play_all(alloc, config, system, inputs, &mut keeper)
+}
+
+/// Whether the rest of a run can be played from where it stood, but for the room that a host has: each saving was made over this system drive, and the keys
+/// that are left can be pressed.
+fn can_go_on(
+    alloc: Global,
+    system: &Image,
+    kept: &[Option<KeptSession>],
+    rest: &[SettledInput<'_>],
+) -> Result<bool, AllocError>
+    ensures can { IfOk result (λ can. can ≡ true
+        → ((place : ℕ) → IfSome (standing_at (standing_view kept.now) place) (λ s. s.saving.system_digest ≡ system_digest system.now))
+        × ArePressable system.now (map settled_view rest.now)) }
+    ensures other { IfOk result (λ can. can ≡ false
+        → ((place : ℕ) → IfSome (standing_at (standing_view kept.now) place) (λ s. s.saving.system_digest ≡ system_digest system.now))
+        → ArePressable system.now (map settled_view rest.now) → HaveFewKeys (map settled_view rest.now) → ⊥) }
+{
+    if !are_over(system, kept) {
+        return Ok(false);
+    }
+    are_pressable(alloc, rest)
 }
 
 /// Plays the sessions of a run from where they stood by what was kept of them, and gives what is left of them. Where their rests can't be played, which may
@@ -233,14 +257,14 @@ pub(crate) fn play_from<'a, T: RunWatcher>(
     requires quantum { 1 ≤ config.now.quantum }
     requires keys { ArePressable system (map settled_view inputs.items) }
     requires sessions { map (λ i. i.session) (map settled_view inputs.items) ≡ config.now.sessions.items }
-    ensures left { IfOk result (λ p. IsLeftFrom system (map settled_view inputs.entry.items) (standing_view kept.now)
-        (map report_view p.0.items) (map left_by p.1.items)) }
+    ensures left { IfOk result (λ p. HasPlayedFrom system config.entry.now.frames (map settled_view inputs.entry.items) (Some (standing_view kept.now))
+        (LeavesFiles system (map settled_view inputs.entry.items) (map report_view p.0.items) (map left_by p.1.items))) }
     ensures refusal { IfErr result (IsSlotRefusal config.entry.now.sessions.items (new_host system config.entry.now.frames)
         (starts_of (map settled_view inputs.entry.items))) }
 {
     let sessions = inputs.as_slice();
     let rest = rest_inputs(alloc, sessions, kept)?;
-    if !are_over(&system, kept) || !are_pressable(alloc, rest.as_slice())? {
+    if !can_go_on(alloc, &system, kept, rest.as_slice())? {
         return play_kept(alloc, config, system, inputs, beginning, watcher);
     }
     let drive = system.copy(alloc)?;

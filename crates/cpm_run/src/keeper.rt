@@ -1,112 +1,74 @@
 //! Who keeps where the sessions of a run stand, while they are played.
 
-ghost use Rattle.std.specs.Prelude.{◌≡◌};
+ghost use Rattle.std.specs.Prelude.{◌≡◌, IfOk, IfSome};
+ghost use Rattle.cpm_run.specs.Keeping.{IsCheckpointFor, IsKeptOf, before_view};
+ghost use Rattle.cpm_run.specs.Kept.{standing_of, standing_view};
+ghost use Rattle.cpm_run.specs.Rest.{RunStanding};
 
 use crate::beginning::RunBeginning;
+use crate::joining::join_kept;
 use crate::keeping::keep_sessions;
 use crate::settled::SettledInput;
-use crate::standing::{KeptSession, kept_at};
+use crate::standing::KeptSession;
 use crate::watcher::RunWatcher;
-use cpm_batch::Start;
-use cpm_checkpoint::{Checkpoint, CheckpointSession, MOST_SESSIONS};
+use crate::written::checkpoint_of;
 use cpm_play::{Player, Progress, Watcher};
 use cpm_slots::Host;
 use std::alloc::{AllocError, Global};
 
-/// The places of the sessions from which others are forked; none of one that isn't forked.
-pub(crate) fn parents_of(
+/// A run whose rest is played.
+#[derive(Clone, Copy)]
+pub(crate) struct RunBefore<'k, 'a> {
+    /// All of its sessions.
+    pub(crate) inputs: &'k [SettledInput<'a>],
+    /// Where they stood.
+    pub(crate) kept: &'k [Option<KeptSession>],
+}
+
+/// What is kept of all sessions of a run that is played by these players in a host; or where its rest is, of all of it.
+fn keep_all(
     alloc: Global,
-    inputs: &[SettledInput<'_>],
-) -> Result<Vec<Option<usize>>, AllocError> {
-    let mut parents = Vec::new(alloc);
-    for input in inputs {
-        parents.push(match &input.start {
-            Start::Forked { parent, .. } => Some(*parent),
-            Start::Opened { .. } | Start::Restored(_) => None,
-        })?;
+    before: Option<RunBefore<'_, '_>>,
+    host: &mut Host,
+    players: &[Player],
+) -> Result<Vec<Option<KeptSession>>, AllocError>
+    ensures kept { IfOk result (λ v. IsKeptOf (before_view before.entry) (standing_of host.old.host players.now) (standing_view v.items)) }
+    ensures host { host.new ≡ host.old }
+{
+    let rest = keep_sessions(alloc, host, players)?;
+    match before {
+        Some(before) => join_kept(alloc, before.inputs, before.kept, rest),
+        None => Ok(rest),
     }
-    Ok(parents)
+}
+
+/// The bytes of a checkpoint of them; none where there are more than it may have.
+fn keep_bytes(
+    alloc: Global,
+    beginning: RunBeginning,
+    before: Option<RunBefore<'_, '_>>,
+    host: &mut Host,
+    players: &[Player],
+) -> Result<Option<Vec<u8>>, AllocError>
+    ensures kept { IfOk result (λ bytes. IfSome bytes (λ b. (kept : RunStanding)
+        × IsKeptOf (before_view before.entry) (standing_of host.old.host players.now) kept × IsCheckpointFor beginning kept b.items)) }
+    ensures host { host.new ≡ host.old }
+{
+    let kept = keep_all(alloc, before, host, players)?;
+    checkpoint_of(alloc, beginning, kept.as_slice())
 }
 
 /// A watcher of a run that keeps where its sessions stand.
 #[derive(Drop)]
-pub(crate) struct Keeper<'w, 'k, T: RunWatcher> {
+pub(crate) struct Keeper<'w, 'k, 'a, T: RunWatcher> {
     pub(crate) alloc: Global,
     pub(crate) watcher: &'w mut T,
     pub(crate) beginning: RunBeginning,
-    /// Where the sessions stood, if their rests are played.
-    pub(crate) before: &'k [Option<KeptSession>],
-    /// Which of them are forked from which.
-    pub(crate) parents: Vec<Option<usize>>,
+    /// The run whose rest is played, if it is one.
+    pub(crate) before: Option<RunBefore<'k, 'a>>,
 }
 
-/// Bytes with others in front.
-fn behind(front: &[u8], bytes: &[u8], alloc: Global) -> Result<Vec<u8>, AllocError> {
-    let mut all = Vec::with_capacity(alloc, front.len())?;
-    all.extend_from_slice(front)?;
-    all.extend_from_slice(bytes)?;
-    Ok(all)
-}
-
-/// A session as a checkpoint has it, where it stood so before and its rest stands so.
-fn session_of(
-    alloc: Global,
-    before: Option<&KeptSession>,
-    rest: &KeptSession,
-) -> Result<CheckpointSession, AllocError> {
-    let saving = rest.saved.bytes(alloc)?;
-    Ok(match before {
-        Some(before) => CheckpointSession {
-            pressed: before.pressed.saturating_add(rest.pressed) as u64,
-            done: before.done.saturating_add(rest.done),
-            console: behind(before.console.as_slice(), rest.console.as_slice(), alloc)?,
-            list: behind(before.list.as_slice(), rest.list.as_slice(), alloc)?,
-            saving,
-        },
-        None => CheckpointSession {
-            pressed: rest.pressed as u64,
-            done: rest.done,
-            console: rest.console.clone()?,
-            list: rest.list.clone()?,
-            saving,
-        },
-    })
-}
-
-impl<T: RunWatcher> Keeper<'_, '_, T> {
-    /// Where the session at a place stood, or the one from which it was still to be forked.
-    fn before_at(&self, place: usize) -> Option<&KeptSession> {
-        match (kept_at(self.before, place), self.parents.get(place)) {
-            (None, Some(Some(parent))) => kept_at(self.before, *parent),
-            (own, _) => own,
-        }
-    }
-
-    /// The bytes of a checkpoint of the sessions that are played so; none where there are more than it may have.
-    fn bytes(&self, host: &mut Host, players: &[Player]) -> Result<Option<Vec<u8>>, AllocError>
-        ensures { host.new ≡ host.old }
-    {
-        let kept = keep_sessions(self.alloc, host, players)?;
-        let mut sessions = Vec::new(self.alloc);
-        for (place, rest) in kept.iter().enumerate() {
-            let before = self.before_at(place);
-            sessions.push(match rest {
-                Some(rest) => Some(session_of(self.alloc, before, rest)?),
-                None => None,
-            })?;
-        }
-        if sessions.len() > MOST_SESSIONS {
-            return Ok(None);
-        }
-        let checkpoint = Checkpoint {
-            beginning: self.beginning,
-            sessions,
-        };
-        Ok(Some(checkpoint.bytes(self.alloc)?))
-    }
-}
-
-impl<T: RunWatcher> Watcher for Keeper<'_, '_, T> {
+impl<T: RunWatcher> Watcher for Keeper<'_, '_, '_, T> {
     fn is_watching(&self) -> bool {
         self.watcher.is_watching()
     }
@@ -125,7 +87,13 @@ impl<T: RunWatcher> Watcher for Keeper<'_, '_, T> {
 
     // (where memory is refused for a checkpoint, the run goes on without it)
     fn rest(&mut self, host: &mut Host, players: &[Player]) {
-        if let Ok(Some(bytes)) = self.bytes(host, players) {
+        if let Ok(Some(bytes)) = keep_bytes(
+            self.alloc,
+            self.beginning,
+            self.before,
+            host,
+            players,
+        ) {
             self.watcher.keep_checkpoint(bytes.as_slice());
         }
     }

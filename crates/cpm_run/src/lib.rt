@@ -30,6 +30,7 @@ mod stages;
 mod standing;
 mod typed;
 mod watcher;
+mod written;
 
 pub use ending::{Ending, IllegalBytes, end_word};
 pub use error::RunError;

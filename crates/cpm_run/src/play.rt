@@ -11,7 +11,8 @@ ghost use Rattle.cpm_machine.specs.declared.opening.OpenError.{OpenError as Open
 ghost use Rattle.cpm_machine.specs.declared.opening.Opening.{Opening as OpeningValue};
 ghost use Rattle.cpm_play.specs.Players.{AllDiffer, IsPlayRefusal as IsForking};
 ghost use Rattle.cpm_play.specs.declared.player.Player.{Player as PlayerValue};
-ghost use Rattle.cpm_run.specs.Playing.{HavePlayers, ArePressable, IsForksRefusal, IsOpeningRefusal, IsPrepared, IsRefusedAmong, IsRestoringRefusal};
+ghost use Rattle.cpm_run.specs.Playing.{HavePlayers, IsForksRefusal, IsOpeningRefusal, IsPrepared, IsRefusedAmong, IsRestoringRefusal};
+ghost use Rattle.cpm_run.specs.Pressable.{ArePressable};
 ghost use Rattle.cpm_run.specs.Playing.{IsSlotRefusal, IsStartRefusal, OpensSlot, RestoresSlot};
 ghost use Rattle.cpm_run.specs.Settled.{settled_view, starts_of};
 ghost use Rattle.cpm_run.specs.Run.{AllAccepted, HasForkRoom, IsForkAt, IsRestorable, IsShortFor, IsShownAs};

@@ -3,8 +3,7 @@ ghost use Rattle.std.specs.Prelude.{◌≡◌, ◌≤◌, ◌+◌, ◌++◌, IfO
 ghost use Rattle.cpm_batch.specs.Inputs.{IsOpened, start_view};
 ghost use Rattle.cpm_geom.specs.Disk.{Disk};
 ghost use Rattle.cpm_play.specs.Playing.{HaveRoom, IsInOrder};
-ghost use Rattle.cpm_run.specs.Playing.{ArePressable, IsForkPressable, IsPressableBy};
-ghost use Rattle.cpm_run.specs.Kept.{HasFewKeys, HaveFewKeys};
+ghost use Rattle.cpm_run.specs.Pressable.{ArePressable, HasFewKeys, HaveFewKeys, IsForkPressable, IsPressableBy};
 ghost use Rattle.cpm_run.specs.Settled.{opening_at, opening_of, settled_view, starts_of};
 ghost use Rattle.cpm_script.specs.Script.{most_keys};
 ghost use Rattle.cpm_script.specs.declared.script.Key.{Key as KeyValue};

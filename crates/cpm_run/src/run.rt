@@ -1,13 +1,15 @@
 //! A run of the sessions of a configuration: it is read, settled, played and written.
-ghost use Rattle.std.specs.Prelude.{◌≡◌, ◌<◌, ◌≤◌, ℕ, IfErr, IfOk, OnOk, map, option_map};
+ghost use Rattle.std.specs.Prelude.{◌≡◌, ◌<◌, ◌≤◌, ℕ, IfErr, IfOk, OnOk, map};
 ghost use Rattle.cpm_slots.specs.Host.{new_host};
 ghost use Rattle.cpm_store.specs.Files.{CountsFailure, WhereTold};
 ghost use Rattle.cpm_store.specs.Log.{LogLeadsBy, StopsAfter};
 ghost use Rattle.cpm_store.specs.Writes.{StopsAt, named_output};
 ghost use Rattle.cpm_batch.specs.Outputs.{left_by};
-ghost use Rattle.cpm_run.specs.Playing.{ArePressable, IsSlotRefusal};
+ghost use Rattle.cpm_run.specs.Playing.{IsSlotRefusal};
+ghost use Rattle.cpm_run.specs.Pressable.{ArePressable};
 ghost use Rattle.cpm_run.specs.Refusing.{IsDeviceFault, IsRunRefusal, IsWriteRefusal};
-ghost use Rattle.cpm_run.specs.Run.{HasPlayedAll, HasRun, HasWrittenOutputs, IsLeftAsGiven, config_fault, report_view, top_fault};
+ghost use Rattle.cpm_run.specs.Run.{HasPlayedFrom, HasRun, HasWrittenOutputs, LeavesFiles, LeavesOutputs, config_fault, kept_by_options};
+ghost use Rattle.cpm_run.specs.Run.{report_view, top_fault};
 ghost use Rattle.cpm_run.specs.Settled.{settled_view, starts_of, streams};
 ghost use Rattle.cpm_run.specs.Settling.{AreSound};
 
@@ -77,8 +79,8 @@ fn write_files<S: Store>(outputs: &[Output<'_>], store: &mut S) -> Result<(), Ru
     }
 }
 
-/// Plays the sessions of a configuration from where they stood if that was kept, or else from their beginnings, and gives what is left of them. Where the
-/// watcher keeps checkpoints, it gets them on the way.
+/// Plays the sessions of a configuration from where they stood if that was kept and they can go on from there, or else from their beginnings, and gives what is
+/// left of them. Where the watcher keeps checkpoints, it gets them on the way.
 fn play_sessions<'a, T: RunWatcher>(
     alloc: Global,
     config: &'a Config,
@@ -92,12 +94,13 @@ fn play_sessions<'a, T: RunWatcher>(
     requires quantum { 1 ≤ config.now.quantum }
     requires keys { ArePressable system (map settled_view inputs.items) }
     requires sessions { map (λ i. i.session) (map settled_view inputs.items) ≡ config.now.sessions.items }
-    ensures left { IfOk result (λ p. IsLeftAsGiven system (option_map (λ c. c.now) options.entry.kept) (map settled_view inputs.entry.items)
-        (map report_view p.0.items) (map left_by p.1.items)) }
+    ensures left { IfOk result (λ p. HasPlayedFrom system config.entry.now.frames (map settled_view inputs.entry.items)
+        (kept_by_options system options.entry (map settled_view inputs.entry.items))
+        (LeavesFiles system (map settled_view inputs.entry.items) (map report_view p.0.items) (map left_by p.1.items))) }
     ensures refusal { IfErr result (IsSlotRefusal config.entry.now.sessions.items (new_host system config.entry.now.frames)
         (starts_of (map settled_view inputs.entry.items))) }
 {
-    if !watcher.keeps_checkpoints() {
+    if options.kept.is_none() && !watcher.keeps_checkpoints() {
         return play_all(alloc, config, system, inputs, watcher);
     }
     let beginning = beginning_of(alloc, &system, inputs.as_slice())?;
@@ -133,7 +136,9 @@ fn play_inputs<'a, T: RunWatcher>(
     requires quantum { 1 ≤ config.now.quantum }
     requires sound { AreSound system (map settled_view inputs.items) }
     requires sessions { map (λ i. i.session) (map settled_view inputs.items) ≡ config.now.sessions.items }
-    ensures played { IfOk result (λ p. HasPlayedAll system options.entry (map settled_view inputs.entry.items) p.0 (map named_output p.1.items)) }
+    ensures played { IfOk result (λ p. HasPlayedFrom system config.entry.now.frames (map settled_view inputs.entry.items)
+        (kept_by_options system options.entry (map settled_view inputs.entry.items))
+        (LeavesOutputs system options.entry (map settled_view inputs.entry.items) p.0 (map named_output p.1.items))) }
     ensures refusal { IfErr result (IsSlotRefusal config.entry.now.sessions.items (new_host system config.entry.now.frames)
         (starts_of (map settled_view inputs.entry.items))) }
 {
@@ -171,7 +176,8 @@ pub fn run_host<'a, S: Store, P: Typist, W: Write, R: Write, T: RunWatcher>(
     watcher: &mut T,
 ) -> Result<Report, RunError>
     // Each session stands in its files and its report as its machine alone by its keys, whatever the turns. So it is of each store, by the calls that were
-    // made, and by what its files hold, where it tells that.
+    // made, and by what its files hold, where it tells that. Where the run goes on from a checkpoint, the rest of each session is its machine alone, behind
+    // what the checkpoint says that it had shown: as the whole, if the checkpoint is true (`laws::rest_is_whole`).
     ensures run { IfOk result (λ report. HasRun (record { does = S.does; files = S.files }) config.entry.now options.entry report
         (streams (P.typing typist.old) (P.typing typist.new) (W.contents out.old) (W.contents out.new) (R.contents «record».old) (R.contents «record».new))
         store.old store.new) }

@@ -11,8 +11,24 @@ use crate::patient::PatientError;
 use crate::refused::PathLine;
 use cpm_checkpoint::{Checkpoint, CheckpointError};
 use cpm_host::{HostError, Task, shown};
-use std::io::{ErrorKind, Write};
+use std::io::{ErrorKind, Read, Write};
 use std::{fs, io};
+
+/// All bytes of a file that was written before, which may have more than other files that are read. It is refused where it is none, as a pipe that nobody
+/// writes, or a device that has no end.
+fn kept_bytes(rt: &impl LockableFiles, name: &str) -> io::Result<Vec<u8>> {
+    let found = fs::metadata(rt, name)?;
+    if !found.is_file() {
+        return Err(io::Error::new(
+            ErrorKind::InvalidInput,
+            "it is no file but a device, a pipe or a folder",
+        ));
+    }
+    let mut bytes = Vec::new(rt.alloc());
+    let mut file = fs::open(rt, name)?;
+    file.take(found.len()).read_to_end(&mut bytes)?;
+    Ok(bytes)
+}
 
 /// The file of a run's checkpoints.
 #[derive(Drop)]
@@ -66,7 +82,7 @@ impl CheckpointFile {
     pub fn load(&mut self, rt: &impl LockableFiles) -> Result<Option<Checkpoint>, HostError>
         ensures { IfErr result (IsFileRefusal (string_bytes self.old.name)) }
     {
-        let bytes = match fs::read(rt, self.name.as_str()) {
+        let bytes = match kept_bytes(rt, self.name.as_str()) {
             Ok(bytes) => bytes,
             Err(reason) if reason.kind() == ErrorKind::NotFound => return Ok(None),
             Err(reason) => return Err(unreadable(self.name.as_str(), reason)),

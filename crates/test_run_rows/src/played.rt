@@ -55,7 +55,10 @@ impl Programs {
     }
 
     /// The saved machine that goes on, if there is one.
-    fn saved_if_any(&self, alloc: Global) -> Result<Option<Box<SavedMachine>>, RowFault> {
+    pub(crate) fn saved_if_any(
+        &self,
+        alloc: Global,
+    ) -> Result<Option<Box<SavedMachine>>, RowFault> {
         let Some(saving) = &self.saving else {
             return Ok(None);
         };

@@ -81,6 +81,7 @@ impl Scene for Programs {
                 | "live-end"
                 | "prompt"
                 | "save"
+                | "saved"
                 | "go-on"
         )
     }
@@ -118,7 +119,7 @@ impl Scene for Programs {
             | "early"
             | "live-end" => self.look(alloc, line),
             "left" => self.left(alloc, line.arguments()),
-            "asm" | "asm-listed" | "list" | "check" | "debug" => self.write(alloc, line),
+            "asm" | "asm-listed" | "list" | "check" | "debug" | "saved" => self.write(alloc, line),
             "com" | "type" | "replay" | "go-on" => self.play(alloc, line),
             _ => self.images.act(alloc, line),
         }

@@ -1,8 +1,10 @@
-//! The commands that write texts: the assembler, the lister, the check and the debugger.
+//! The commands that write texts: the assembler, the lister, the check, the debugger, and what a saved machine is.
 
 use crate::given::bytes_given;
 use crate::programs::Programs;
-use cpm_host::{HostError, debug_start, run_asm, run_asm_listed, run_check, run_debug, run_list};
+use cpm_host::{
+    HostError, debug_start, run_asm, run_asm_listed, run_check, run_debug, run_list, run_saved,
+};
 use std::alloc::Global;
 use test_language::{RowAnswer, RowFault, RowLine};
 
@@ -19,6 +21,7 @@ impl Programs {
             "asm-listed" => self.asm_listed(alloc),
             "list" => self.list(alloc),
             "check" => self.check(alloc, line),
+            "saved" => self.saved(alloc),
             _ => self.debug(alloc, line),
         }
     }
@@ -84,6 +87,15 @@ impl Programs {
                 Ok(RowAnswer::Refused(format!(in alloc; "{code} {error}")?))
             }
         }
+    }
+
+    /// `saved`: what the saved machine is that goes on.
+    fn saved(&mut self, alloc: Global) -> Result<RowAnswer, RowFault> {
+        let Some(saved) = self.saved_if_any(alloc)? else {
+            return Err(RowFault::Absent);
+        };
+        let outcome = run_saved(alloc, Box::into_inner(saved), &mut self.out);
+        self.wrote(alloc, outcome)
     }
 
     /// `debug BYTES`: what the debugger answers to these orders, with the program and its listing, or with the saved machine that goes on. Without bytes: to

@@ -1,4 +1,4 @@
 use Rattle.cpm_batch.proofs.saved.restored_machine.Goals as goal
 
 pub returns-in-Err-clause-refusal : goal.returns-in-Err-clause-refusal
-returns-in-Err-clause-refusal c = c.unread.ensures c.args.bytes.now c.in-Err.ensures.refused
+returns-in-Err-clause-refusal c = c.unread.ensures c.in-Err.ensures.refused

@@ -1,10 +1,10 @@
 use Rattle.std.proofs.Common.{◌≡◌, ◌∙◌, ◌∷◌, [], ap, List, Option, Some, map, option_map, subst, sym, take, ◌+◌}
 use Rattle.std.proofs.lemmas.List.{map-append}
-use Rattle.std.specs.Prelude.{IfSome}
 use Rattle.cpm_checkpoint.specs.CheckpointBytes.{session_value, session_values}
 use Rattle.cpm_checkpoint.specs.declared.checkpoint.CheckpointSession.{CheckpointSession}
 use Rattle.cpm_run.specs.Kept.{kept_view, standing_view}
-use Rattle.cpm_run.specs.Rest.{standing_if_begun, standing_read}
+use Rattle.cpm_run.specs.Rest.{standing_read}
+use Rattle.cpm_run.specs.declared.standing.KeptSession.{KeptSession}
 use Rattle.cpm_run.proofs.CheckpointLemmas.{read-more}
 use Rattle.cpm_run.proofs.checkpoint.kept_sessions.Goals as goal
 
@@ -16,5 +16,5 @@ loop-session-preserved c =
     (read-more c.deref-session-items.result.now i c.session-item.result (standing_view c.loop-session.kept.items) (standing_view c.push.new.self.items) (option_map kept_view c.in-Some.session)
     c.loop-session-test.true c.session-item.is
     (subst (λ (cs : List (Option CheckpointSession)). standing_read (session_values (take i cs)) ≡ Some (standing_view c.loop-session.kept.items)) (sym c.deref-session-items.ensures.value) c.loop-session.invariant)
-    (subst (λ k. IfSome k (λ s. standing_if_begun (option_map session_value c.session-item.result) ≡ Some (option_map kept_view s))) c.in-Some.is c.in_ok-session.ensures)
+    (c.in_ok-session.ensures ∙ ap (option_map (λ (s : Option KeptSession). option_map kept_view s)) c.in-Some.is)
     (ap standing_view c.in_ok-push.ensures.items ∙ map-append (option_map kept_view) c.loop-session.kept.items (c.in-Some.session ∷ [])))

@@ -5,7 +5,7 @@ use Rattle.cpm_play.specs.Players.{AllDiffer, AllReady}
 use Rattle.cpm_play.specs.declared.player.Player.{Player}
 use Rattle.cpm_run.proofs.FinishLemmas.{all_finished, written_back}
 use Rattle.cpm_run.proofs.PlayLemmas.{all_ready, fork_refused, has_room}
-use Rattle.cpm_run.specs.Playing.{ArePressable}
+use Rattle.cpm_run.specs.Pressable.{ArePressable}
 use Rattle.cpm_run.specs.Settled.{settled_view, starts_of}
 use Rattle.cpm_run.proofs.play.play_all.Goals as goal
 

@@ -1,7 +1,6 @@
 use Rattle.std.specs.Prelude.{map}
 use Rattle.cpm_run.proofs.PressableLemmas.{one-there, pressable-all, pressable-more}
-use Rattle.cpm_run.specs.Kept.{HasFewKeys}
-use Rattle.cpm_run.specs.Playing.{IsPressableBy}
+use Rattle.cpm_run.specs.Pressable.{HasFewKeys, IsPressableBy}
 use Rattle.cpm_run.specs.Settled.{SettledSession, settled_view}
 use Rattle.cpm_run.proofs.pressable.are_pressable.Goals as goal
 

@@ -1,7 +1,7 @@
 use Rattle.std.proofs.Common.{◌<◌, ℕ, map, slice_get}
 use Rattle.std.specs.Prelude.{IfSome}
 use Rattle.cpm_geom.specs.Disk.{Disk}
-use Rattle.cpm_run.specs.Playing.{IsPressableBy}
+use Rattle.cpm_run.specs.Pressable.{IsPressableBy}
 use Rattle.cpm_run.specs.Settled.{settled_view}
 use Rattle.cpm_run.proofs.pressable.are_pressable.Given as goal
 

@@ -70,13 +70,13 @@ returns-in_err-write_files-clause-refusal g c =
     let settled = map settled_view c.in_ok-settled.settled.items in
     let h = c.in_ok-settled.ensures.settled in
     let p = c.in_ok-report.ensures.played in
-    let are = ap (map named_output) c.as_slice.ensures.value ∙ p.written in
+    let are = ap (map named_output) c.as_slice.ensures.value ∙ p.left.1 in
     let r = c.in_err-write_files.ensures.refusal in
     let runnable : IsRunnable config c.args.options = record { faultless = sym c.in_default.ensures; place = c.in_ok-typed.typed; typable = c.in_ok-typed.ensures.place } in
     rw (e.1, e.2) (write_refused (record { does = g.S.Store.does; files = g.S.Store.files }) config c.args.options _ (parts_by config c.args.options _ system inputs settled h p.from) c.args.store.now c.read_inputs.new.store c.write_files.new.store
     (map named_output c.as_slice.result.now) r.0 c.in_err-write_files.field-0.0 runnable
     (record { held = c.in_ok-system.ensures.read; same = c.read_inputs.ensures.store.same; calls = c.in_ok-system.ensures.log })
-    (are_parts config c.args.options _ system inputs settled h p.from p.kept) are r.1 r.2 r.3)
+    (are_parts config c.args.options _ system inputs settled h p.from p.gone) are r.1 r.2 r.3)
 
 pub returns-clause-run : goal.returns-clause-run
 returns-clause-run g c =
@@ -86,16 +86,16 @@ returns-clause-run g c =
     let settled = map settled_view c.in_ok-settled.settled.items in
     let h = c.in_ok-settled.ensures.settled in
     let p = c.in_ok-report.ensures.played in
-    let are = ap (map named_output) c.as_slice.ensures.value ∙ p.written in
+    let are = ap (map named_output) c.as_slice.ensures.value ∙ p.left.1 in
     record {
       parts = parts_by config c.args.options _ system inputs settled h p.from;
       between = c.read_inputs.new.store;
       faultless = sym c.in_default.ensures;
       read = record { held = c.in_ok-system.ensures.read; same = c.read_inputs.ensures.store.same; calls = c.in_ok-system.ensures.log };
-      played = are_parts config c.args.options _ system inputs settled h p.from p.kept;
+      played = are_parts config c.args.options _ system inputs settled h p.from p.gone;
       replays = all_give system settled c.in_ok-settled.ensures.sound;
       orders = all_ordered system settled c.in_ok-settled.ensures.sound;
       savings = p.savings;
       wrote = written_as _ _ _ _ _ are c.in_ok-write_files.ensures.written;
-      reported = p.reported;
+      reported = p.left.0;
     }

@@ -5,7 +5,7 @@ use Rattle.cpm_listing.specs.Registers.{regs_line}
 use Rattle.cpm_batch.specs.Savings.{saving_view}
 use Rattle.cpm_host.specs.SavedText.{processor_word, program_words}
 use Rattle.cpm_host.proofs.SavedTextLemmas.{text_joined}
-use Rattle.cpm_host.proofs.saved_text.machine_text.Goals as goal
+use Rattle.cpm_host.proofs.saved_text.head_text.Goals as goal
 
 pub returns : goal.returns
 returns c =
