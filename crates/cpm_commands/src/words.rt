@@ -126,8 +126,10 @@ fn do_order<D: TaskDoer>(alloc: Global, words: &[&str], doer: &mut D) -> Result<
 fn tell_version<W: Write>(out: &mut W) -> Result<u8, HostError>
     ensures { IsVersionTold W.contents out.old out.new result }
 {
-    print_text(out, VERSION)?;
-    Ok(0)
+    match print_text(out, VERSION) {
+        Ok(()) => Ok(0),
+        Err(error) => Err(error),
+    }
 }
 
 /// Does what words ask for, which begin with the program's own name, and gives the exit status.
