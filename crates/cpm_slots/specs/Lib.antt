@@ -8,4 +8,3 @@ pub mod HostWithStore
 pub mod Laws
 pub mod Restoring
 pub mod Drives
-pub mod Remaking
