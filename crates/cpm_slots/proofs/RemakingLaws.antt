@@ -70,7 +70,7 @@ remade : (h : Host) (rest done : List SlotState) (at : ℕ) (parts : List HostPa
     with_parts (half h at done) parts ≡ half h h.openings (done ++ rest)
 remade h [] done at parts ordered below within few quotas last are =
     ap (with_parts (half h at done)) are ∙ numbered h at h.openings done within ∙ ap (half h h.openings) (sym (append-nil done))
-remade h (x ∷ xs) done at parts ordered below within few quotas last (rest, (slot, more)) =
+remade h (x ∷ xs) done at parts ordered below within few quotas last (rest, slot, more) =
     let next : IsNext h done x xs = record { few = few; quotas = quotas; below = below.0; last = last } in
     let joined : (done ++ x ∷ []) ++ xs ≡ done ++ x ∷ xs = append_assoc done (x ∷ []) xs in
     ap (with_parts (half h at done)) slot.are
