@@ -47,8 +47,8 @@ pub record HasServed {F : Type 0} (does : F → StoreAccess → F → Type 0) (t
   pub lines : talked made left
 
 -- it was not made, and nothing was served; or some lines were, so
-pub data IsServiceEnded {F : Type 0} (does : F → StoreAccess → F → Type 0) (talked_partly : Host → Host → Type 0) (idle : Type 0) (task : ServeTask) (old new : F)
-    (e : HostError) : Type 0 where
+pub data IsServiceEnded {F : Type 0} (does : F → StoreAccess → F → Type 0) (talked_partly : Host → Host → Type 0) (idle : Type 0) (task : ServeTask)
+    (old new : F) (e : HostError) : Type 0 where
   NotMade : IsHostUnbegun does task old new e → idle → IsServiceEnded does talked_partly idle task old new e
   CutOff : (made left : Host) (error : TalkError) → e ≡ host_error_of_talk error → IsHostBegun does task old new made → talked_partly made left
       → IsServiceEnded does talked_partly idle task old new e

@@ -11,7 +11,7 @@ use Rattle.serde_json.specs.declared.value.Value.{Value}
 use Rattle.serde_json.specs.Read.{max_depth}
 use Rattle.hex.proofs.HexLemmas.{decode_of-encode_lower}
 use Rattle.serde_json.proofs.OnLiterals.{serde_json_on_literals}
-use Rattle.cpm_journal.specs.Entries.{AreLinesOf, IsKeepable, KeptEntry, KeptNumber, KeptRequest, KeptSaving, count_members, decoded_or_none, entries_read, entry_json, entry_of}
+use Rattle.cpm_journal.specs.Entries.{AreLinesOf, IsKeepable, KeptEntry, KeptNumber, KeptRequest, KeptSaving, count_members, decoded_or_none, entries_read, entry_json, journal_entry_of}
 use Rattle.cpm_journal.specs.Laws.{EntriesBack, EntryLinesBack, HeadsBack, JournalsBack, TornJournalsBack}
 use Rattle.cpm_journal.proofs.LineLaws.{AreOneLine, cut-lines, none-torn, whole-lines}
 
@@ -32,7 +32,7 @@ depth-kept (KeptSaving bytes) h = omega arith
 depth-kept (KeptNumber next) h = omega arith
 
 pub lines-back : EntryLinesBack
-lines-back e line h k = ap (option_and_then entry_of) (k.back (depth-kept e h)) ∙ entries-back e h
+lines-back e line h k = ap (option_and_then journal_entry_of) (k.back (depth-kept e h)) ∙ entries-back e h
 
 pub heads-back : HeadsBack
 unfolding serde_json_on_literals

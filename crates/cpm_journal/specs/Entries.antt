@@ -63,8 +63,8 @@ entry_alone None (Some d) = option_map KeptNumber (number_in d)
 entry_alone None None = None
 
 -- The entry that a value is. What has a member `do` is a request.
-abbrev pub entry_of : Data → Option KeptEntry
-entry_of d =
+abbrev pub journal_entry_of : Data → Option KeptEntry
+journal_entry_of d =
     if is_some (get (codes "do") d) then Some (KeptRequest d) else
     if members_in d == 1 then entry_alone (get (codes "restore") d) (get (codes "number") d) else None
 
@@ -80,7 +80,7 @@ IsKeepable (KeptNumber next) = next < 2 ^ 64
 
 -- the entry that a line is
 abbrev pub entry_read : List ℕ → Option KeptEntry
-entry_read line = option_and_then entry_of (read line)
+entry_read line = option_and_then journal_entry_of (read line)
 
 -- a text is the line of a value: it is one line, what is read of it is the value, and where that has no float it is the text with no space
 pub record IsLineOf (d : Data) (text : List ℕ) : Type 0 where
@@ -100,15 +100,15 @@ close_json slot = object (member (codes "do") (string (codes "close")) (member (
 
 -- ---- what the code reads
 
-abbrev pub entry_seen : JournalEntry → KeptEntry
-entry_seen (code.Request value) = KeptRequest (view value)
-entry_seen (code.Restore bytes) = KeptSaving bytes.items
-entry_seen (code.Number next) = KeptNumber next
+abbrev pub journal_entry_seen : JournalEntry → KeptEntry
+journal_entry_seen (code.Request value) = KeptRequest (view value)
+journal_entry_seen (code.Restore bytes) = KeptSaving bytes.items
+journal_entry_seen (code.Number next) = KeptNumber next
 
 -- A line is no entry where it is no JSON, or its value is none. There may be no memory for one that has a byte.
 abbrev pub IsEntryRefusal : List ℕ → EntryFault → Type 0
 IsEntryRefusal line (fault.NoJson at) = IsUtf8 line → read line ≡ None
-IsEntryRefusal line fault.NoEntry = (d : Data) × (read line ≡ Some d) × (entry_of d ≡ None)
+IsEntryRefusal line fault.NoEntry = (d : Data) × (read line ≡ Some d) × (journal_entry_of d ≡ None)
 IsEntryRefusal line fault.OutOfMemory = ⊤
 
 -- ---- a whole journal behind its head

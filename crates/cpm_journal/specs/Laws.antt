@@ -1,14 +1,14 @@
 -- The laws of a journal: what is written of it is read. All of it is own.
 use Rattle.std.specs.Prelude.{◌≡◌, ◌≤◌, ℕ, List, [], length, take, Some, None}
 use Rattle.std.specs.List.{AllByRecursion}
-use Rattle.cpm_journal.specs.Entries.{AreLinesOf, IsKeepable, IsLineOf, KeptEntry, entries_read, entry_json, entry_of, entry_read}
+use Rattle.cpm_journal.specs.Entries.{AreLinesOf, IsKeepable, IsLineOf, KeptEntry, entries_read, entry_json, journal_entry_of, entry_read}
 use Rattle.cpm_journal.specs.Heads.{head_fault, head_json}
 use Rattle.cpm_journal.specs.Lines.{journal_lines, line_torn, lines_text}
 use Rattle.cpm_journal.specs.declared.head.JournalHead.{JournalHead}
 
 -- an entry is read of its value
 abbrev pub EntriesBack : Type 0
-EntriesBack = (e : KeptEntry) → IsKeepable e → entry_of (entry_json e) ≡ Some e
+EntriesBack = (e : KeptEntry) → IsKeepable e → journal_entry_of (entry_json e) ≡ Some e
 
 -- and of its line
 abbrev pub EntryLinesBack : Type 0

@@ -2,8 +2,8 @@
 ghost use Rattle.std.specs.Prelude.{◌≡◌, IfErr, IfOk, IsUtf8, Some, codes, option_map};
 ghost use Rattle.serde_json.specs.Find.{get};
 ghost use Rattle.serde_json.specs.View.{view};
-ghost use Rattle.cpm_journal.specs.Entries.{IsEntryRefusal, KeptNumber, KeptSaving, entry_alone, entry_of, entry_read, entry_seen, hex_bytes_in};
-ghost use Rattle.cpm_journal.specs.Entries.{members_in, number_in};
+ghost use Rattle.cpm_journal.specs.Entries.{IsEntryRefusal, KeptNumber, KeptSaving, entry_alone, entry_read, hex_bytes_in};
+ghost use Rattle.cpm_journal.specs.Entries.{journal_entry_of, journal_entry_seen, members_in, number_in};
 
 use hex::FromHexError;
 use serde_json::Value;
@@ -60,7 +60,7 @@ fn bytes_in(alloc: Global, value: &Value) -> Result<Option<Vec<u8>>, AllocError>
 
 /// The entry of a saving, if this is the text of one.
 fn saving_entry(alloc: Global, value: &Value) -> Result<Option<JournalEntry>, AllocError>
-    ensures { IfOk result (λ r. option_map entry_seen r ≡ option_map KeptSaving (hex_bytes_in (view value.now))) }
+    ensures { IfOk result (λ r. option_map journal_entry_seen r ≡ option_map KeptSaving (hex_bytes_in (view value.now))) }
 {
     match bytes_in(alloc, value)? {
         Some(bytes) => Ok(Some(JournalEntry::Restore(bytes))),
@@ -70,7 +70,7 @@ fn saving_entry(alloc: Global, value: &Value) -> Result<Option<JournalEntry>, Al
 
 /// The entry of a number, if this is one.
 fn number_entry(value: &Value) -> Option<JournalEntry>
-    ensures { option_map entry_seen result ≡ option_map KeptNumber (number_in (view value.now)) }
+    ensures { option_map journal_entry_seen result ≡ option_map KeptNumber (number_in (view value.now)) }
 {
     match value.as_u64() {
         Some(number) => Some(JournalEntry::Number(number)),
@@ -80,7 +80,8 @@ fn number_entry(value: &Value) -> Option<JournalEntry>
 
 /// The entry of an only member.
 fn entry_alone(alloc: Global, value: &Value) -> Result<Option<JournalEntry>, AllocError>
-    ensures { IfOk result (λ r. option_map entry_seen r ≡ entry_alone (get (codes "restore") (view value.now)) (get (codes "number") (view value.now))) }
+    ensures { IfOk result (λ r. option_map journal_entry_seen r
+        ≡ entry_alone (get (codes "restore") (view value.now)) (get (codes "number") (view value.now))) }
 {
     if let Some(saving) = value.get("restore") {
         return saving_entry(alloc, saving);
@@ -93,7 +94,7 @@ fn entry_alone(alloc: Global, value: &Value) -> Result<Option<JournalEntry>, All
 
 /// The entry that a value is, if it is one.
 fn entry_of(alloc: Global, value: Value) -> Result<Option<JournalEntry>, AllocError>
-    ensures { IfOk result (λ r. option_map entry_seen r ≡ entry_of (view value)) }
+    ensures { IfOk result (λ r. option_map journal_entry_seen r ≡ journal_entry_of (view value)) }
 {
     if value.get("do").is_some() {
         return Ok(Some(JournalEntry::Request(value)));
@@ -108,7 +109,7 @@ fn entry_of(alloc: Global, value: Value) -> Result<Option<JournalEntry>, AllocEr
 impl JournalEntry {
     /// The entry that a line is. It is refused where the line is no JSON, then where its value is no entry; and if out of memory.
     pub fn read(alloc: Global, line: &[u8]) -> Result<JournalEntry, EntryFault>
-        ensures read { IfOk result (λ e. IsUtf8 line.now × (entry_read line.now ≡ Some (entry_seen e))) }
+        ensures read { IfOk result (λ e. IsUtf8 line.now × (entry_read line.now ≡ Some (journal_entry_seen e))) }
         ensures refused { IfErr result (IsEntryRefusal line.now) }
     {
         match Value::from_slice(alloc, line) {

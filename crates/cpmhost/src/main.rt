@@ -28,6 +28,7 @@ mod task;
 mod tempo;
 mod terminal;
 mod typing;
+mod wanted;
 
 use cpm_commands::{do_line, outcome_status};
 use cpm_host::HostError;

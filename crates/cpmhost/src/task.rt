@@ -5,8 +5,6 @@ ghost use Rattle.cpm_command_line.specs.Line.{HasUsers};
 ghost use Rattle.cpm_commands.specs.TaskOver.{IsTaskEnded, IsTaskOutcome, IsTypedTaskEnded, workplace};
 ghost use Rattle.cpm_play.specs.Typist.{TypingState};
 
-use crate::batch::Batch;
-use crate::bounds::FileRules;
 use crate::files::MachineFiles;
 use crate::held::LockableFiles;
 use crate::kept::{CheckpointFile, load_if_any};
@@ -20,10 +18,13 @@ use crate::screen::{Lines, Screen};
 use crate::service_folder::ServiceFolder;
 use crate::terminal::{TerminalTypist, TypingOutput};
 use crate::typing::Terminals;
+use crate::wanted::{
+    drops_disks, files_of, folders_of, has_progress, is_raw, pace_of, pace_of_program, record_of,
+    takes_raw,
+};
 use cpm_commands::{CommandFiles, KeyRecord, Messages, TaskDoer};
-use cpm_host::{HostError, KeyReader, RunTask, Store, Task, Typist};
+use cpm_host::{HostError, KeyReader, Store, Task, Typist};
 use cpm_serve::Folder;
-use std::alloc::{AllocError, Global};
 use std::cell::Cell;
 use std::io;
 use std::io::{BufReader, BufWriter, Read, Write};
@@ -274,7 +275,6 @@ fn do_over<R: LockableFiles + StandardInput, F: CommandFiles, K: KeyRecord, P: T
     );
     let mut lines = Lines::new(screen, &is_at_line_start);
     let form = Form::of(has_progress(task), terminals.is_error_terminal);
-    let pace = pace_of_program(task);
     let mut checkpoints = CheckpointFile::of(rt, outputs, task)?;
     let stood = load_if_any(rt, &mut checkpoints)?;
     let mut teller = Teller::new(
@@ -283,7 +283,7 @@ fn do_over<R: LockableFiles + StandardInput, F: CommandFiles, K: KeyRecord, P: T
         terminals,
         &is_at_line_start,
         keys,
-        pace,
+        pace_of_program(task),
         checkpoints,
     );
     let Ok(mut input) = BufReader::new(rt.alloc(), PatientInput::new(rt)) else {
@@ -311,110 +311,4 @@ fn do_over<R: LockableFiles + StandardInput, F: CommandFiles, K: KeyRecord, P: T
         teller.end_task(drops_disks(task));
     }
     done
-}
-
-/// The folder of a service, if it has one.
-fn folders_of<'a>(alloc: Global, task: &Task<'a>) -> Result<Vec<&'a str>, AllocError> {
-    let mut folders = Vec::new(alloc);
-    if let Task::Serve(task) = task
-        && let Some(folder) = task.folder
-    {
-        folders.push(folder)?;
-    }
-    Ok(folders)
-}
-
-/// The files of a task.
-fn files_of<'a, R: LockableFiles>(
-    rt: &'a R,
-    outputs: Outputs,
-    task: &'a Task<'_>,
-) -> MachineFiles<'a, R> {
-    let (rules, shows_controls) = match task {
-        Task::Com(task) | Task::Boot(task) => {
-            (FileRules::of_program(task.is_live), !task.is_raw)
-        }
-        Task::Run(task) => (rules_of(task), !task.is_raw),
-        _ => return MachineFiles::plain(rt, outputs),
-    };
-    MachineFiles::new(
-        rt,
-        outputs,
-        rules,
-        shows_controls,
-        Batch::of_played(rt, outputs),
-    )
-}
-
-/// Where the files of a run may lie.
-fn rules_of<'a>(task: &'a RunTask<'_>) -> FileRules<'a> {
-    FileRules {
-        folders: &task.folders,
-        has_outputs_here: task.has_outputs_here,
-        scripts: task.scripts,
-        is_typed_at: task.keyboard.is_some(),
-        waits_for_others: true,
-    }
-}
-
-/// The file for what is typed, if there is one.
-fn record_of<'a>(task: &'a Task<'_>) -> Option<&'a str> {
-    match task {
-        Task::Com(task) | Task::Boot(task) => task.record,
-        Task::Run(task) => task.record,
-        _ => None,
-    }
-}
-
-/// Whether a task has the option that control bytes of a program go to a terminal as they are.
-fn takes_raw(task: &Task<'_>) -> bool {
-    matches!(task, Task::Com(_) | Task::Boot(_) | Task::Run(_))
-}
-
-/// Whether one types at disks that are written nowhere, nor saved. (The blank one of a program that has no other is hardly missed.)
-fn drops_disks(task: &Task<'_>) -> bool {
-    match task {
-        Task::Com(task) | Task::Boot(task) => {
-            let has_disks = task.file.is_none() || !task.drives.is_empty();
-            let is_kept = !task.outs.is_empty()
-                || !task.out_folders.is_empty()
-                || task.save.is_some();
-            task.is_live && has_disks && !is_kept
-        }
-        _ => false,
-    }
-}
-
-/// Whether control bytes of a program go to a terminal as they are.
-fn is_raw(task: &Task<'_>) -> bool {
-    match task {
-        Task::Com(task) | Task::Boot(task) => task.is_raw,
-        Task::Run(task) => task.is_raw,
-        _ => false,
-    }
-}
-
-/// Whether it is told how far it has come.
-fn has_progress(task: &Task<'_>) -> bool {
-    match task {
-        Task::Com(task) | Task::Boot(task) => task.has_progress,
-        Task::Run(task) => task.has_progress,
-        _ => false,
-    }
-}
-
-/// How many thousand steps pass in a second at most of a program.
-fn pace_of_program(task: &Task<'_>) -> Option<u64> {
-    match task {
-        Task::Com(task) | Task::Boot(task) => task.pace,
-        _ => None,
-    }
-}
-
-/// How many pass in a second at most where one types.
-fn pace_of(task: &Task<'_>) -> Option<u64> {
-    match task {
-        Task::Run(task) => task.pace,
-        _ => pace_of_program(task),
-    }
 }

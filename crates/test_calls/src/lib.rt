@@ -8,6 +8,8 @@ mod checkpoints;
 #[cfg(test)]
 mod disks;
 #[cfg(test)]
+mod entries;
+#[cfg(test)]
 mod machines;
 #[cfg(test)]
 mod protocol;
