@@ -263,8 +263,8 @@ fn do_over<R: LockableFiles + StandardInput, F: CommandFiles, K: KeyRecord, P: T
         (workplace files.old «record».old (P.typing typist.old)) (workplace files.new «record».new (P.typing typist.new)) task.now result }
 {
     let is_at_line_start = Cell::new(true);
-    let output = TypingOutput::new(PatientOutput::new(rt), lost);
-    let Ok(writer) = BufWriter::new(rt.alloc(), output) else {
+    let Ok(writer) = BufWriter::new(rt.alloc(), TypingOutput::new(PatientOutput::new(rt), lost))
+    else {
         return Err(HostError::OutOfMemory);
     };
     let has_shown_escape = Cell::new(false);
@@ -274,12 +274,11 @@ fn do_over<R: LockableFiles + StandardInput, F: CommandFiles, K: KeyRecord, P: T
         Some(&has_shown_escape),
     );
     let mut lines = Lines::new(screen, &is_at_line_start);
-    let form = Form::of(has_progress(task), terminals.is_error_terminal);
     let mut checkpoints = CheckpointFile::of(rt, outputs, task)?;
     let stood = load_if_any(rt, &mut checkpoints)?;
     let mut teller = Teller::new(
         rt,
-        form,
+        Form::of(has_progress(task), terminals.is_error_terminal),
         terminals,
         &is_at_line_start,
         keys,
