@@ -268,11 +268,8 @@ fn do_over<R: LockableFiles + StandardInput, F: CommandFiles, K: KeyRecord, P: T
         return Err(HostError::OutOfMemory);
     };
     let has_shown_escape = Cell::new(false);
-    let screen = Screen::new(
-        writer,
-        terminals.shows_controls(is_raw(task)),
-        Some(&has_shown_escape),
-    );
+    let shows_controls = terminals.shows_controls(is_raw(task));
+    let screen = Screen::new(writer, shows_controls, Some(&has_shown_escape));
     let mut lines = Lines::new(screen, &is_at_line_start);
     let mut checkpoints = CheckpointFile::of(rt, outputs, task)?;
     let stood = load_if_any(rt, &mut checkpoints)?;
