@@ -20,9 +20,9 @@ request_wrong fault = Err fault
 
 -- a request that needs no file
 pub plain-with : {F : Type 0} (does : F → FolderAccess → F → Type 0) (r : WireAsked) (old new : Host) (from : F) (a : Answered) →
-    ((lacked : Bool) → served_if lacked old r ≡ served_with_if lacked old [] no_work r) → accesses_of old [] no_work r ≡ [] → IsDiskWork r [] no_work →
-    IsRequestServed r old new a → IsRequestServedWith (AccessesLead does from from) r old new a
-plain-with does r old new from a same none work k = record {
+    IsRequestServed r old new a → ((lacked : Bool) → served_if lacked old r ≡ served_with_if lacked old [] no_work r) → accesses_of old [] no_work r ≡ [] → IsDiskWork r [] no_work →
+    IsRequestServedWith (AccessesLead does from from) r old new a
+plain-with does r old new from a k same none work = record {
   lacked = k.lacked;
   answers = [];
   made = no_work;

@@ -11,16 +11,16 @@ use Rattle.cpm_serve.specs.declared.folder.FolderError.TheVariants as error
 pub data FolderAnswer : Type 0 where
   Given : (bytes : List ℕ) → FolderAnswer
   Stored : FolderAnswer
-  Failed : (error : FolderError) → FolderAnswer
+  Failed : (fault : FolderError) → FolderAnswer
 
 -- An access: what was asked of a folder, and its answer. A file is held where it is replaced next.
 pub data FolderAccess : Type 0 where
   Gave : (name bytes : List ℕ) → FolderAccess
-  Unread : (name : List ℕ) (error : FolderError) → FolderAccess
+  Unread : (name : List ℕ) (fault : FolderError) → FolderAccess
   Held : (name bytes : List ℕ) → FolderAccess
-  Unheld : (name : List ℕ) (error : FolderError) → FolderAccess
+  Unheld : (name : List ℕ) (fault : FolderError) → FolderAccess
   Wrote : (files : List NamedBytes) → FolderAccess
-  Unwritten : (files : List NamedBytes) (error : FolderError) → FolderAccess
+  Unwritten : (files : List NamedBytes) (fault : FolderError) → FolderAccess
 
 -- ---- accesses by their answers; an answer to another question counts as a fault
 

@@ -4,25 +4,25 @@ use Rattle.cpm_serve.proofs.EventLemmas.{plain-with}
 use Rattle.cpm_serve.proofs.many.perform.Goals as goal
 
 pub returns-in-Key : goal.returns-in-Key
-returns-in-Key g c = plain-with g.F.Folder.does _ c.args.host.now.host c.press.new.host.host c.args.folder.now (owned_answer c.press.result) (λ lacked. refl) refl tt c.press.ensures
+returns-in-Key g c = plain-with g.F.Folder.does _ c.args.host.now.host c.press.new.host.host c.args.folder.now (owned_answer c.press.result) c.press.ensures (λ lacked. refl) refl tt
 
 pub returns-in-Grant : goal.returns-in-Grant
-returns-in-Grant g c = plain-with g.F.Folder.does _ c.args.host.now.host c.grant.new.host.host c.args.folder.now (owned_answer c.grant.result) (λ lacked. refl) refl tt c.grant.ensures
+returns-in-Grant g c = plain-with g.F.Folder.does _ c.args.host.now.host c.grant.new.host.host c.args.folder.now (owned_answer c.grant.result) c.grant.ensures (λ lacked. refl) refl tt
 
 pub returns-in-Take : goal.returns-in-Take
-returns-in-Take g c = plain-with g.F.Folder.does _ c.args.host.now.host c.take.new.host.host c.args.folder.now (owned_answer c.take.result) (λ lacked. refl) refl tt c.take.ensures
+returns-in-Take g c = plain-with g.F.Folder.does _ c.args.host.now.host c.take.new.host.host c.args.folder.now (owned_answer c.take.result) c.take.ensures (λ lacked. refl) refl tt
 
 pub returns-in-List : goal.returns-in-List
-returns-in-List g c = plain-with g.F.Folder.does _ c.args.host.now.host c.take-in-List.new.host.host c.args.folder.now (owned_answer c.take-in-List.result) (λ lacked. refl) refl tt c.take-in-List.ensures
+returns-in-List g c = plain-with g.F.Folder.does _ c.args.host.now.host c.take-in-List.new.host.host c.args.folder.now (owned_answer c.take-in-List.result) c.take-in-List.ensures (λ lacked. refl) refl tt
 
 pub returns-in-Look : goal.returns-in-Look
-returns-in-Look g c = plain-with g.F.Folder.does _ c.args.host.now.host c.look.new.host.host c.args.folder.now (owned_answer c.look.result) (λ lacked. refl) refl tt c.look.ensures
+returns-in-Look g c = plain-with g.F.Folder.does _ c.args.host.now.host c.look.new.host.host c.args.folder.now (owned_answer c.look.result) c.look.ensures (λ lacked. refl) refl tt
 
 pub returns-in-Peek : goal.returns-in-Peek
-returns-in-Peek g c = plain-with g.F.Folder.does _ c.args.host.now.host c.args.host.now.host c.args.folder.now (owned_answer c.peek.result) (λ lacked. refl) refl tt c.peek.ensures
+returns-in-Peek g c = plain-with g.F.Folder.does _ c.args.host.now.host c.args.host.now.host c.args.folder.now (owned_answer c.peek.result) c.peek.ensures (λ lacked. refl) refl tt
 
 pub returns-in-Fork : goal.returns-in-Fork
-returns-in-Fork g c = plain-with g.F.Folder.does _ c.args.host.now.host c.fork.new.host.host c.args.folder.now (owned_answer c.fork.result) (λ lacked. refl) refl tt c.fork.ensures
+returns-in-Fork g c = plain-with g.F.Folder.does _ c.args.host.now.host c.fork.new.host.host c.args.folder.now (owned_answer c.fork.result) c.fork.ensures (λ lacked. refl) refl tt
 
 pub returns-in-Turn : goal.returns-in-Turn
-returns-in-Turn g c = plain-with g.F.Folder.does _ c.args.host.now.host c.turn.new.host.host c.args.folder.now (owned_answer c.turn.result) (λ lacked. refl) refl tt c.turn.ensures
+returns-in-Turn g c = plain-with g.F.Folder.does _ c.args.host.now.host c.turn.new.host.host c.args.folder.now (owned_answer c.turn.result) c.turn.ensures (λ lacked. refl) refl tt
