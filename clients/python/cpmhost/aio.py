@@ -103,15 +103,12 @@ class AsyncHost:
         folder: Optional[str] = None,
         system: Optional[str] = None,
         frames: Optional[int] = None,
-        journal: Optional[str] = None,
-        resume: Optional[str] = None,
-        compact: bool = False,
         program: Optional[str] = None,
         streams: Optional[Tuple[asyncio.StreamReader, asyncio.StreamWriter]] = None,
     ) -> None:
         self.process: Optional[asyncio.subprocess.Process] = None
         self.files = AsyncFiles(self)
-        self._words = serve_words(program, folder, system, frames, journal, resume, compact)
+        self._words = serve_words(program, folder, system, frames)
         self._streams = streams
         self._asked: Deque["asyncio.Future[bytes]"] = deque()
         self._is_gone = False

@@ -120,9 +120,6 @@ class Host:
         folder: Optional[str] = None,
         system: Optional[str] = None,
         frames: Optional[int] = None,
-        journal: Optional[str] = None,
-        resume: Optional[str] = None,
-        compact: bool = False,
         program: Optional[str] = None,
         streams: Optional[Tuple[BinaryIO, BinaryIO]] = None,
     ) -> None:
@@ -131,7 +128,7 @@ class Host:
         if streams is not None:
             self._replies, self._requests = streams
             return
-        words = serve_words(program, folder, system, frames, journal, resume, compact)
+        words = serve_words(program, folder, system, frames)
         self.process = subprocess.Popen(words, stdin=subprocess.PIPE, stdout=subprocess.PIPE)
         assert self.process.stdin and self.process.stdout
         self._replies, self._requests = self.process.stdout, self.process.stdin  # type: ignore[assignment]

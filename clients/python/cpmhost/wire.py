@@ -36,17 +36,14 @@ def serve_words(
     folder: Optional[str] = None,
     system: Optional[str] = None,
     frames: Optional[int] = None,
-    journal: Optional[str] = None,
-    resume: Optional[str] = None,
-    compact: bool = False,
 ) -> List[str]:
     """The command that serves. The program is the one that the variable CPMHOST names, or else `cpmhost`."""
     words = [program or os.environ.get("CPMHOST", "cpmhost"), "serve"]
-    named = {"--folder": folder, "--system": system, "--frames": frames, "--journal": journal, "--resume": resume}
+    named = {"--folder": folder, "--system": system, "--frames": frames}
     for option, value in named.items():
         if value is not None:
             words += [option, str(value)]
-    return words + ["--compact"] * compact
+    return words
 
 
 def open_request(cpu: str, quota: int, drives: Sequence[str], from_file: Optional[str]) -> Request:
