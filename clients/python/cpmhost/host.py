@@ -113,7 +113,7 @@ class Files:
 
 
 class Host:
-    """A host: `cpmhost serve` in a process of its own, or whoever serves over two given streams, (replies, requests)."""
+    """A host: `cpmhost serve` in a process of its own, or whoever serves over two given streams, (replies, requests). One thread asks it at a time."""
 
     def __init__(
         self,
