@@ -1,5 +1,5 @@
 //! What the words of a command line ask for, done by whoever does tasks.
-ghost use Rattle.std.specs.Prelude.{◌≡◌, ◌⊎◌, ℕ, if◌then◌else◌, Err, IfErr, IfOk, List, Option, Result, map, option_map, string_bytes};
+ghost use Rattle.std.specs.Prelude.{◌≡◌, ◌⊎◌, ℕ, if◌then◌else◌, Err, IfOk, List, MatchResult, Option, Result, map, option_map, string_bytes};
 ghost use Rattle.cpm_command_line.specs.Line.{HasUsers};
 ghost use Rattle.cpm_command_line.specs.declared.task.Task.{Task};
 ghost use Rattle.cpm_commands.specs.Words.{IsCommandDone, IsLineDone, IsOrderDone, IsTypedAtTold, IsVersionTold, line_behind, order_of_words};
@@ -64,8 +64,7 @@ fn typed_at_status(alloc: Global, line: &[&str]) -> u8
 
 /// The same of a line that begins after the program's own name.
 fn tell_typed_at(alloc: Global, line: &[&str]) -> Result<u8, HostError>
-    ensures told { IfOk result (IsTypedAtTold (line_behind (map (λ w. w.now) line.now))) }
-    ensures refusal { IfErr result (λ e. e ≡ OutOfMemory) }
+    ensures { MatchResult result (IsTypedAtTold (line_behind (map (λ w. w.now) line.now))) (λ e. e ≡ OutOfMemory) }
 {
     let words = line_behind(alloc, line)?;
     Ok(typed_at_status(alloc, words.as_slice()))
