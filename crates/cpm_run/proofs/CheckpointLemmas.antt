@@ -31,6 +31,10 @@ both-none : (m : Option (Option SessionStanding)) → read-both m None ≡ None
 both-none None = refl
 both-none (Some a) = refl
 
+pub none_left : {A : Type 0} → (o : Option A) → ((x : A) → o ≡ Some x → ⊥) → o ≡ None
+none_left {A} None unless = refl
+none_left {A} (Some x) unless = absurd (unless x refl)
+
 -- one of the sessions of a checkpoint can't be read
 pub read-none : (cs : List (Option CheckpointSession)) (i : ℕ) (c : Option CheckpointSession) → i < length cs → c ≡ get_or cs i c → standing_if_begun (option_map session_value c) ≡ None
     → standing_read (session_values cs) ≡ None

@@ -1,5 +1,5 @@
 -- The rest of a run on its way, as the whole run on its way.
-use Rattle.std.proofs.Common.{◌≡◌, ◌∙◌, ◌+◌, ◌-◌, ◌^◌, ◌<◌, ◌≤◌, ◌++◌, ℕ, zero, suc, List, [], ◌∷◌, Option, None, Some, refl, sym, ap, ap₂, subst, arith, append-nil, append_assoc, length, map, take, drop, get_or, length-drop, slice_get}
+use Rattle.std.proofs.Common.{◌≡◌, ◌∙◌, ◌+◌, ◌-◌, ◌^◌, ◌<◌, ◌≤◌, ◌++◌, ℕ, zero, suc, List, [], ◌∷◌, Option, None, Some, refl, sym, ap, ap₂, subst, arith, append-nil, append_assoc, length, map, take, drop, get_or, length-drop, slice_get, Result, Ok, Err, IfOk}
 use Rattle.std.specs.Prelude.{IfSome, option_map}
 use Rattle.std.proofs.lemmas.List.{at_drop_all, drop_more, length-map, map-append}
 use Rattle.std.proofs.lemmas.Option.{none-some, same_Some}
@@ -394,3 +394,8 @@ pub none-left : (n : ℕ) (kept : List (Option KeptSession)) → [] ≡ drop n k
 none-left n [] none = omega arith
 none-left zero (k ∷ kept) none = absurd (let no : ⊥ = cc in no)
 none-left (suc n) (k ∷ kept) none = let h = none-left n kept none in omega (arith, h)
+
+-- a result that is so wherever two things hold
+pub swap-ok : {V E : Type 0} → (A B : Disk → Type 0) (P : V → Type 0) (r : Result V E) → ((system : Disk) → A system → B system → IfOk r P) → IfOk r (λ v. (system : Disk) → A system → B system → P v)
+swap-ok {V} {E} A B P (Ok v) f = f
+swap-ok {V} {E} A B P (Err e) f = tt

@@ -1,5 +1,5 @@
 -- The rest of a run in the code, and what is put in front of what it leaves.
-use Rattle.std.proofs.Common.{◌≡◌, ◌∙◌, ◌+◌, ◌<◌, ◌≤◌, ◌⊎◌, inl, inr, ◌++◌, ℕ, zero, suc, List, [], ◌∷◌, Option, None, Some, refl, sym, ap, ap₂, subst, arith, append-nil, append_assoc, drop, get_or, length, map, slice_get}
+use Rattle.std.proofs.Common.{◌≡◌, ◌∙◌, ◌+◌, ◌<◌, ◌≤◌, ◌⊎◌, inl, inr, ◌++◌, ℕ, zero, suc, List, [], ◌∷◌, Option, None, Some, refl, sym, ap, ap₂, subst, arith, append-nil, append_assoc, drop, get_or, length, map, slice_get, Result, Ok, Err, IfOk, OnOk}
 use Rattle.std.specs.Prelude.{IfSome, option_map}
 use Rattle.std.proofs.lemmas.Bool.{cases_lt}
 use Rattle.std.proofs.lemmas.List.{at_drop_all, drop_more, length-map, length_push, map-append}
@@ -220,14 +220,19 @@ left_anew system frames inputs s reports files cannot reported left savings = re
 -- it can't, by what was looked at before
 pub no_keys : (system : Disk) (frames : ℕ) (inputs sessions rest : List SettledSession) (s : RunStanding) → sessions ≡ inputs → rest ≡ rest_of sessions s
     → (AreOver system s → ArePressable system rest → HaveFewKeys rest → ⊥) → CanGoOn system frames inputs s → ⊥
-no_keys system frames inputs sessions rest s are is no can =
+no_keys system frames inputs sessions rest s are is refused can =
     let same : rest_of inputs s ≡ rest = ap (λ (xs : List SettledSession). rest_of xs s) (sym are) ∙ sym is in
-    no can.over (subst (ArePressable system) same can.keys) (subst HaveFewKeys same can.few)
+    refused can.over (subst (ArePressable system) same can.keys) (subst HaveFewKeys same can.few)
 
 -- it can't, since a host refuses what is left
 pub no_room : (system drive : Disk) (frames : ℕ) (inputs sessions rest : List SettledSession) (s : RunStanding) → drive ≡ system → sessions ≡ inputs → rest ≡ rest_of sessions s
     → (AllAccepted (starts_of rest) (new_host drive frames) (starts_of rest) → ⊥) → CanGoOn system frames inputs s → ⊥
-no_room system drive frames inputs sessions rest s over are is no can =
+no_room system drive frames inputs sessions rest s over are is refused can =
     let same : rest_of inputs s ≡ rest = ap (λ (xs : List SettledSession). rest_of xs s) (sym are) ∙ sym is in
-    no (subst (λ (d : Disk). AllAccepted (starts_of rest) (new_host d frames) (starts_of rest)) (sym over)
+    refused (subst (λ (d : Disk). AllAccepted (starts_of rest) (new_host d frames) (starts_of rest)) (sym over)
     (subst (λ (xs : List SettledSession). AllAccepted (starts_of xs) (new_host system frames) (starts_of xs)) same can.accepted))
+
+-- what holds of a result that is there, where something else does
+pub ok-by : {V E : Type 0} → (P : V → Type 0) (Q : Type 0) (r : Result V E) → OnOk r Q → (Q → (v : V) → P v) → IfOk r P
+ok-by {V} {E} P Q (Ok v) q f = f q v
+ok-by {V} {E} P Q (Err e) q f = tt

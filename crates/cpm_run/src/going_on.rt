@@ -150,6 +150,19 @@ fn whole_sessions<'a>(
     Ok((whole_reports, whole_files))
 }
 
+/// What is left of sessions whose playing is refused: nothing. It fails if that is out of memory.
+fn left_of_refused<'a>(
+    error: RunError,
+) -> Result<Option<(Vec<SessionReport>, Vec<SessionFiles<'a>>)>, AllocError>
+    ensures none { IfOk result (λ left. left ≡ None) }
+    ensures refused { OnOk result (error ≡ RunError.OutOfMemory → ⊥) }
+{
+    match error {
+        RunError::OutOfMemory => Err(AllocError),
+        _ => Ok(None),
+    }
+}
+
 /// Plays the rest of a run from where it stands, and gives what is left of all of it; nothing where a host refuses the rest.
 fn play_rest<'a, T: RunWatcher>(
     alloc: Global,
@@ -184,8 +197,7 @@ fn play_rest<'a, T: RunWatcher>(
     };
     let played = match play_all(alloc, config, system, rest, &mut keeper) {
         Ok(played) => played,
-        Err(RunError::OutOfMemory) => return Err(AllocError),
-        Err(_) => return Ok(None),
+        Err(error) => return left_of_refused(error),
     };
     let whole = whole_sessions(alloc, inputs, kept, played.0, played.1)?;
     Ok(Some(whole))
