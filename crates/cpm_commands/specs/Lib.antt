@@ -19,6 +19,5 @@ pub mod Report
 pub mod Run
 pub mod Saved
 pub mod Task
-pub mod TaskOver
 pub mod Typed
 pub mod Words
