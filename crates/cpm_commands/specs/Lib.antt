@@ -20,6 +20,5 @@ pub mod Run
 pub mod Saved
 pub mod Serve
 pub mod Task
-pub mod TaskOver
 pub mod Typed
 pub mod Words

@@ -1,7 +1,6 @@
 //! The files of a command.
 ghost use Rattle.std.specs.Prelude.{◌≡◌, Bool, List, Option, Some, None, IfErr, IfOk, OnOk, map, string_bytes};
-ghost use Rattle.cpm_commands.specs.Files.{AreUnwritten, AreWritten, IsNamingFault, IsPlanRefusal, IsUnread, IsUnwritten};
-ghost use Rattle.cpm_commands.specs.Files.{IsWritingStopped};
+ghost use Rattle.cpm_commands.specs.Files.{AreUnwritten, AreWritten, IsUnread, IsUnwritten, IsWritingStopped};
 ghost use Rattle.cpm_commands.specs.Plan.{Plan, plan_view};
 ghost use Rattle.cpm_host.specs.Refusals.{IsFileRefusal};
 ghost use Rattle.cpm_host.specs.declared.error.HostError.{HostError};
@@ -57,11 +56,6 @@ pub trait CommandFiles: Store {
     fn give_names(&mut self) -> Result<(), HostError>
         ensures named { OnOk result (gives_names self.old None self.new) }
         ensures refused { IfErr result (λ e. gives_names self.old (Some e) self.new) };
-
-    // A plan is refused for a file, whose name is told, or for want of memory; and so are names.
-    ghost sees_told: { (old : Self) (plan : Plan) (e : HostError) (new : Self) → sees_to old plan (Some e) new → IsPlanRefusal e };
-
-    ghost names_told: { (old : Self) (e : HostError) (new : Self) → gives_names old (Some e) new → IsNamingFault e };
 }
 
 /// All bytes of a file.

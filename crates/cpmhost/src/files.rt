@@ -322,8 +322,4 @@ impl<R: LockableFiles> CommandFiles for MachineFiles<'_, R> {
             Err(refused) => Err(self.keep(refused)),
         }
     }
-
-    ghost sees_told = { λ _ _ _ _ told. told };
-
-    ghost names_told = { λ _ _ _ told. told };
 }

@@ -1,9 +1,5 @@
 //! The checkpoints of a run: where its sessions stand, kept in a file beside its configuration, from which the same command goes on if it was ended.
 
-ghost use Rattle.std.specs.Prelude.{◌≡◌, IfErr, IfOk, option_map, string_bytes};
-ghost use Rattle.cpm_commands.specs.TaskOver.{IsCheckpointRefusal, checkpoint_name};
-ghost use Rattle.cpm_host.specs.Refusals.{IsFileRefusal};
-
 use crate::files::{unreadable, unwritable};
 use crate::held::{LockableFiles, Mark};
 use crate::output::{Outputs, PERMISSIONS};
@@ -52,10 +48,7 @@ impl CheckpointFile {
         rt: &impl LockableFiles,
         outputs: Outputs,
         task: &Task<'_>,
-    ) -> Result<Option<CheckpointFile>, HostError>
-        ensures named { IfOk result (λ found. option_map (λ c. string_bytes c.name) found ≡ checkpoint_name task.now) }
-        ensures refusal { IfErr result (IsCheckpointRefusal (checkpoint_name task.now)) }
-    {
+    ) -> Result<Option<CheckpointFile>, HostError> {
         let (config, every) = match task {
             Task::Run(task) => match task.checkpoint {
                 Some(every) => (task.config, every),
@@ -79,9 +72,7 @@ impl CheckpointFile {
     }
 
     /// The checkpoint in the file, if it is there. It is refused where the file has something else.
-    pub fn load(&mut self, rt: &impl LockableFiles) -> Result<Option<Checkpoint>, HostError>
-        ensures { IfErr result (IsFileRefusal (string_bytes self.old.name)) }
-    {
+    pub fn load(&mut self, rt: &impl LockableFiles) -> Result<Option<Checkpoint>, HostError> {
         let bytes = match kept_bytes(rt, self.name.as_str()) {
             Ok(bytes) => bytes,
             Err(reason) if reason.kind() == ErrorKind::NotFound => return Ok(None),
@@ -179,9 +170,7 @@ impl CheckpointFile {
 pub fn load_if_any(
     rt: &impl LockableFiles,
     checkpoints: &mut Option<CheckpointFile>,
-) -> Result<Option<Checkpoint>, HostError>
-    ensures { IfErr result (IsCheckpointRefusal (option_map (λ c. string_bytes c.name) checkpoints.old)) }
-{
+) -> Result<Option<Checkpoint>, HostError> {
     match checkpoints {
         Some(file) => file.load(rt),
         None => Ok(None),

@@ -1,9 +1,7 @@
 //! What a command line asks for, done: over which files, with which streams, and what is told on the way.
 
-ghost use Rattle.std.specs.Prelude.{◌≡◌};
+ghost use Rattle.std.specs.Prelude.{⊤, ◌≡◌};
 ghost use Rattle.cpm_command_line.specs.Line.{HasUsers};
-ghost use Rattle.cpm_commands.specs.TaskOver.{IsTaskEnded, IsTaskOutcome, IsTypedTaskEnded, workplace};
-ghost use Rattle.cpm_play.specs.Typist.{TypingState};
 
 use crate::files::MachineFiles;
 use crate::held::LockableFiles;
@@ -22,17 +20,11 @@ use crate::wanted::{
     drops_disks, files_of, folders_of, has_progress, is_raw, pace_of, pace_of_program, record_of,
     takes_raw,
 };
-use cpm_commands::{CommandFiles, KeyRecord, Messages, TaskDoer};
-use cpm_host::{HostError, KeyReader, Store, Task, Typist};
-use cpm_serve::Folder;
+use cpm_commands::TaskDoer;
+use cpm_host::{HostError, KeyReader, Task, Typist};
 use std::cell::Cell;
 use std::io;
-use std::io::{BufReader, BufWriter, Read, Write};
-
-/// Standard input as a command reads it, and standard output as it writes that.
-type TaskInput<'a, R> = BufReader<PatientInput<'a, R>>;
-
-type TaskOutput<'a, R> = Lines<'a, Screen<'a, BufWriter<TypingOutput<'a, PatientOutput<'a, R>>>>>;
+use std::io::{BufReader, BufWriter};
 
 /// Tasks that are done over the files and the streams of the machine.
 #[derive(Drop)]
@@ -67,27 +59,8 @@ impl<'a, R: LockableFiles + StandardInput> MachineTasks<'a, R> {
 }
 
 impl<R: LockableFiles + StandardInput> TaskDoer for MachineTasks<'_, R> {
-    // Which files the machine has, and what its streams take and give, isn't known.
-    ghost does_task = { λ _ _ task done _. IsTaskOutcome
-        (record {
-          does = ⟦<MachineFiles<'static, R> as Store>⟧.does;
-          files = ⟦<MachineFiles<'static, R> as Store>⟧.files;
-          sees_to = ⟦<MachineFiles<'static, R> as CommandFiles>⟧.sees_to;
-          gives_names = ⟦<MachineFiles<'static, R> as CommandFiles>⟧.gives_names;
-          tells_name = ⟦<MachineFiles<'static, R> as CommandFiles>⟧.tells_name;
-          tells_folder = ⟦<MachineFiles<'static, R> as CommandFiles>⟧.tells_folder;
-          lists = ⟦<MachineFiles<'static, R> as CommandFiles>⟧.lists;
-          unlists = ⟦<MachineFiles<'static, R> as CommandFiles>⟧.unlists;
-        })
-        (record {
-          remaining = ⟦<TaskInput<'static, R> as Read>⟧.remaining;
-          contents = ⟦<TaskOutput<'static, R> as Write>⟧.contents;
-          recorded = ⟦<Record<'static, R> as Write>⟧.contents;
-          ends = ⟦<Record<'static, R> as KeyRecord>⟧.ends;
-          tells = ⟦<Teller<'static, R> as Messages>⟧.tells;
-          is_read = ⟦<Teller<'static, R> as Messages>⟧.is_read;
-          accesses = ⟦<ServiceFolder<'static, R> as Folder>⟧.does;
-        }) task done };
+    // Of what becomes of a task on the machine nothing can be said.
+    ghost does_task = { λ _ _ _ _ _. ⊤ };
 
     fn do_task(&mut self, task: &Task<'_>, end: Option<&str>) -> Result<u8, HostError> {
         let (rt, outputs) = (self.rt, self.outputs);
@@ -124,38 +97,17 @@ impl<R: LockableFiles + StandardInput> TaskDoer for MachineTasks<'_, R> {
 /// Does it by the keys of a terminal, until a file of this name comes. Where standard output can't be written, that is refused once all else is done. (It is
 /// a function of its own, so that others need no room for the typist.)
 #[inline(never)]
-fn do_at_terminal<R: LockableFiles + StandardInput, F: CommandFiles, K: KeyRecord>(
-    rt: &R,
+fn do_at_terminal<'a, R: LockableFiles + StandardInput>(
+    rt: &'a R,
     outputs: Outputs,
     task: &Task<'_>,
     terminals: Terminals<'_>,
     end: &str,
-    files: &mut F,
-    record: &mut K,
+    files: &mut MachineFiles<'a, R>,
+    record: &mut Record<'_, R>,
     keys: &Cell<usize>,
 ) -> Result<u8, HostError>
     requires { HasUsers task.now }
-    ensures { (before after : TypingState) × IsTypedTaskEnded
-        (record {
-          does = F.does;
-          files = F.files;
-          sees_to = F.sees_to;
-          gives_names = F.gives_names;
-          tells_name = F.tells_name;
-          tells_folder = F.tells_folder;
-          lists = F.lists;
-          unlists = F.unlists;
-        })
-        (record {
-          remaining = ⟦<TaskInput<'static, R> as Read>⟧.remaining;
-          contents = ⟦<TaskOutput<'static, R> as Write>⟧.contents;
-          recorded = K.contents;
-          ends = K.ends;
-          tells = ⟦<Teller<'static, R> as Messages>⟧.tells;
-          is_read = ⟦<Teller<'static, R> as Messages>⟧.is_read;
-          accesses = ⟦<ServiceFolder<'static, R> as Folder>⟧.does;
-        })
-        (workplace files.old «record».old before) (workplace files.new «record».new after) task.now result }
 {
     let lost = Cell::new(None);
     let mut typist = TerminalTypist::new(rt, end, &lost, pace_of(task));
@@ -179,37 +131,16 @@ fn do_at_terminal<R: LockableFiles + StandardInput, F: CommandFiles, K: KeyRecor
 
 /// Does it by the keys of standard input, which is read where one is wanted.
 #[inline(never)]
-fn do_by_reads<R: LockableFiles + StandardInput, F: CommandFiles, K: KeyRecord>(
-    rt: &R,
+fn do_by_reads<'a, R: LockableFiles + StandardInput>(
+    rt: &'a R,
     outputs: Outputs,
     task: &Task<'_>,
     terminals: Terminals<'_>,
-    files: &mut F,
-    record: &mut K,
+    files: &mut MachineFiles<'a, R>,
+    record: &mut Record<'_, R>,
     keys: &Cell<usize>,
 ) -> Result<u8, HostError>
     requires { HasUsers task.now }
-    ensures { (before after : TypingState) × IsTaskEnded
-        (record {
-          does = F.does;
-          files = F.files;
-          sees_to = F.sees_to;
-          gives_names = F.gives_names;
-          tells_name = F.tells_name;
-          tells_folder = F.tells_folder;
-          lists = F.lists;
-          unlists = F.unlists;
-        })
-        (record {
-          remaining = ⟦<TaskInput<'static, R> as Read>⟧.remaining;
-          contents = ⟦<TaskOutput<'static, R> as Write>⟧.contents;
-          recorded = K.contents;
-          ends = K.ends;
-          tells = ⟦<Teller<'static, R> as Messages>⟧.tells;
-          is_read = ⟦<Teller<'static, R> as Messages>⟧.is_read;
-          accesses = ⟦<ServiceFolder<'static, R> as Folder>⟧.does;
-        })
-        (workplace files.old «record».old before) (workplace files.new «record».new after) task.now result }
 {
     let reader = KeyReader::new(PatientInput::new(rt));
     let mut typist = PacedTypist::new(rt, reader, pace_of(task));
@@ -228,39 +159,18 @@ fn do_by_reads<R: LockableFiles + StandardInput, F: CommandFiles, K: KeyRecord>(
 
 /// Does it over these files, with the standard streams, and by the keys of this typist. Where standard output may be lost, it is noted there why.
 #[inline(never)]
-fn do_over<R: LockableFiles + StandardInput, F: CommandFiles, K: KeyRecord, P: Typist>(
-    rt: &R,
+fn do_over<'a, R: LockableFiles + StandardInput, P: Typist>(
+    rt: &'a R,
     outputs: Outputs,
     task: &Task<'_>,
     terminals: Terminals<'_>,
     lost: Option<&Cell<Option<io::Error>>>,
-    files: &mut F,
-    record: &mut K,
+    files: &mut MachineFiles<'a, R>,
+    record: &mut Record<'_, R>,
     keys: &Cell<usize>,
     typist: &mut P,
 ) -> Result<u8, HostError>
     requires { HasUsers task.now }
-    ensures { IsTaskEnded
-        (record {
-          does = F.does;
-          files = F.files;
-          sees_to = F.sees_to;
-          gives_names = F.gives_names;
-          tells_name = F.tells_name;
-          tells_folder = F.tells_folder;
-          lists = F.lists;
-          unlists = F.unlists;
-        })
-        (record {
-          remaining = ⟦<TaskInput<'static, R> as Read>⟧.remaining;
-          contents = ⟦<TaskOutput<'static, R> as Write>⟧.contents;
-          recorded = K.contents;
-          ends = K.ends;
-          tells = ⟦<Teller<'static, R> as Messages>⟧.tells;
-          is_read = ⟦<Teller<'static, R> as Messages>⟧.is_read;
-          accesses = ⟦<ServiceFolder<'static, R> as Folder>⟧.does;
-        })
-        (workplace files.old «record».old (P.typing typist.old)) (workplace files.new «record».new (P.typing typist.new)) task.now result }
 {
     let is_at_line_start = Cell::new(true);
     let Ok(writer) = BufWriter::new(rt.alloc(), TypingOutput::new(PatientOutput::new(rt), lost))
