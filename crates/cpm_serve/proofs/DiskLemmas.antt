@@ -120,7 +120,7 @@ put-done does h drive name text n disk image wrote a from mid to at k work did i
       work = subst (λ (o : Option (List ℕ)). OfNamed (IsPutWork text) o (disk_answered by) made) (sym at) (subst (λ (r : Result Disk WireRefusal). OfNamed (IsPutWork text) (Some n) r made) k.is work);
       served = same-outcome refl (is ∙ ap (λ (r : Result Disk WireRefusal). put_made (length text) r made (wrote ∷ [])) k.is ∙ ap (λ (o : Option (List ℕ)). put_answer (length text) o (by ∷ wrote ∷ []) made) (sym at));
       leads = subst (λ (o : Option (List ℕ)). AccessesLead does from to (put_accesses drive o (by ∷ wrote ∷ []) made)) (sym at)
-          (subst (λ (r : Result Disk WireRefusal). AccessesLead does from to (hold_access drive by ∷ put_writes drive r made (wrote ∷ []))) k.is (mid, k.did, to, did, refl));
+          (subst (λ (r : Result Disk WireRefusal). AccessesLead does from to (hold_access drive by ∷ put_writes drive r made (wrote ∷ []))) k.is (mid, k.did, (to, did, refl)));
       unwritten = λ x. absurd cc;
     }
 

@@ -1,6 +1,7 @@
 -- Drives that are written.
-use Rattle.std.proofs.Common.{◌≡◌, ◌∙◌, ℕ, List, [], ◌∷◌, ◌++◌, Bool, true, false, not, ◌&&◌, Option, Some, None, refl, sym, subst, ap, inl, inr, ⊎_elim, if◌then◌else◌}
-use Rattle.std.specs.Prelude.{⊤, ◌⊎◌, IfSome, Result, Ok, Err, is_none, length}
+use Rattle.std.proofs.Common.{◌≡◌, ◌∙◌, ℕ, List, [], ◌∷◌, ◌++◌, map, Bool, true, false, not, ◌&&◌, Option, Some, None, refl, sym, subst, ap, inl, inr, ⊎_elim, if◌then◌else◌}
+use Rattle.std.specs.Prelude.{⊤, ◌⊎◌, IfSome, Result, Ok, Err, Vec, length}
+use Rattle.std.specs.declared.alloc.Global.{Global}
 use Rattle.std.specs.Borrow.{Bor}
 use Rattle.cpm_flags.specs.declared.regs.Cpu.{Cpu}
 use Rattle.std.specs.List.{concat}
@@ -12,7 +13,8 @@ use Rattle.cpm_slots.specs.Serving.{Closes}
 use Rattle.cpm_slots.specs.declared.event.Refusal.{Refusal}
 use Rattle.cpm_slots.specs.declared.event.SaveError.{SaveError}
 use Rattle.cpm_store.specs.Laws.{has_name_among}
-use Rattle.cpm_store.specs.Writes.{NamedBytes}
+use Rattle.cpm_store.specs.Writes.{NamedBytes, named_output}
+use Rattle.cpm_store.specs.declared.writes.Output.{Output}
 use Rattle.cpm_protocol.specs.Replies.{Answered, Refused}
 use Rattle.cpm_protocol.specs.Requests.{Close, FourNames, Save, drive_names_of, text_if}
 use Rattle.cpm_protocol.specs.declared.request.DriveNames.{DriveNames}
@@ -21,7 +23,7 @@ use Rattle.cpm_protocol.specs.declared.word.WireRefusal.TheVariants as refusal
 use Rattle.cpm_serve.specs.DriveFiles.{no_work, stored_answer}
 use Rattle.cpm_serve.specs.Drives.{named_drive_outputs, with_output, with_output_of}
 use Rattle.cpm_serve.specs.Folder.{AccessesLead, AreNoFolderWrites, Failed, FolderAccess, FolderAnswer, Given, Stored, first_answer, write_access}
-use Rattle.cpm_serve.specs.Reading.{AreMade, AreOutputsWritten, IsLacked, or_bad_drives, outputs_written, written_result}
+use Rattle.cpm_serve.specs.Reading.{AreMade, AreOutputsWritten, IsLacked, or_bad_drives, outputs_had, outputs_written, written_result}
 use Rattle.cpm_serve.specs.Seen.{save_refusal}
 use Rattle.cpm_serve.specs.Served.{Served, after_asks, is_no_name, outcome, refused}
 use Rattle.cpm_serve.specs.ServedWith.{IsRequestServedWith, answer_with_outputs, asks_when_stored, asks_with_outputs, closed_answer, session_saving}
@@ -262,28 +264,44 @@ close-refused does h slot out cpu why a from to had written is =
 
 -- ---- written, of a slot that may be open
 
-none-name : (o : Option (Bor (List ℕ))) → is_none o ≡ true → is_no_name (text_if o) ≡ true
-none-name None e = refl
-none-name (Some t) e = absurd cc
-
-some-name : (o : Option (Bor (List ℕ))) → is_none o ≡ false → is_no_name (text_if o) ≡ false
-some-name None e = absurd cc
-some-name (Some t) e = refl
-
-pub written-plain : {F : Type 0} (does : F → FolderAccess → F → Type 0) (o : Option MachineState) (out : DriveNames) (from : F) → is_none out.a ≡ true →
+pub written-plain : {F : Type 0} (does : F → FolderAccess → F → Type 0) (o : Option MachineState) (out : DriveNames) (from : F) → out.a ≡ None →
     IfSome o (λ s. AreOutputsWritten does (is_no_name (text_if out.a)) (named_drive_outputs (drive_names_of out) s) from from (Ok tt))
-written-plain does o out from e = if-open o _ (λ s at. outputs-plain does (is_no_name (text_if out.a)) (named_drive_outputs (drive_names_of out) s) from (none-name out.a e))
+written-plain does o out from e = if-open o _
+    (λ s at. outputs-plain does (is_no_name (text_if out.a)) (named_drive_outputs (drive_names_of out) s) from (ap (λ (x : Option (Bor (List ℕ))). is_no_name (text_if x)) e))
 
-pub written-not : {F : Type 0} (does : F → FolderAccess → F → Type 0) (o : Option MachineState) (out : DriveNames) (why : WireRefusal) (from : F) → is_none out.a ≡ false →
-    IfSome o (λ s. AreMade (named_drive_outputs (drive_names_of out) s) (Err why)) →
-    IfSome o (λ s. AreOutputsWritten does (is_no_name (text_if out.a)) (named_drive_outputs (drive_names_of out) s) from from (Err why))
-written-not does o out why from e k = if-open o _
-    (λ s at. outputs-refused does (is_no_name (text_if out.a)) (named_drive_outputs (drive_names_of out) s) from why (some-name out.a e)
-    (at-open o s (λ x. AreMade (named_drive_outputs (drive_names_of out) x) (Err why)) at k))
-
-pub written-by : {F : Type 0} (does : F → FolderAccess → F → Type 0) (o : Option MachineState) (out : DriveNames) (files : List NamedBytes) (a : FolderAnswer) (from to : F) (r : Result ⊤ WireRefusal) → is_none out.a ≡ false →
-    IfSome o (λ s. AreMade (named_drive_outputs (drive_names_of out) s) (Ok files)) → does from (write_access files a) to → r ≡ written_result a →
+pub written-named : {F : Type 0} (does : F → FolderAccess → F → Type 0) (o : Option MachineState) (out : DriveNames) (n : Bor (List ℕ)) (from to : F) (r : Result ⊤ WireRefusal) → out.a ≡ Some n →
+    IfSome o (λ s. AreOutputsWritten does false (named_drive_outputs (drive_names_of out) s) from to r) →
     IfSome o (λ s. AreOutputsWritten does (is_no_name (text_if out.a)) (named_drive_outputs (drive_names_of out) s) from to r)
-written-by does o out files a from to r e k did is = if-open o _
-    (λ s at. outputs-done does (is_no_name (text_if out.a)) (named_drive_outputs (drive_names_of out) s) files a from to r (some-name out.a e)
-    (at-open o s (λ x. AreMade (named_drive_outputs (drive_names_of out) x) (Ok files)) at k) did is)
+written-named does o out n from to r e k =
+    subst (λ (b : Bool). IfSome o (λ s. AreOutputsWritten does b (named_drive_outputs (drive_names_of out) s) from to r)) (sym (ap (λ (x : Option (Bor (List ℕ))). is_no_name (text_if x)) e)) k
+
+pub written-not : {F : Type 0} (does : F → FolderAccess → F → Type 0) (o : Option MachineState) (out : FourNames) (why : WireRefusal) (from : F) →
+    IfSome o (λ s. AreMade (named_drive_outputs out s) (Err why)) → IfSome o (λ s. AreOutputsWritten does false (named_drive_outputs out s) from from (Err why))
+written-not does o out why from k = if-open o _
+    (λ s at. outputs-refused does false (named_drive_outputs out s) from why refl (at-open o s (λ x. AreMade (named_drive_outputs out x) (Err why)) at k))
+
+pub written-by : {F : Type 0} (does : F → FolderAccess → F → Type 0) (o : Option MachineState) (out : FourNames) (files : List NamedBytes) (a : FolderAnswer) (from to : F) (r : Result ⊤ WireRefusal) →
+    IfSome o (λ s. AreMade (named_drive_outputs out s) (Ok files)) → does from (write_access files a) to → r ≡ written_result a →
+    IfSome o (λ s. AreOutputsWritten does false (named_drive_outputs out s) from to r)
+written-by does o out files a from to r k did is = if-open o _
+    (λ s at. outputs-done does false (named_drive_outputs out s) files a from to r refl (at-open o s (λ x. AreMade (named_drive_outputs out x) (Ok files)) at k) did is)
+
+-- ---- by what is matched
+
+pub output-had_at : (r : Result (Vec Output Global) WireRefusal) (v : Vec Output Global) (wanted : Option (List NamedBytes)) → r ≡ Ok v → AreMade wanted (outputs_had r) → AreMade wanted (Ok (map named_output v.items))
+output-had_at r v wanted e k = subst (λ (x : Result (Vec Output Global) WireRefusal). AreMade wanted (outputs_had x)) e k
+
+pub output-fault_at : (r : Result (Vec Output Global) WireRefusal) (n : List ℕ) (disk : Option Disk) (wanted : Option (List NamedBytes)) (why : WireRefusal) → r ≡ Err why → AreMade wanted (outputs_had r) →
+    AreMade (with_output (Some n) disk wanted) (Err why)
+output-fault_at r n disk wanted why e k = output-fault n disk wanted why (subst (λ (x : Result (Vec Output Global) WireRefusal). AreMade wanted (outputs_had x)) e k)
+
+pub output-none_at : (name : Option (Bor (List ℕ))) (disk : Option Disk) (wanted : Option (List NamedBytes)) (r : Result (List NamedBytes) WireRefusal) → name ≡ None → AreMade wanted r →
+    AreMade (with_output (text_if name) disk wanted) r
+output-none_at name disk wanted r e k = subst (λ (o : Option (Bor (List ℕ))). AreMade (with_output (text_if o) disk wanted) r) (sym e) k
+
+pub output-some_at : (name : Option (Bor (List ℕ))) (n : Bor (List ℕ)) (disk : Option Disk) (wanted : Option (List NamedBytes)) (r : Result (List NamedBytes) WireRefusal) → name ≡ Some n →
+    AreMade (with_output (Some n.now) disk wanted) r → AreMade (with_output (text_if name) disk wanted) r
+output-some_at name n disk wanted r e k = subst (λ (o : Option (Bor (List ℕ))). AreMade (with_output (text_if o) disk wanted) r) (sym e) k
+
+pub outputs-none : (v : Vec Output Global) → v.items ≡ [] → (let r : Result (Vec Output Global) WireRefusal = Ok v in AreMade (Some []) (outputs_had r))
+outputs-none v e = inl (ap (λ (xs : List Output). files_made (map named_output xs)) e)

@@ -3,9 +3,11 @@ use Rattle.std.proofs.Common.{◌≡◌, ◌∙◌, ℕ, List, [], ◌∷◌, �
 use Rattle.std.specs.Prelude.{◌⊎◌, Result, Ok, Err, IfErr, IfOk, Vec, length}
 use Rattle.std.specs.List.{concat}
 use Rattle.std.specs.declared.alloc.Global.{Global}
+use Rattle.std.specs.Borrow.{Bor}
 use Rattle.cpm_geom.specs.Disk.{Disk, IsDisk, disk_of}
 use Rattle.cpm_geom.specs.Geometry.{format_of_length}
 use Rattle.cpm_geom.proofs.JoinedLemmas.{disk_joined}
+use Rattle.cpm_protocol.specs.Requests.{text_if}
 use Rattle.cpm_protocol.specs.declared.word.WireRefusal.{WireRefusal}
 use Rattle.cpm_protocol.specs.declared.word.WireRefusal.TheVariants as refusal
 use Rattle.cpm_serve.specs.Drives.{DrivesRead, disk_answered, disk_in_format, disk_named, disk_of_file, drives_state, none_read, one_more_disk, with_disk, with_drive_named, with_image_named}
@@ -200,3 +202,23 @@ pushed-drive disks drive (Err why) made lacked = inr (ap (λ (w : WireRefusal). 
 
 pub unread-drive : (disks : List Disk) (why : WireRefusal) → IsPushed disks (Err why) (Err why)
 unread-drive disks why = inl refl
+
+-- ---- by what is matched
+
+pub more-none_at : {F : Type 0} (does : F → FolderAccess → F → Type 0) (name : Option (Bor (List ℕ))) (r : Result (List Disk) WireRefusal) (from : F) → name ≡ None → IsOneDriveMore does (text_if name) r r from from
+more-none_at does name r from e = subst (λ (o : Option (Bor (List ℕ))). IsOneDriveMore does (text_if o) r r from from) (sym e) (more-none does r from)
+
+pub more-some_at : {F : Type 0} (does : F → FolderAccess → F → Type 0) (name : Option (Bor (List ℕ))) (n : Bor (List ℕ)) (r after : Result (List Disk) WireRefusal) (from to : F) → name ≡ Some n →
+    IsOneDriveMore does (Some n.now) r after from to → IsOneDriveMore does (text_if name) r after from to
+more-some_at does name n r after from to e k = subst (λ (o : Option (Bor (List ℕ))). IsOneDriveMore does (text_if o) r after from to) (sym e) k
+
+pub more-had_at : {F : Type 0} (does : F → FolderAccess → F → Type 0) (name : Option (List ℕ)) (r : Result (Vec Disk Global) WireRefusal) (v : Vec Disk Global) (after : Result (List Disk) WireRefusal) (from to : F) →
+    r ≡ Ok v → IsOneDriveMore does name (Ok v.items) after from to → IsOneDriveMore does name (images_had r) after from to
+more-had_at does name r v after from to e k = subst (λ (x : Result (Vec Disk Global) WireRefusal). IsOneDriveMore does name (images_had x) after from to) (sym e) k
+
+pub more-fault_at : {F : Type 0} (does : F → FolderAccess → F → Type 0) (name : Option (List ℕ)) (r : Result (Vec Disk Global) WireRefusal) (why : WireRefusal) (from : F) →
+    r ≡ Err why → IsOneDriveMore does name (images_had r) (Err why) from from
+more-fault_at does name r why from e = subst (λ (x : Result (Vec Disk Global) WireRefusal). IsOneDriveMore does name (images_had x) (Err why) from from) (sym e) (more-fault does name why from)
+
+pub none-more_at : {F : Type 0} (does : F → FolderAccess → F → Type 0) (from : F) (disks : List Disk) → disks ≡ [] → AreNamedDrivesRead does none_read (Ok disks) from from
+none-more_at does from disks e = subst (λ (ds : List Disk). AreNamedDrivesRead does none_read (Ok ds) from from) (sym e) (none-more does from)

@@ -74,7 +74,7 @@ rebased {F} does line text old now new from mid to host folder one =
 
 lines_more : {F : Type 0} (does : F → FolderAccess → F → Type 0) (lines : List (List ℕ)) (old now new : Host) (from mid to : F) (texts : List (List ℕ)) (line text : List ℕ) → AreLinesServed does lines old now from mid texts →
     IsLineServed (EventsLead does now mid to) line now new text → AreLinesServed does (lines ++ line ∷ []) old new from to (texts ++ text ∷ [])
-lines_more does [] old now new from mid to [] line text a one = (new, to, rebased does line text old now new from mid to a.0 a.1 one, refl, refl)
+lines_more does [] old now new from mid to [] line text a one = (new, to, rebased does line text old now new from mid to a.0 a.1 one, (refl, refl))
 lines_more does [] old now new from mid to (t ∷ ts) line text a one = absurd a
 lines_more does (l ∷ ls) old now new from mid to [] line text a one = absurd a
 lines_more does (l ∷ ls) old now new from mid to (t ∷ ts) line text a one = (a.0, a.1, a.2, lines_more does ls a.0 now new a.1 mid to ts line text a.3 one)

@@ -1,11 +1,11 @@
 //! Sessions that are saved, and sessions that are closed.
-ghost use Rattle.std.specs.Prelude.{◌≡◌, ◌++◌, ◌∷◌, [], IfErr, IfOk, IfSome, List, Option, map};
-ghost use Rattle.std.specs.List.{concat};
+ghost use Rattle.std.specs.Prelude.{◌≡◌, ◌++◌, ◌∷◌, [], IfOk, IfSome, List, Ok, Option, Some, false, map};
+ghost use Rattle.std.specs.List.{concat, list_any};
+ghost use Rattle.std.specs.Str.{bytes_eq};
 ghost use Rattle.cpm_protocol.specs.Requests.{Close, Save, drive_names_of, text_if};
 ghost use Rattle.cpm_slots.specs.Drives.{drive_image};
 ghost use Rattle.cpm_slots.specs.Host.{after_ask, slot_at};
 ghost use Rattle.cpm_slots.specs.Serving.{Closes};
-ghost use Rattle.cpm_store.specs.Laws.{has_name_among};
 ghost use Rattle.cpm_store.specs.Writes.{NamedBytes, named_output};
 ghost use Rattle.cpm_serve.specs.DriveFiles.{stored_answer};
 ghost use Rattle.cpm_serve.specs.Drives.{named_drive_outputs, with_output};
@@ -50,14 +50,14 @@ pub(crate) fn save<F: Folder>(
     ensures { IsRequestServedWith (AccessesLead F.does folder.old folder.new) (Save slot file.now) host.old.host host.new.host (owned_answer result) }
 {
     match host.save(alloc, SlotId(slot)) {
-        Ok(bytes) => stored(bytes.len(), write_file(folder, file, bytes)),
+        Ok(bytes) => stored(bytes.as_slice().len(), write_file(folder, file, bytes)),
         Err(error) => refused(save_refusal(error)),
     }
 }
 
 /// Whether a file of a name is among these.
 fn has_name(files: &[Output<'_>], name: &str) -> bool
-    ensures { result ≡ has_name_among name.now (map named_output files.now) }
+    ensures { result ≡ list_any (λ file. bytes_eq name.now file.name.now) files.now }
 {
     files.iter().any(|file| name == file.name)
 }
@@ -76,7 +76,49 @@ fn with_image<'a>(
     Ok(files)
 }
 
-/// Files, and the image of a slot's drive under a name, if there is a name. A fault stays.
+/// Files, and the image of a slot's drive under a name.
+fn with_one_output<'a>(
+    host: &Host,
+    alloc: Global,
+    id: SlotId,
+    files: Vec<Output<'a>>,
+    drive: u8,
+    name: &'a str,
+) -> Result<Vec<Output<'a>>, WireRefusal>
+    ensures { (wanted : Option (List NamedBytes)) → AreMade wanted (Ok (map named_output files.entry.items))
+        → AreMade (with_output (Some name.entry.now) (drive_image drive (slot_at id.0 host.now.host.slots)) wanted) (outputs_had result) }
+{
+    let Some(image) = host.drive_image(id, drive) else {
+        return Err(WireRefusal::BadDrives);
+    };
+    if has_name(&files, name) {
+        return Err(WireRefusal::BadDrives);
+    }
+    match with_image(alloc, files, name, image) {
+        Ok(files) => Ok(files),
+        Err(AllocError) => Err(WireRefusal::OutOfMemory),
+    }
+}
+
+/// The same, where there are files. A fault stays.
+fn with_output_named<'a>(
+    host: &Host,
+    alloc: Global,
+    id: SlotId,
+    files: Result<Vec<Output<'a>>, WireRefusal>,
+    drive: u8,
+    name: &'a str,
+) -> Result<Vec<Output<'a>>, WireRefusal>
+    ensures { (wanted : Option (List NamedBytes)) → AreMade wanted (outputs_had files.entry)
+        → AreMade (with_output (Some name.entry.now) (drive_image drive (slot_at id.0 host.now.host.slots)) wanted) (outputs_had result) }
+{
+    match files {
+        Ok(files) => with_one_output(host, alloc, id, files, drive, name),
+        Err(refusal) => Err(refusal),
+    }
+}
+
+/// The same, where there is a name.
 fn with_output<'a>(
     host: &Host,
     alloc: Global,
@@ -88,22 +130,9 @@ fn with_output<'a>(
     ensures { (wanted : Option (List NamedBytes)) → AreMade wanted (outputs_had files.entry)
         → AreMade (with_output (text_if name.entry) (drive_image drive (slot_at id.0 host.now.host.slots)) wanted) (outputs_had result) }
 {
-    let Some(name) = name else {
-        return files;
-    };
-    let files = match files {
-        Ok(files) => files,
-        Err(refusal) => return Err(refusal),
-    };
-    let Some(image) = host.drive_image(id, drive) else {
-        return Err(WireRefusal::BadDrives);
-    };
-    if has_name(&files, name) {
-        return Err(WireRefusal::BadDrives);
-    }
-    match with_image(alloc, files, name, image) {
-        Ok(files) => Ok(files),
-        Err(AllocError) => Err(WireRefusal::OutOfMemory),
+    match name {
+        Some(name) => with_output_named(host, alloc, id, files, drive, name),
+        None => files,
     }
 }
 
@@ -122,7 +151,28 @@ fn named_drive_outputs<'a>(
     with_output(host, alloc, id, files, 3, out.d)
 }
 
-/// Writes the images of a slot's drives under names, if there are names.
+/// Writes the images of a slot's drives under names.
+fn write_named_outputs<F: Folder>(
+    host: &Host,
+    alloc: Global,
+    folder: &mut F,
+    id: SlotId,
+    out: DriveNames<'_>,
+) -> Result<(), WireRefusal>
+    ensures { IfSome (slot_at id.0 host.now.host.slots) (λ s. AreOutputsWritten F.does false
+        (named_drive_outputs (drive_names_of out.entry) s) folder.old folder.new result) }
+{
+    let files = match named_drive_outputs(host, alloc, id, out) {
+        Ok(files) => files,
+        Err(refusal) => return Err(refusal),
+    };
+    match folder.write(&files) {
+        Ok(()) => Ok(()),
+        Err(error) => Err(write_refusal(error)),
+    }
+}
+
+/// The same, where there are names.
 fn write_outputs<F: Folder>(
     host: &Host,
     alloc: Global,
@@ -133,16 +183,9 @@ fn write_outputs<F: Folder>(
     ensures { IfSome (slot_at id.0 host.now.host.slots) (λ s. AreOutputsWritten F.does (is_no_name (text_if out.entry.a))
         (named_drive_outputs (drive_names_of out.entry) s) folder.old folder.new result) }
 {
-    if out.a.is_none() {
-        return Ok(());
-    }
-    let files = match named_drive_outputs(host, alloc, id, out) {
-        Ok(files) => files,
-        Err(refusal) => return Err(refusal),
-    };
-    match folder.write(&files) {
-        Ok(()) => Ok(()),
-        Err(error) => Err(write_refusal(error)),
+    match out.a {
+        Some(_) => write_named_outputs(host, alloc, folder, id, out),
+        None => Ok(()),
     }
 }
 

@@ -161,7 +161,7 @@ pub(crate) fn put_file<F: Folder>(
         Err(refusal) => return refused(refusal),
     };
     match with_file(alloc, &image, &file, &text) {
-        Ok(bytes) => stored(text.len(), write_file(folder, drive, bytes)),
+        Ok(bytes) => stored(text.as_slice().len(), write_file(folder, drive, bytes)),
         Err(refusal) => refused(refusal),
     }
 }

@@ -1,5 +1,5 @@
 //! The images of drives that are named: those with which a session is opened, and those that are written where it is closed.
-ghost use Rattle.std.specs.Prelude.{◌≡◌, ◌≤◌, ◌++◌, ◌∷◌, [], IfErr, IfOk, option_map};
+ghost use Rattle.std.specs.Prelude.{◌≡◌, ◌≤◌, ◌++◌, ◌∷◌, [], IfErr, IfOk, Ok, Some, option_map};
 ghost use Rattle.cpm_geom.specs.Disk.{blank_disk};
 ghost use Rattle.cpm_protocol.specs.Requests.{drive_names_of, text_if};
 ghost use Rattle.cpm_serve.specs.Reading.{AreNamedDrivesRead, IsDriveRead, IsFileDisk, IsOneDriveMore, images_had};
@@ -95,7 +95,37 @@ fn pushed(mut drives: Vec<Image>, drive: Image) -> Result<Vec<Image>, WireRefusa
     }
 }
 
-/// Drives, and the one of a name, if there is a name. A fault stays, and then no more is asked.
+/// Drives, and the one of a name.
+fn with_one_drive<F: Folder>(
+    alloc: Global,
+    folder: &mut F,
+    drives: Vec<Image>,
+    name: &str,
+) -> Result<Vec<Image>, WireRefusal>
+    ensures { IsOneDriveMore F.does (Some name.now) (Ok drives.items) (images_had result) folder.old folder.new }
+{
+    match drive_named(alloc, folder, name) {
+        Ok(drive) => pushed(drives, drive),
+        Err(refusal) => Err(refusal),
+    }
+}
+
+/// The same, where there are drives. A fault stays, and then no more is asked.
+fn with_drive_named<F: Folder>(
+    alloc: Global,
+    folder: &mut F,
+    drives: Result<Vec<Image>, WireRefusal>,
+    name: &str,
+) -> Result<Vec<Image>, WireRefusal>
+    ensures { IsOneDriveMore F.does (Some name.now) (images_had drives) (images_had result) folder.old folder.new }
+{
+    match drives {
+        Ok(drives) => with_one_drive(alloc, folder, drives, name),
+        Err(refusal) => Err(refusal),
+    }
+}
+
+/// The same, where there is a name.
 fn with_drive<F: Folder>(
     alloc: Global,
     folder: &mut F,
@@ -104,16 +134,9 @@ fn with_drive<F: Folder>(
 ) -> Result<Vec<Image>, WireRefusal>
     ensures { IsOneDriveMore F.does (text_if name.entry) (images_had drives) (images_had result) folder.old folder.new }
 {
-    let Some(name) = name else {
-        return drives;
-    };
-    let drives = match drives {
-        Ok(drives) => drives,
-        Err(refusal) => return Err(refusal),
-    };
-    match drive_named(alloc, folder, name) {
-        Ok(drive) => pushed(drives, drive),
-        Err(refusal) => Err(refusal),
+    match name {
+        Some(name) => with_drive_named(alloc, folder, drives, name),
+        None => drives,
     }
 }
 

@@ -1,4 +1,4 @@
-use Rattle.std.proofs.Common.{◌∙◌, ap, refl}
+use Rattle.std.proofs.Common.{◌∙◌, ℕ, List, ap, length, refl}
 use Rattle.cpm_protocol.specs.Replies.{Refused}
 use Rattle.cpm_slots.specs.Host.{slot_at}
 use Rattle.cpm_slots.specs.HostWithStore.{HostWithStore}
@@ -13,7 +13,7 @@ returns-in-Ok g c =
     let k = c.in-Ok.ensures.saved in
     save-served g.F.Folder.does c.args.host.now.host c.save.new.self.host c.args.slot c.args.file.now c.in-Ok.bytes.items k.state (write_answer c.write_file.result) (owned_answer c.stored.result)
     c.args.folder.now c.write_file.new.folder k.there k.saving.saved (ap (λ (x : HostWithStore). x.host) c.save.ensures.unchanged) c.write_file.ensures
-    (c.stored.ensures ∙ ap (λ n. stored_answer n (write_answer c.write_file.result)) c.len.ensures)
+    (c.stored.ensures ∙ ap (λ (bs : List ℕ). stored_answer (length bs) (write_answer c.write_file.result)) c.as_slice.ensures.value)
 
 pub returns-in-Err : goal.returns-in-Err
 returns-in-Err g c =

@@ -4,8 +4,8 @@ use Rattle.cpm_serve.proofs.disk.names_on.Goals as goal
 pub returns-in-Err : goal.returns-in-Err
 returns-in-Err c = list-not c.args.image.now c.in-Err.error c.disk_refusal.result c.in-Err.ensures c.disk_refusal.ensures
 
-pub returns-in-Ok-text : goal.returns-in-Ok-text
-returns-in-Ok-text c = list-made c.args.image.now c.in-Ok.listing c.in-Ok-text.text.items c.in-Ok.ensures (rw c.deref.ensures.value at c.in-Ok-text.ensures)
+pub returns-in-Ok-name_lines : goal.returns-in-Ok-name_lines
+returns-in-Ok-name_lines c = list-made c.args.image.now c.in-Ok.listing c.in-Ok-name_lines.text.items c.in-Ok.ensures (rw c.deref.ensures.value at c.in-Ok-name_lines.ensures)
 
-pub returns-in-Err-AllocError : goal.returns-in-Err-AllocError
-returns-in-Err-AllocError c = list-lacked c.args.image.now c.in-Ok.listing c.in-Ok.ensures
+pub returns : goal.returns
+returns c = list-lacked c.args.image.now c.in-Ok.listing c.in-Ok.ensures

@@ -14,9 +14,9 @@ returns-in-Some g c =
 pub returns-in-Ok : goal.returns-in-Ok
 returns-in-Ok g c =
     open-read g.F.Folder.does c.args.host.now.host c.open_with.new.host.host c.args.cpu c.args.quota (drive_names_of c.args.drives) c.in-Ok.drives.items (owned_answer c.open_with.result)
-    c.args.folder.now c.drives_named.new.folder (c.in-None.ensures ∙ ap (open_fault c.args.host.now.host c.args.quota) c.name_count.ensures) c.in-Ok.ensures c.open_with.ensures
+    c.args.folder.now c.drives_named.new.folder (c.in_default.ensures ∙ ap (open_fault c.args.host.now.host c.args.quota) c.name_count.ensures) c.in-Ok.ensures c.open_with.ensures
 
 pub returns-in-Err : goal.returns-in-Err
 returns-in-Err g c =
     open-unread g.F.Folder.does c.args.host.now.host c.args.cpu c.args.quota (drive_names_of c.args.drives) c.in-Err.refusal (owned_answer c.refused-in-Err.result)
-    c.args.folder.now c.drives_named.new.folder (c.in-None.ensures ∙ ap (open_fault c.args.host.now.host c.args.quota) c.name_count.ensures) c.in-Err.ensures c.refused-in-Err.ensures
+    c.args.folder.now c.drives_named.new.folder (c.in_default.ensures ∙ ap (open_fault c.args.host.now.host c.args.quota) c.name_count.ensures) c.in-Err.ensures c.refused-in-Err.ensures
