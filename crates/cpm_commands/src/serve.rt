@@ -1,5 +1,5 @@
 //! The command `serve`.
-ghost use Rattle.std.specs.Prelude.{◌≡◌, ◌≤◌, ◌×◌, IfErr, IfOk, OnOk};
+ghost use Rattle.std.specs.Prelude.{◌≡◌, ◌≤◌, IfErr, IfOk, OnOk};
 ghost use Rattle.cpm_commands.specs.Serve.{HasServed, IsHostBegun, IsHostUnbegun, IsServiceEnded, frames_asked, host_error_of_talk};
 ghost use Rattle.cpm_host.specs.Program.{disk_or_blank};
 ghost use Rattle.cpm_host.specs.declared.error.HostError.TheVariants.{OutOfMemory};
