@@ -10,3 +10,4 @@ pub mod PlanLemmas
 pub mod ReplayWordLemmas
 pub mod RunLemmas
 pub mod TaskLemmas
+mod WordLemmas

@@ -3,7 +3,7 @@ use Rattle.std.specs.Prelude.{⊤, ◌≡◌, ◌⊎◌, ℕ, List, chars, slice
 use Rattle.cpm_batch.specs.declared.error.ReadError.TheVariants.{File}
 use Rattle.cpm_command_line.specs.Shown.{shown_of}
 use Rattle.cpm_host.specs.declared.error.HostError.{HostError}
-use Rattle.cpm_host.specs.declared.error.HostError.TheVariants.{FileUnreadable, FileUnwritable, OutOfMemory, RunRefused}
+use Rattle.cpm_host.specs.declared.error.HostError.TheVariants.{OutOfMemory, RunRefused}
 use Rattle.cpm_run.specs.declared.error.RunError.TheVariants.{FileRefused, WriteFault}
 use Rattle.cpm_store.specs.Files.{StoreName}
 use Rattle.cpm_store.specs.Log.{StoreAccess, AreWrites, LogLeadsBy, StopsAfter}
@@ -20,21 +20,6 @@ abbrev pub IsUnwritten : StoreName → HostError → Type 0
 IsUnwritten name (RunRefused (WriteFault shown)) = shown.bytes ≡ shown_of (chars name)
 IsUnwritten name OutOfMemory = ⊤
 IsUnwritten name _ = ⊥
-
--- a file of a plan can't be read or can't be written, and the refusal tells a name; or memory was refused
-abbrev pub IsPlanRefusal : HostError → Type 0
-IsPlanRefusal (FileUnreadable shown reason) = ⊤
-IsPlanRefusal (FileUnwritable shown reason) = ⊤
-IsPlanRefusal (RunRefused (FileRefused (File shown))) = ⊤
-IsPlanRefusal (RunRefused (WriteFault shown)) = ⊤
-IsPlanRefusal OutOfMemory = ⊤
-IsPlanRefusal _ = ⊥
-
--- a file can't have its name, which is told; or memory was refused
-abbrev pub IsNamingFault : HostError → Type 0
-IsNamingFault (FileUnwritable shown reason) = ⊤
-IsNamingFault OutOfMemory = ⊤
-IsNamingFault _ = ⊥
 
 -- the files before the one at a place were written, and writing that one failed: it is told by its name, or memory was refused
 pub record IsWritingStopped {F : Type 0} (does : F → StoreAccess → F → Type 0) (outputs : List NamedBytes) (old new : F) (e : HostError) : Type 0 where

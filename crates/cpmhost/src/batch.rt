@@ -1,9 +1,6 @@
 //! Files that are written together: each is made whole beside the one that it is to replace, and only then they take their names. So a full device leaves all
 //! of them as they were.
 
-ghost use Rattle.std.specs.Prelude.{◌≡◌, IfErr};
-ghost use Rattle.cpm_commands.specs.Files.{IsNamingFault};
-
 use crate::beside::Replacement;
 use crate::held::{LockableFiles, Mark};
 use crate::output::{Outputs, PERMISSIONS, PLAIN_PERMISSIONS};
@@ -45,9 +42,7 @@ struct WholeFile {
 
 impl WholeFile {
     /// Why it can't have its name.
-    fn unwritable(&self, reason: io::Error) -> HostError
-        ensures { IsNamingFault result }
-    {
+    fn unwritable(&self, reason: io::Error) -> HostError {
         HostError::FileUnwritable {
             name: self.name,
             reason,
@@ -55,9 +50,7 @@ impl WholeFile {
     }
 
     /// Fails where the file that it is to replace is no longer what it was when it was read.
-    fn check(&self, rt: &impl Files) -> Result<(), HostError>
-        ensures { IfErr result IsNamingFault }
-    {
+    fn check(&self, rt: &impl Files) -> Result<(), HostError> {
         match self.naming {
             NamingRule::Replacing(Some(mark)) | NamingRule::ReplacingPlain(Some(mark)) => mark
                 .check(rt, self.beside.target())
@@ -71,9 +64,7 @@ impl WholeFile {
         self,
         rt: &(impl Files + AllocGlobal),
         keeps_played: bool,
-    ) -> Result<(), CommandRefusal>
-        ensures { IfErr result (λ r. IsNamingFault r.error) }
-    {
+    ) -> Result<(), CommandRefusal> {
         if let Err(error) = self.check(rt) {
             if keeps_played {
                 return Err(self.kept(rt, error));
@@ -96,9 +87,7 @@ impl WholeFile {
     }
 
     /// Why it hasn't its name, and where it is then.
-    fn kept(self, rt: &(impl Files + AllocGlobal), error: HostError) -> CommandRefusal
-        ensures { result.error ≡ error }
-    {
+    fn kept(self, rt: &(impl Files + AllocGlobal), error: HostError) -> CommandRefusal {
         match self.beside.keep(rt) {
             Some(path) => CommandRefusal {
                 error,
@@ -194,9 +183,7 @@ impl Batch {
 
     /// Gives all their names, if those that they replace are still what they were when they were read; else none gets its name. One that can't have its
     /// name then stays beside it, which is said of each.
-    pub fn take_names(&mut self, rt: &impl LockableFiles) -> Result<(), CommandRefusal>
-        ensures { IfErr result (λ r. IsNamingFault r.error) }
-    {
+    pub fn take_names(&mut self, rt: &impl LockableFiles) -> Result<(), CommandRefusal> {
         if let Err(error) = self.check(rt) {
             return Err(self.give_up(rt, error));
         }
@@ -214,9 +201,7 @@ impl Batch {
     }
 
     /// What is said where none gets its name. What was played stays beside; the others go, since they lack the change and can be made again.
-    fn give_up(&mut self, rt: &impl LockableFiles, error: HostError) -> CommandRefusal
-        ensures { result.error ≡ error }
-    {
+    fn give_up(&mut self, rt: &impl LockableFiles, error: HostError) -> CommandRefusal {
         if !self.keeps_played {
             self.remove(rt);
             return CommandRefusal {
@@ -231,9 +216,7 @@ impl Batch {
     }
 
     /// Fails where one of the files that they are to replace is no longer what it was when it was read.
-    fn check(&self, rt: &impl Files) -> Result<(), HostError>
-        ensures { IfErr result IsNamingFault }
-    {
+    fn check(&self, rt: &impl Files) -> Result<(), HostError> {
         for whole in &self.all {
             whole.check(rt)?;
         }

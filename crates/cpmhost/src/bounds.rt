@@ -1,7 +1,6 @@
 //! Where the files of a run may lie: in the folders of `--within`, and its outputs with `--outputs-here` in the current one.
 
-ghost use Rattle.std.specs.Prelude.{◌≡◌, IfErr};
-ghost use Rattle.cpm_commands.specs.Files.{IsPlanRefusal};
+ghost use Rattle.std.specs.Prelude.{◌≡◌};
 
 use crate::files::unreadable;
 use crate::output::{is_open_already, target_of};
@@ -39,9 +38,7 @@ pub struct Bounds {
 }
 
 /// The refusal of a file, with what is said of it.
-fn refused(name: &str, is_output: bool, behind: RefusalDetail) -> CommandRefusal
-    ensures { IsPlanRefusal result.error }
-{
+fn refused(name: &str, is_output: bool, behind: RefusalDetail) -> CommandRefusal {
     let name = shown(name);
     let error = if is_output {
         RunError::WriteFault(name)
@@ -73,9 +70,7 @@ impl Bounds {
     }
 
     /// Those of the folders of these names; where there is no name there are none.
-    fn new(rt: &(impl Files + AllocGlobal), names: &[&str]) -> Result<Bounds, CommandRefusal>
-        ensures { IfErr result (λ r. IsPlanRefusal r.error) }
-    {
+    fn new(rt: &(impl Files + AllocGlobal), names: &[&str]) -> Result<Bounds, CommandRefusal> {
         let mut folders = Vec::new(rt.alloc());
         for name in names {
             match folder_at(rt, name) {
@@ -163,9 +158,7 @@ impl Bounds {
         rt: &(impl Files + AllocGlobal),
         name: &str,
         is_output: bool,
-    ) -> Result<(), CommandRefusal>
-        ensures { IfErr result (λ r. IsPlanRefusal r.error) }
-    {
+    ) -> Result<(), CommandRefusal> {
         let behind = match self.locate(rt, name)? {
             Location::Inside => return Ok(()),
             Location::Outside => RefusalDetail::Outside,
@@ -180,9 +173,7 @@ impl Bounds {
         &self,
         rt: &(impl Files + AllocGlobal),
         name: &str,
-    ) -> Result<(), CommandRefusal>
-        ensures { IfErr result (λ r. IsPlanRefusal r.error) }
-    {
+    ) -> Result<(), CommandRefusal> {
         self.check(rt, name, true)
     }
 
@@ -191,9 +182,7 @@ impl Bounds {
         &self,
         rt: &(impl Files + AllocGlobal),
         inputs: &[PlannedFile<'_>],
-    ) -> Result<(), CommandRefusal>
-        ensures { IfErr result (λ r. IsPlanRefusal r.error) }
-    {
+    ) -> Result<(), CommandRefusal> {
         for file in inputs {
             if file.role != FileRole::Configuration {
                 self.check(rt, file.name, false)?;
@@ -269,9 +258,7 @@ impl FileRules<'_> {
     }
 
     /// Refuses outputs of which one has a name that is not plain, or scripts that would go to another folder than the current one.
-    fn check_plain(self, outputs: &[PlannedFile<'_>]) -> Result<(), CommandRefusal>
-        ensures { IfErr result (λ r. IsPlanRefusal r.error) }
-    {
+    fn check_plain(self, outputs: &[PlannedFile<'_>]) -> Result<(), CommandRefusal> {
         if !self.has_outputs_here {
             return Ok(());
         }
@@ -287,9 +274,7 @@ impl FileRules<'_> {
     }
 
     /// Refuses scripts that would go to a folder with no name.
-    fn check_scripts(self) -> Result<(), HostError>
-        ensures { IfErr result IsPlanRefusal }
-    {
+    fn check_scripts(self) -> Result<(), HostError> {
         if self.scripts != Some("") {
             return Ok(());
         }
@@ -307,9 +292,7 @@ impl FileRules<'_> {
         self,
         rt: &(impl Files + AllocGlobal),
         plan: &FilePlan<'_>,
-    ) -> Result<Bounds, CommandRefusal>
-        ensures { IfErr result (λ r. IsPlanRefusal r.error) }
-    {
+    ) -> Result<Bounds, CommandRefusal> {
         self.check_plain(&plan.outputs)?;
         self.check_scripts()?;
         Bounds::new(rt, self.folders)

@@ -1,6 +1,5 @@
 //! The files of the machine that the program runs on.
-ghost use Rattle.std.specs.Prelude.{⊤, ◌≡◌, ◌≤◌, Err, None, Ok, IfErr, IfOk, MatchOption, MatchResult, vec_len};
-ghost use Rattle.cpm_commands.specs.Files.{IsNamingFault, IsPlanRefusal};
+ghost use Rattle.std.specs.Prelude.{⊤, ◌≡◌, ◌≤◌, None, IfErr, IfOk, vec_len};
 ghost use Rattle.cpm_host.specs.Refusals.{IsFileRefusal, IsOutRefusal};
 ghost use Rattle.cpm_store.specs.Files.{CountsFailure};
 
@@ -36,10 +35,7 @@ pub fn found_of_input<T: Drop>(
     rt: &impl Files,
     name: &str,
     looked: io::Result<Option<T>>,
-) -> Result<Option<T>, HostError>
-    ensures refusal { IfErr result (IsFileRefusal name.now) }
-    ensures told { IfErr result IsPlanRefusal }
-{
+) -> Result<Option<T>, HostError> {
     match looked {
         Ok(found) => Ok(found),
         Err(reason) if reason.kind() != ErrorKind::OutOfMemory && fs::open(rt, name).is_err() => {
@@ -52,7 +48,6 @@ pub fn found_of_input<T: Drop>(
 /// Fails where a file of this name can't be written.
 pub fn check_file(rt: &impl LockableFiles, outputs: Outputs, name: &str) -> Result<(), HostError>
     ensures refusal { IfErr result (IsOutRefusal name.now) }
-    ensures told { IfErr result IsPlanRefusal }
 {
     outputs
         .check(rt, name)
@@ -66,7 +61,6 @@ pub fn check_folder(
     folder: &str,
 ) -> Result<(), HostError>
     ensures refusal { IfErr result (IsOutRefusal folder.now) }
-    ensures told { IfErr result IsPlanRefusal }
 {
     if let Err(reason) = names_in(rt, rt.alloc(), folder) {
         return Err(unwritable(folder, reason));
@@ -78,8 +72,7 @@ pub fn check_folder(
 
 /// Why a file was not written.
 pub fn unwritable(name: &str, reason: io::Error) -> HostError
-    ensures refusal { IsOutRefusal name.now result }
-    ensures told { IsPlanRefusal result }
+    ensures { IsOutRefusal name.now result }
 {
     if reason.kind() == ErrorKind::OutOfMemory {
         HostError::OutOfMemory
@@ -93,8 +86,7 @@ pub fn unwritable(name: &str, reason: io::Error) -> HostError
 
 /// Why a file was not read.
 pub fn unreadable(name: &str, reason: io::Error) -> HostError
-    ensures refusal { IsFileRefusal name.now result }
-    ensures told { IsPlanRefusal result }
+    ensures { IsFileRefusal name.now result }
 {
     if reason.kind() == ErrorKind::OutOfMemory {
         HostError::OutOfMemory
@@ -162,9 +154,7 @@ impl<'a, R: LockableFiles> MachineFiles<'a, R> {
 
     /// What is said of a command that ended so. Nothing is left then of what was made and has no name: a command may end after some of its files were, where
     /// memory is refused between two of them.
-    pub fn end<T: Drop>(self, ended: Result<T, HostError>) -> Result<T, CommandRefusal>
-        ensures { MatchResult result (λ done. ended ≡ Ok done) (λ refused. ended ≡ Err refused.error) }
-    {
+    pub fn end<T: Drop>(self, ended: Result<T, HostError>) -> Result<T, CommandRefusal> {
         let MachineFiles {
             rt,
             mut batch,
@@ -185,8 +175,7 @@ impl<'a, R: LockableFiles> MachineFiles<'a, R> {
 
     /// Keeps what is said of a refusal, which is its error.
     fn keep(&mut self, refused: CommandRefusal) -> HostError
-        ensures same { self.new.failures ≡ self.old.failures }
-        ensures error { result ≡ refused.error }
+        ensures { self.new.failures ≡ self.old.failures }
     {
         let CommandRefusal { error, behind } = refused;
         self.detail = behind;
@@ -221,9 +210,7 @@ impl<'a, R: LockableFiles> MachineFiles<'a, R> {
     }
 
     /// Sees to the files of a plan. What was held for one before it is held on.
-    fn see(&mut self, plan: &FilePlan<'_>) -> Result<(), CommandRefusal>
-        ensures { IfErr result (λ r. IsPlanRefusal r.error) }
-    {
+    fn see(&mut self, plan: &FilePlan<'_>) -> Result<(), CommandRefusal> {
         let seen = SeenFiles::of(self.rt, self.outputs, self.rules, plan)?;
         self.seen.add(seen)?;
         self.repeated = RepeatedFiles::of(self.rt.alloc(), &plan.inputs)?;
@@ -284,10 +271,9 @@ impl<R: LockableFiles> Store for MachineFiles<'_, R> {
 }
 
 impl<R: LockableFiles> CommandFiles for MachineFiles<'_, R> {
-    // What the machine has isn't known, but how it refuses.
-    ghost sees_to = { λ _ _ fault _. MatchOption fault ⊤ IsPlanRefusal };
+    ghost sees_to = { λ _ _ _ _. ⊤ };
 
-    ghost gives_names = { λ _ fault _. MatchOption fault ⊤ IsNamingFault };
+    ghost gives_names = { λ _ _ _. ⊤ };
 
     ghost tells_name = { λ _ _ _. ⊤ };
 

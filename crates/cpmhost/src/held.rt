@@ -1,9 +1,6 @@
 //! Files that are read and then replaced. A command holds such a file from its reading to its replacement, so that of two commands that change one file
 //! each has what the other one did; and it replaces the file only where that still is what it was when it was read.
 
-ghost use Rattle.std.specs.Prelude.{IfErr};
-ghost use Rattle.cpm_commands.specs.Files.{IsPlanRefusal};
-
 use crate::files::{found_of_input, unwritable};
 use crate::output::{is_open_already, target_of};
 use crate::patient::StandardError;
@@ -138,9 +135,7 @@ fn hold(
     reads: &[&str],
     outs: &[&str],
     waits: bool,
-) -> Result<HeldFiles, CommandRefusal>
-    ensures { IfErr result (λ r. IsPlanRefusal r.error) }
-{
+) -> Result<HeldFiles, CommandRefusal> {
     let pauses = if waits { MOST_LOCK_PAUSES } else { 0 };
     let mut attempt = try_hold(rt, reads, outs)?;
     for _pause in 0..pauses {
@@ -167,9 +162,7 @@ pub fn hold_images(
     rt: &impl LockableFiles,
     plan: &FilePlan<'_>,
     waits: bool,
-) -> Result<HeldFiles, CommandRefusal>
-    ensures { IfErr result (λ r. IsPlanRefusal r.error) }
-{
+) -> Result<HeldFiles, CommandRefusal> {
     let reads = images_of(rt.alloc(), &plan.inputs)?;
     let outs = images_of(rt.alloc(), &plan.outputs)?;
     hold(rt, &reads, &outs, waits)
@@ -191,9 +184,7 @@ fn try_hold(
     rt: &impl LockableFiles,
     reads: &[&str],
     outs: &[&str],
-) -> Result<Attempt, CommandRefusal>
-    ensures { IfErr result (λ r. IsPlanRefusal r.error) }
-{
+) -> Result<Attempt, CommandRefusal> {
     let mut all = Vec::new(rt.alloc());
     for both in &both_of(rt, reads, outs)? {
         let Some(name) = outs.get(both.place) else {
@@ -213,9 +204,7 @@ fn both_of(
     rt: &(impl Files + AllocGlobal),
     reads: &[&str],
     outs: &[&str],
-) -> Result<Vec<RewrittenFile>, CommandRefusal>
-    ensures { IfErr result (λ r. IsPlanRefusal r.error) }
-{
+) -> Result<Vec<RewrittenFile>, CommandRefusal> {
     let inputs = spots_of(rt, reads)?;
     let mut all: Vec<RewrittenFile> = Vec::new(rt.alloc());
     for (place, name) in outs.iter().enumerate() {
@@ -237,9 +226,7 @@ fn both_of(
 }
 
 /// Where the files lie that are read.
-fn spots_of(rt: &(impl Files + AllocGlobal), names: &[&str]) -> Result<Vec<Spot>, CommandRefusal>
-    ensures { IfErr result (λ r. IsPlanRefusal r.error) }
-{
+fn spots_of(rt: &(impl Files + AllocGlobal), names: &[&str]) -> Result<Vec<Spot>, CommandRefusal> {
     let mut spots: Vec<Spot> = Vec::new(rt.alloc());
     for name in names {
         if let Some(spot) = found_of_input(rt, name, spot_of(rt, name))? {

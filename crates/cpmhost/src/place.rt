@@ -1,8 +1,5 @@
 //! Which file of the machine a name is of, by whatever spelling or link.
 
-ghost use Rattle.std.specs.Prelude.{IfErr};
-ghost use Rattle.cpm_commands.specs.Files.{IsPlanRefusal};
-
 use crate::files::{found_of_input, unwritable};
 use crate::output::target_of;
 use crate::refused::{CommandRefusal, RefusalDetail};
@@ -115,9 +112,7 @@ impl<'a> FoundFiles<'a> {
         &mut self,
         rt: &(impl Files + AllocGlobal),
         file: PlannedFile<'a>,
-    ) -> Result<(), CommandRefusal>
-        ensures { IfErr result (λ r. IsPlanRefusal r.error) }
-    {
+    ) -> Result<(), CommandRefusal> {
         if let Some(place) = found_of_input(rt, file.name, place_of(rt, file))? {
             self.inputs.push(FoundFile { file, place })?;
         }
@@ -129,9 +124,7 @@ impl<'a> FoundFiles<'a> {
         &mut self,
         rt: &(impl Files + AllocGlobal),
         file: PlannedFile<'a>,
-    ) -> Result<(), CommandRefusal>
-        ensures { IfErr result (λ r. IsPlanRefusal r.error) }
-    {
+    ) -> Result<(), CommandRefusal> {
         let name = file.name;
         let place = place_of(rt, file).map_err(|reason| unwritable(name, reason))?;
         if let Some(place) = place {
@@ -142,9 +135,7 @@ impl<'a> FoundFiles<'a> {
     }
 
     /// Refuses an output at a place that is an output before it, or an input which it may not replace.
-    fn check_new(&self, place: &FileIdentity, file: PlannedFile<'a>) -> Result<(), CommandRefusal>
-        ensures { IfErr result (λ r. IsPlanRefusal r.error) }
-    {
+    fn check_new(&self, place: &FileIdentity, file: PlannedFile<'a>) -> Result<(), CommandRefusal> {
         if let Some(other) = self.outputs.iter().find(|other| other.place == *place) {
             let name = other.file.name;
             return Err(twin(name, RefusalDetail::Output(shown(file.name))));
@@ -159,9 +150,7 @@ impl<'a> FoundFiles<'a> {
     }
 
     /// Refuses an output in a folder that files are written into: whoever made one of its name there would lose all in the end.
-    fn check_folders(&self, rt: &(impl Files + AllocGlobal)) -> Result<(), CommandRefusal>
-        ensures { IfErr result (λ r. IsPlanRefusal r.error) }
-    {
+    fn check_folders(&self, rt: &(impl Files + AllocGlobal)) -> Result<(), CommandRefusal> {
         for folder in &self.outputs {
             if folder.file.role == FileRole::Folder {
                 self.check_folder(rt, &folder.place)?;
@@ -175,9 +164,7 @@ impl<'a> FoundFiles<'a> {
         &self,
         rt: &(impl Files + AllocGlobal),
         folder: &FileIdentity,
-    ) -> Result<(), CommandRefusal>
-        ensures { IfErr result (λ r. IsPlanRefusal r.error) }
-    {
+    ) -> Result<(), CommandRefusal> {
         for output in &self.outputs {
             let name = output.file.name;
             let place = place_by_folder(rt, name).map_err(|reason| unwritable(name, reason))?;
@@ -193,9 +180,7 @@ impl<'a> FoundFiles<'a> {
 }
 
 /// The refusal of an output that is another file too, or may become one.
-fn twin(name: &str, behind: RefusalDetail) -> CommandRefusal
-    ensures { IsPlanRefusal result.error }
-{
+fn twin(name: &str, behind: RefusalDetail) -> CommandRefusal {
     CommandRefusal {
         error: HostError::from(RunError::WriteFault(shown(name))),
         behind,
@@ -224,9 +209,7 @@ fn pipe_of(rt: &impl Files, name: &str) -> Option<PipeIdentity> {
 }
 
 /// The refusal of an input that is a pipe which something else reads.
-fn shared_pipe(name: &str, behind: RefusalDetail) -> CommandRefusal
-    ensures { IsPlanRefusal result.error }
-{
+fn shared_pipe(name: &str, behind: RefusalDetail) -> CommandRefusal {
     CommandRefusal {
         error: HostError::from(RunError::FileRefused(ReadError::File(shown(name)))),
         behind,
@@ -238,9 +221,7 @@ pub fn check_pipes(
     rt: &(impl Files + AllocGlobal),
     inputs: &[PlannedFile<'_>],
     is_typed_at: bool,
-) -> Result<(), CommandRefusal>
-    ensures { IfErr result (λ r. IsPlanRefusal r.error) }
-{
+) -> Result<(), CommandRefusal> {
     let keys = match is_typed_at {
         true => pipe_of(rt, STANDARD_INPUT),
         false => None,
@@ -265,9 +246,7 @@ pub fn check_pipes(
 pub fn check_apart(
     rt: &(impl Files + AllocGlobal),
     plan: &FilePlan<'_>,
-) -> Result<(), CommandRefusal>
-    ensures { IfErr result (λ r. IsPlanRefusal r.error) }
-{
+) -> Result<(), CommandRefusal> {
     let mut found = FoundFiles {
         inputs: Vec::new(rt.alloc()),
         outputs: Vec::new(rt.alloc()),

