@@ -35,6 +35,17 @@ fn unseen(error: HostError) -> FolderError {
     }
 }
 
+/// Sees to the files of a plan.
+fn see<R: LockableFiles>(
+    files: &mut MachineFiles<'_, R>,
+    plan: &FilePlan<'_>,
+) -> Result<(), FolderError> {
+    match files.see_to(plan) {
+        Ok(()) => Ok(()),
+        Err(error) => Err(unseen(error)),
+    }
+}
+
 /// Why it was not read or written.
 fn fault_of(error: StoreError) -> FolderError {
     match error {
@@ -99,7 +110,7 @@ impl<'a, R: LockableFiles> ServiceFolder<'a, R> {
             return Err(FolderError::OutOfMemory);
         };
         let mut files = self.files();
-        files.see_to(&plan).map_err(unseen)?;
+        see(&mut files, &plan)?;
         match files.read(alloc, path.as_str()) {
             Ok(bytes) => Ok((bytes, files)),
             Err(error) => Err(fault_of(error)),
@@ -133,7 +144,7 @@ impl<'a, R: LockableFiles> ServiceFolder<'a, R> {
             }
         }
         let mut files = self.files();
-        files.see_to(&plan).map_err(unseen)?;
+        see(&mut files, &plan)?;
         Ok(files)
     }
 
