@@ -20,8 +20,8 @@ pub use asm::{ProgramListing, run_asm, run_asm_listed};
 pub use cpm_batch::{ReadError, Replay, SavedMachine, SavingRefusal};
 pub use cpm_check::{CheckError, run_check};
 pub use cpm_command_line::{
-    DebugTask, DiskTask, Page, PlayTask, RunTask, ServeTask, ShownWord, Task, UsageError, UsageFault,
-    UsageRefusal, VERSION, asks_version, command, page_text, shown,
+    DebugTask, DiskTask, Page, PlayTask, RunTask, ServeTask, ShownWord, Task, UsageError,
+    UsageFault, UsageRefusal, VERSION, asks_version, command, page_text, shown,
 };
 pub use cpm_config::{Config, ConfigError, Origin, SessionConfig};
 pub use cpm_debug::{DebugError, run_debug};
