@@ -101,11 +101,15 @@ def texts_beside():
     return texts
 
 
+# where files are in memory, if the machine has such a place: what is flushed there takes no time
+IN_MEMORY = "/dev/shm" if os.access("/dev/shm", os.W_OK | os.X_OK) else None
+
+
 @contextlib.contextmanager
-def folder():
-    """A new folder for the files of a test, which works in it meanwhile."""
+def folder(where=None):
+    """A new folder for the files of a test, which works in it meanwhile; somewhere, or in the usual place."""
     before = os.getcwd()
-    with tempfile.TemporaryDirectory(prefix=f"{os.path.basename(NAME)}-") as room:
+    with tempfile.TemporaryDirectory(prefix=f"{os.path.basename(NAME)}-", dir=where) as room:
         os.chdir(room)
         try:
             yield room

@@ -1,11 +1,18 @@
 """What the tests of `cpmhost serve` share: whether the program has the command, and a host over its pipes that is asked line by line."""
 
 import contextlib
+import functools
+import json
 import os
 import subprocess
 import sys
 
 import lib
+
+try:
+    import jsonschema
+except ImportError:
+    jsonschema = None
 
 sys.path.insert(0, os.path.join(lib.ROOT, "clients", "python"))
 
@@ -21,6 +28,19 @@ def skipped():
         return False
     lib.skip("the served host", f"{lib.CPMHOST} has no command serve")
     return True
+
+
+@functools.cache
+def judge(kind):
+    """What judges by docs/protocol.schema.json whether a value is a `request`, `one` of `many`, or a `reply`; nothing without Python's module jsonschema. A whole
+    number has neither a point nor an exponent, which no schema can say."""
+    if jsonschema is None:
+        return None
+    with open(os.path.join(lib.ROOT, "docs", "protocol.schema.json"), encoding="utf-8") as file:
+        schema = json.load(file)
+    usual = jsonschema.Draft202012Validator
+    types = usual.TYPE_CHECKER.redefine("integer", lambda _, value: type(value) is int)
+    return jsonschema.validators.extend(usual, type_checker=types)({**schema, "anyOf": [{"$ref": f"#/$defs/{kind}"}]})
 
 
 class Lines:

@@ -1,12 +1,16 @@
-"""A reading of docs/PROTOCOL.md: a line as a request or its first fault, and what a host without a folder replies.
+"""A reading of docs/PROTOCOL.md: a line as a request or its first fault, and what a host replies, with a folder of files or without one.
 
-What a session does is told by `prompt.Prompt`. Where that doesn't know it, a member of the reply is `ANY`.
+What a session does is told by `prompt.Prompt`, and what is on an image by `image_files.FileOnImage`. Where these don't know it, a member of the reply is
+`ANY`, or the whole reply.
 """
 
 import json
 import re
+from typing import NamedTuple, Optional
 
-from .disk import LARGE, SMALL
+from .directories import fault_of
+from .disk import FORMATS, LARGE, SMALL
+from .image_files import FileOnImage, plain
 from .prompt import Beyond, Prompt
 
 ANY = object()
@@ -18,7 +22,14 @@ WHY = {
     "NoFrames": "the quotas of all open slots exceed the frames",
     "BadQuota": "the quota is not 16 to 256 pages",
     "BadDrives": "the session has no drive, or more than 4",
+    "Damaged": "the bytes are no saving",
+    "ReadOnly": "the file is read-only",
+    "DirectoryFull": "the directory is full",
+    "DiskFull": "the disk is full",
+    "NoFile": "no such file",
+    "BadName": "no file of a disk has such a name",
     "AbsentFile": "the folder has no such file",
+    "DamagedDisk": "the file is no image of a sound disk",
     "FileFault": "the file can't be read or written",
 }
 
@@ -103,7 +114,10 @@ def text(value, most=255):
 
 
 def octets(value):
-    return value.encode("latin-1") if isinstance(value, str) and all(ord(c) < 256 for c in value) else wrong
+    try:
+        return value.encode("latin-1") if isinstance(value, str) else wrong
+    except UnicodeEncodeError:
+        return wrong
 
 
 def file(value):
@@ -187,18 +201,55 @@ def fields_of(value, needed, others):
     return fields
 
 
-# ---- a host
+# ---- files
 
-PLAIN = re.compile(r"[A-Za-z0-9]{1,8}(\.[A-Za-z0-9]{1,3})?")
+# (a character of a name is one that is seen, and none of these)
+CHARACTER = "".join(re.escape(chr(c)) for c in range(0x21, 0x7F) if chr(c) not in "<>.,;:=?*[]_")
+NAME = re.compile(rf"([{CHARACTER}]{{1,8}})(?:\.([{CHARACTER}]{{0,3}}))?")
 BLANK = {name: b"\xe5" * form.size for name, form in (("blank", SMALL), ("blank-large", LARGE))}
 
 
-class Host:
-    """A host with a blank system drive, and its replies."""
+def field_of(name):
+    """The eleven characters of a file's name. A small letter counts as the capital, and no other character has one."""
+    found = NAME.fullmatch(name)
+    if not found:
+        raise Refusal("BadName")
+    return (found[1].ljust(8) + (found[2] or "").ljust(3)).upper().encode()
 
-    def __init__(self, frames=16384):
-        self.frames, self.number = frames, 0
-        #: Each open slot: its quota, how many drives it has, and its session, which is None once it did what isn't known.
+
+def shown_name(field):
+    """A name as it is listed."""
+    text = plain(field).decode("latin-1")
+    return f"{text[:8].rstrip()}.{text[8:].rstrip()}".rstrip(".")
+
+
+class Saving(NamedTuple):
+    """What a file holds that was saved: a session, where it is known."""
+
+    quota: int
+    sizes: list
+    session: Optional[Prompt]
+
+
+class Hidden(NamedTuple):
+    """What a file holds that is an image of so many bytes, of which no more is known."""
+
+    size: int
+
+
+def size_of(image):
+    return image.size if isinstance(image, Hidden) else len(image)
+
+
+# ---- a host
+
+
+class Host:
+    """A host with a blank system drive, and its replies. It may have files by their names: bytes, savings and hidden images."""
+
+    def __init__(self, frames=16384, files=None):
+        self.frames, self.number, self.files = frames, 0, files
+        #: Each open slot: its quota, the sizes of its drives, and its session, which is None once it did what isn't known.
         self.slots = {}
 
     def reply(self, line):
@@ -217,7 +268,8 @@ class Host:
             do, fields = request_of(value, is_line)
             if do == "many":
                 return {"replies": [self.answer(it) for it in fields["requests"]], **tag}
-            return {**getattr(self, f"do_{do.replace(' ', '_')}")(**{f"{name}_": it for name, it in fields.items()}), **tag}
+            reply = getattr(self, f"do_{do.replace(' ', '_')}")(**{f"{name}_": it for name, it in fields.items()})
+            return reply if reply is ANY else {**reply, **tag}
         except (Fault, Refusal) as fault:
             return {**fault.reply, **tag}
 
@@ -226,15 +278,34 @@ class Host:
             raise Refusal("NoSuchSlot")
         return self.slots[number]
 
-    def with_room(self, quota, drives, session):
-        """The reply to what opens a slot."""
+    def see_room(self, quota):
         if len(self.slots) == SLOTS:
             raise Refusal("NoSlot")
         if sum(slot[0] for slot in self.slots.values()) + quota > self.frames:
             raise Refusal("NoFrames")
-        self.slots[self.number] = [quota, drives, session()]
+
+    def opened(self, quota, sizes, session):
+        """The reply to what opens a slot, for which there is room."""
+        self.slots[self.number] = [quota, sizes, session]
         self.number += 1
         return {"slot": self.number - 1}
+
+    def file(self, name):
+        if name not in (self.files or ()):
+            raise Refusal("AbsentFile")
+        return self.files[name]
+
+    def image(self, name):
+        """The image in a file."""
+        found = self.file(name)
+        if isinstance(found, Saving) or size_of(found) not in FORMATS:
+            raise Refusal("DamagedDisk")
+        return found
+
+    def written(self, files):
+        if self.files is None:
+            raise Refusal("FileFault")
+        self.files.update(files)
 
     def known(self, number, ask, *unknown):
         """What a session replies; from what it doesn't know on, these members hold anything."""
@@ -251,21 +322,18 @@ class Host:
             raise Refusal("BadQuota")
         if not drives_:
             raise Refusal("BadDrives")
-        absent = [it for it in drives_ if it not in BLANK]
-
-        def session():
-            return Prompt(cpu_, quota_, [BLANK[it] for it in drives_], BLANK["blank"])
-
-        if absent:
-            # (what there is no room for is told first)
-            copy = Host(self.frames)
-            copy.slots = dict(self.slots)
-            copy.with_room(quota_, len(drives_), lambda: None)
-            raise Refusal("AbsentFile")
-        return self.with_room(quota_, len(drives_), session)
+        self.see_room(quota_)
+        images = [BLANK.get(it) or self.image(it) for it in drives_]
+        is_known = not any(isinstance(it, Hidden) for it in images)
+        session = Prompt(cpu_, quota_, images, BLANK["blank"]) if is_known else None
+        return self.opened(quota_, [size_of(it) for it in images], session)
 
     def do_open_from(self, from_):
-        raise Refusal("AbsentFile")
+        saving = self.file(from_)
+        if not isinstance(saving, Saving):
+            raise Refusal("Damaged")
+        self.see_room(saving.quota)
+        return self.opened(saving.quota, saving.sizes, saving.session and saving.session.fork())
 
     def do_key(self, slot_, keys_):
         return self.known(slot_, lambda it: {"accepted": it.press(keys_)}, "accepted")
@@ -290,19 +358,22 @@ class Host:
         return self.known(slot_, lambda it: {"text": it.peek(address_, length_).decode("latin-1")}, "text")
 
     def do_fork(self, slot_):
-        quota, drives, session = self.slot(slot_)
-        return self.with_room(quota, drives, lambda: session and session.fork())
+        quota, sizes, session = self.slot(slot_)
+        self.see_room(quota)
+        return self.opened(quota, sizes, session and session.fork())
 
     def do_save(self, slot_, file_):
-        self.slot(slot_)
-        raise Refusal("FileFault")
+        quota, sizes, session = self.slot(slot_)
+        self.written({file_: Saving(quota, sizes, session and session.fork())})
+        return {"bytes": ANY}
 
     def do_close(self, slot_, out_=()):
-        slot = self.slot(slot_)
-        if len(out_) > slot[1] or len(set(out_)) < len(out_):
+        _, sizes, session = self.slot(slot_)
+        if len(out_) > len(sizes) or len(set(out_)) < len(out_):
             raise Refusal("BadDrives")
         if out_:
-            raise Refusal("FileFault")
+            images = [bytes(session.calls.disks[place].image) if session else Hidden(size) for place, size in enumerate(sizes)]
+            self.written(dict(zip(out_, images)))
         look = self.do_look(slot_)
         del self.slots[slot_]
         return look
@@ -317,17 +388,41 @@ class Host:
 
         return self.known(slot_, ask, "accepted", "executed", "why", "text", "list", "waiting", "end")
 
+    def on_image(self, drive, field):
+        """A file of user 0 on a sound image, or nothing where the image isn't known."""
+        image = self.image(drive)
+        if isinstance(image, Hidden):
+            return None
+        found = FileOnImage(bytearray(image), 0, field)
+        if fault_of(found.disk):
+            raise Refusal("DamagedDisk")
+        return found
+
     def do_put(self, drive_, name_, text_):
-        return self.do_get(drive_, name_)
+        found = self.on_image(drive_, field_of(name_))
+        if found is None:
+            return ANY
+        if refusal := found.refusal(text_):
+            raise Refusal(str(refusal))
+        found.put(text_)
+        self.written({drive_: bytes(found.disk.image)})
+        return {"bytes": len(text_)}
 
     def do_get(self, drive_, name_):
-        if not PLAIN.fullmatch(name_):
-            # (it may be no name on a disk, which is told first)
-            return {"refused": ANY, "why": ANY}
-        raise Refusal("AbsentFile")
+        found = self.on_image(drive_, field_of(name_))
+        if found is None:
+            return ANY
+        if not found.entries():
+            raise Refusal("NoFile")
+        return {"text": found.get().decode("latin-1")}
 
     def do_files(self, drive_):
-        raise Refusal("AbsentFile")
+        found = self.on_image(drive_, bytes(11))
+        if found is None:
+            return ANY
+        entries = map(found.disk.entry, range(found.form.entries))
+        names = dict.fromkeys(plain(entry[1:12]) for entry in entries if entry[0] == 0)
+        return {"text": "".join(f"{shown_name(name)}\n" for name in names)}
 
 
 LOOK = tuple(Prompt("8080", 16, [BLANK["blank"]], BLANK["blank"]).look())
@@ -354,4 +449,4 @@ def line_of(value):
 
 def changes_nothing(reply):
     """Whether a reply says that nothing was changed."""
-    return "refused" in reply or "error" in reply
+    return reply is not ANY and ("refused" in reply or "error" in reply)

@@ -1,25 +1,58 @@
 """The same by asyncio. Requests of several tasks are under way at a time, and their replies come in the order of the requests."""
 
 import asyncio
+import functools
 from collections import deque
 from types import TracebackType
-from typing import Deque, List, Optional, Sequence, Tuple, Type, TypeVar, Union
+from typing import TYPE_CHECKING, Any, Callable, Coroutine, Deque, Optional, Sequence, Type, TypeVar
 
-from .faults import HostGone, fault_of
-from .plans import DriveState, Outcome, Plan, SessionState, Wanted, many_plan
-from .wire import Bytes, Granted, Look, Reply, Request, Turn, line_of, open_request, reply_of, serve_words
+from .faults import HostGone
+from .plans import DriveState, Files, HostState, Plan, SessionState, State, asking, lines_of
+from .wire import Reply, Request, open_request
 
+if TYPE_CHECKING:
+    from typing import Concatenate, ParamSpec
+
+    P = ParamSpec("P")
+S = TypeVar("S", bound=State)
 T = TypeVar("T")
 # a reply to `many` has this many bytes at most, and fewer than a thousand files as text
 LONGEST_REPLY = 1 << 30
 
 
+def awaited(plan: "Callable[Concatenate[S, P], Plan[T]]") -> "Callable[Concatenate[S, P], Coroutine[Any, Any, T]]":
+    """The call that asks what a plan asks, and returns what it has found."""
+
+    @functools.wraps(plan)
+    async def call(self: S, /, *words: "P.args", **named: "P.kwargs") -> T:
+        found: T = await self._host.run(plan(self, *words, **named))
+        return found
+
+    call.__name__ = plan.__name__.strip("_")
+    return call
+
+
 class AsyncSession(SessionState):
     """A session in a slot, as `Session`. One task drives it at a time."""
 
-    def __init__(self, host: "AsyncHost", slot: int) -> None:
-        super().__init__(slot)
-        self._host = host
+    type = awaited(SessionState._type)
+    turn = awaited(SessionState._turn)
+    expect = awaited(SessionState._expect)
+    grant = awaited(SessionState._grant)
+    take = awaited(SessionState._take)
+    take_list = awaited(SessionState._take_list)
+    look = awaited(SessionState._look)
+    peek = awaited(SessionState._peek)
+    save = awaited(SessionState._save)
+    close = awaited(SessionState._close)
+
+    async def fork(self) -> "AsyncSession":
+        fork: AsyncSession = await self._host.run(self._fork(AsyncSession))
+        return fork
+
+    @property
+    def files(self) -> "Files[AsyncDrive]":
+        return Files(lambda letter: AsyncDrive(self._host, letter, self))
 
     async def __aenter__(self) -> "AsyncSession":
         return self
@@ -28,88 +61,26 @@ class AsyncSession(SessionState):
         if self.is_open and not isinstance(fault, HostGone):
             await self.close()
 
-    async def type(self, keys: Bytes) -> None:
-        await self._host.run(self._type(keys))
-
-    async def turn(self, keys: Bytes = "", steps: int = 100_000) -> Turn:
-        return await self._host.run(self._turn(keys, steps))
-
-    async def expect(self, wanted: Union[Wanted, Sequence[Wanted]], steps: int = 10**6) -> int:
-        return await self._host.run(self._expect(wanted, steps))
-
-    async def grant(self, steps: int, until: Optional[int] = None, to: Optional[str] = None) -> Granted:
-        return await self._host.run(self._grant(steps, until, to))
-
-    async def take(self, most: int = 8192) -> str:
-        return await self._host.run(self._take(most))
-
-    async def take_list(self, most: int = 8192) -> str:
-        return await self._host.run(self._take_list(most))
-
-    async def look(self) -> Look:
-        return await self._host.run(self._look())
-
-    async def peek(self, address: int, length: int = 1) -> bytes:
-        return await self._host.run(self._peek(address, length))
-
-    async def fork(self) -> "AsyncSession":
-        other = AsyncSession(self._host, await self._host.run(self._fork()))
-        other._goes_on_from(self)
-        return other
-
-    async def save(self, file: str) -> int:
-        return await self._host.run(self._save(file))
-
-    async def close(self, out: Sequence[str] = ()) -> Look:
-        return await self._host.run(self._close(out))
-
 
 class AsyncDrive(DriveState):
-    """An image in the folder that no session has, as `Drive`."""
+    """An image in the folder that no session has, or the drive of a session, as `Drive`."""
 
-    def __init__(self, host: "AsyncHost", drive: str) -> None:
-        super().__init__(drive)
-        self._host = host
-
-    async def get(self, name: str) -> str:
-        return await self._host.run(self._get(name))
-
-    async def put(self, name: str, data: Bytes) -> int:
-        return await self._host.run(self._put(name, data))
-
-    async def names(self) -> List[str]:
-        return await self._host.run(self._names())
+    get = awaited(DriveState._get)
+    put = awaited(DriveState._put)
+    names = awaited(DriveState._names)
 
     async def create(self, large: bool = False) -> "AsyncDrive":
         await self._host.run(self._create(large))
         return self
 
 
-class AsyncFiles:
-    """The folder of a host: `host.files["work.img"]` is a drive."""
-
-    def __init__(self, host: "AsyncHost") -> None:
-        self._host = host
-
-    def __getitem__(self, drive: str) -> AsyncDrive:
-        return AsyncDrive(self._host, drive)
-
-
-class AsyncHost:
+class AsyncHost(HostState[asyncio.StreamReader, asyncio.StreamWriter]):
     """A host, as `Host`. It is started by `async with`, or by `start`."""
 
-    def __init__(
-        self,
-        folder: Optional[str] = None,
-        system: Optional[str] = None,
-        frames: Optional[int] = None,
-        program: Optional[str] = None,
-        streams: Optional[Tuple[asyncio.StreamReader, asyncio.StreamWriter]] = None,
-    ) -> None:
+    many = awaited(HostState._many)
+
+    def _begin(self) -> None:
         self.process: Optional[asyncio.subprocess.Process] = None
-        self.files = AsyncFiles(self)
-        self._words = serve_words(program, folder, system, frames)
-        self._streams = streams
         self._asked: Deque["asyncio.Future[bytes]"] = deque()
         self._is_gone = False
 
@@ -123,11 +94,12 @@ class AsyncHost:
         self._reading = asyncio.ensure_future(self._read())
         return self
 
-    async def __aenter__(self) -> "AsyncHost":
-        return await self.start()
+    async def open(self, cpu: str = "8080", quota: int = 64, drives: Sequence[str] = ("blank",), from_file: Optional[str] = None) -> AsyncSession:
+        return AsyncSession(self, (await self.ask(open_request(cpu, quota, drives, from_file)))["slot"])
 
-    async def __aexit__(self, kind: Optional[Type[BaseException]], fault: Optional[BaseException], trace: Optional[TracebackType]) -> None:
-        await self.close()
+    @property
+    def files(self) -> Files[AsyncDrive]:
+        return Files(lambda drive: AsyncDrive(self, drive))
 
     async def _read(self) -> None:
         """Gives each reply to who asked first."""
@@ -160,32 +132,28 @@ class AsyncHost:
         return reply
 
     async def ask(self, request: Request) -> Reply:
-        reply = reply_of(await self.send(line_of(request)))
-        fault = fault_of(reply)
-        if fault:
-            raise fault
-        return reply
+        return await self.run(asking(request))
 
     async def run(self, plan: "Plan[T]") -> T:
+        lines = lines_of(plan)
         try:
-            request = next(plan)
+            line = next(lines)
             while True:
-                try:
-                    reply = await self.ask(request)
-                except Exception as fault:
-                    request = plan.throw(fault)
-                else:
-                    request = plan.send(reply)
+                line = lines.send(await self.send(line))
         except StopIteration as end:
             return end.value  # type: ignore[no-any-return]
-
-    async def open(self, cpu: str = "8080", quota: int = 64, drives: Sequence[str] = ("blank",), from_file: Optional[str] = None) -> AsyncSession:
-        return AsyncSession(self, (await self.ask(open_request(cpu, quota, drives, from_file)))["slot"])
-
-    async def many(self, requests: Sequence[Request]) -> List[Outcome]:
-        return await self.run(many_plan(requests))
 
     async def close(self) -> int:
         self._requests.close()
         await self._reading
-        return 0 if self.process is None else await self.process.wait()
+        if self.process is None:
+            return 0
+        status = await self.process.wait()
+        self._remove_copies()
+        return status
+
+    async def __aenter__(self) -> "AsyncHost":
+        return await self.start()
+
+    async def __aexit__(self, kind: Optional[Type[BaseException]], fault: Optional[BaseException], trace: Optional[TracebackType]) -> None:
+        await self.close()

@@ -1,22 +1,57 @@
 """A host, its sessions and its files, driven line by line."""
 
+import functools
 import subprocess
 from types import TracebackType
-from typing import BinaryIO, Iterator, List, Optional, Sequence, Tuple, Type, TypeVar, Union
+from typing import TYPE_CHECKING, BinaryIO, Callable, Iterator, Optional, Sequence, Type, TypeVar
 
-from .faults import HostGone, fault_of
-from .plans import DriveState, Outcome, Plan, SessionState, Wanted, many_plan
-from .wire import Bytes, Granted, Look, Reply, Request, Turn, line_of, open_request, reply_of, serve_words
+from .faults import HostGone
+from .plans import DriveState, Files, HostState, Plan, SessionState, State, asking, lines_of
+from .wire import Bytes, Reply, Request, open_request
 
+if TYPE_CHECKING:
+    from typing import Concatenate, ParamSpec
+
+    P = ParamSpec("P")
+S = TypeVar("S", bound=State)
 T = TypeVar("T")
+
+
+def asked(plan: "Callable[Concatenate[S, P], Plan[T]]") -> "Callable[Concatenate[S, P], T]":
+    """The call that asks what a plan asks, and returns what it has found."""
+
+    @functools.wraps(plan)
+    def call(self: S, /, *words: "P.args", **named: "P.kwargs") -> T:
+        found: T = self._host.run(plan(self, *words, **named))
+        return found
+
+    call.__name__ = plan.__name__.strip("_")
+    return call
 
 
 class Session(SessionState):
     """A session in a slot. As a context manager it is closed at the end."""
 
-    def __init__(self, host: "Host", slot: int) -> None:
-        super().__init__(slot)
-        self._host = host
+    type = asked(SessionState._type)
+    turn = asked(SessionState._turn)
+    expect = asked(SessionState._expect)
+    grant = asked(SessionState._grant)
+    take = asked(SessionState._take)
+    take_list = asked(SessionState._take_list)
+    look = asked(SessionState._look)
+    peek = asked(SessionState._peek)
+    save = asked(SessionState._save)
+    close = asked(SessionState._close)
+
+    def fork(self) -> "Session":
+        """Another session that is the same, and has shown the same."""
+        fork: Session = self._host.run(self._fork(Session))
+        return fork
+
+    @property
+    def files(self) -> "Files[Drive]":
+        """Its drives as they stand now: `session.files["A"]["HELLO.TXT"]` is a file's bytes, as text."""
+        return Files(lambda letter: Drive(self._host, letter, self))
 
     def __enter__(self) -> "Session":
         return self
@@ -25,68 +60,13 @@ class Session(SessionState):
         if self.is_open and not isinstance(fault, HostGone):
             self.close()
 
-    def type(self, keys: Bytes) -> None:
-        """Presses keys. Those for which there is no room yet are pressed by the next turns."""
-        self._host.run(self._type(keys))
-
-    def turn(self, keys: Bytes = "", steps: int = 100_000) -> Turn:
-        """Presses keys, executes steps up to a wait, and takes what is shown, up to 8,192 bytes of each device."""
-        return self._host.run(self._turn(keys, steps))
-
-    def expect(self, wanted: Union[Wanted, Sequence[Wanted]], steps: int = 10**6) -> int:
-        """Executes steps until a text or a pattern is shown, or one of a list, and returns its place in the list."""
-        return self._host.run(self._expect(wanted, steps))
-
-    def grant(self, steps: int, until: Optional[int] = None, to: Optional[str] = None) -> Granted:
-        """Executes steps, up to an address (`until`) or to a wait (`to="wait"`)."""
-        return self._host.run(self._grant(steps, until, to))
-
-    def take(self, most: int = 8192) -> str:
-        """Takes bytes that wait on the console."""
-        return self._host.run(self._take(most))
-
-    def take_list(self, most: int = 8192) -> str:
-        """Takes bytes that wait on the list device."""
-        return self._host.run(self._take_list(most))
-
-    def look(self) -> Look:
-        return self._host.run(self._look())
-
-    def peek(self, address: int, length: int = 1) -> bytes:
-        """Bytes of the memory; behind FFFFh comes 0000h."""
-        return self._host.run(self._peek(address, length))
-
-    def fork(self) -> "Session":
-        """Another session that is the same, and has shown the same."""
-        other = Session(self._host, self._host.run(self._fork()))
-        other._goes_on_from(self)
-        return other
-
-    def save(self, file: str) -> int:
-        """Writes the session's whole state as a file of the folder, and returns its length."""
-        return self._host.run(self._save(file))
-
-    def close(self, out: Sequence[str] = ()) -> Look:
-        """Closes the slot. The drives are written to these files of the folder, where some are named."""
-        return self._host.run(self._close(out))
-
 
 class Drive(DriveState):
-    """An image in the folder that no session has. `drive["HELLO.TXT"]` is a file's bytes, as text."""
+    """An image in the folder that no session has, or the drive of a session. `drive["HELLO.TXT"]` is a file's bytes, as text."""
 
-    def __init__(self, host: "Host", drive: str) -> None:
-        super().__init__(drive)
-        self._host = host
-
-    def get(self, name: str) -> str:
-        return self._host.run(self._get(name))
-
-    def put(self, name: str, data: Bytes) -> int:
-        """Writes a file, in the place of one of that name, and returns how many bytes it was given."""
-        return self._host.run(self._put(name, data))
-
-    def names(self) -> List[str]:
-        return self._host.run(self._names())
+    get = asked(DriveState._get)
+    put = asked(DriveState._put)
+    names = asked(DriveState._names)
 
     def create(self, large: bool = False) -> "Drive":
         """Makes the image a blank one."""
@@ -102,42 +82,30 @@ class Drive(DriveState):
         self.put(name, data)
 
 
-class Files:
-    """The folder of a host: `host.files["work.img"]` is a drive."""
-
-    def __init__(self, host: "Host") -> None:
-        self._host = host
-
-    def __getitem__(self, drive: str) -> Drive:
-        return Drive(self._host, drive)
-
-
-class Host:
+class Host(HostState[BinaryIO, BinaryIO]):
     """A host: `cpmhost serve` in a process of its own, or whoever serves over two given streams, (replies, requests). One thread asks it at a time."""
 
-    def __init__(
-        self,
-        folder: Optional[str] = None,
-        system: Optional[str] = None,
-        frames: Optional[int] = None,
-        program: Optional[str] = None,
-        streams: Optional[Tuple[BinaryIO, BinaryIO]] = None,
-    ) -> None:
+    many = asked(HostState._many)
+
+    def _begin(self) -> None:
         self.process: Optional["subprocess.Popen[bytes]"] = None
-        self.files = Files(self)
-        if streams is not None:
-            self._replies, self._requests = streams
-            return
-        words = serve_words(program, folder, system, frames)
-        self.process = subprocess.Popen(words, stdin=subprocess.PIPE, stdout=subprocess.PIPE)
-        assert self.process.stdin and self.process.stdout
-        self._replies, self._requests = self.process.stdout, self.process.stdin  # type: ignore[assignment]
+        # how many replies have yet to come: also those to a line whose reply nobody has waited for, as after ^C
+        self._due = 0
+        if self._streams is None:
+            self.process = subprocess.Popen(self._words, stdin=subprocess.PIPE, stdout=subprocess.PIPE)
+            assert self.process.stdin and self.process.stdout
+            self._replies, self._requests = self.process.stdout, self.process.stdin
+        else:
+            self._replies, self._requests = self._streams
 
-    def __enter__(self) -> "Host":
-        return self
+    def open(self, cpu: str = "8080", quota: int = 64, drives: Sequence[str] = ("blank",), from_file: Optional[str] = None) -> Session:
+        """Opens a session: a new one, or one that goes on from a saving of the folder."""
+        return Session(self, self.ask(open_request(cpu, quota, drives, from_file))["slot"])
 
-    def __exit__(self, kind: Optional[Type[BaseException]], fault: Optional[BaseException], trace: Optional[TracebackType]) -> None:
-        self.close()
+    @property
+    def files(self) -> Files[Drive]:
+        """The folder of the host: `host.files["work.img"]` is a drive."""
+        return Files(lambda drive: Drive(self, drive))
 
     def send(self, line: bytes) -> bytes:
         """The line that a line is replied to with, both as bytes and with their newlines."""
@@ -146,39 +114,26 @@ class Host:
             self._requests.flush()
         except (BrokenPipeError, ValueError) as fault:
             raise HostGone("the host takes no more requests") from fault
-        reply = self._replies.readline()
-        if not reply.endswith(b"\n"):
-            raise HostGone("the host has ended without a reply")
+        self._due += 1
+        while self._due:
+            reply = self._replies.readline()
+            if not reply.endswith(b"\n"):
+                raise HostGone("the host has ended without a reply")
+            self._due -= 1
         return reply
 
     def ask(self, request: Request) -> Reply:
         """The reply to a request, as it stands on the wire. What refuses is raised."""
-        reply = reply_of(self.send(line_of(request)))
-        fault = fault_of(reply)
-        if fault:
-            raise fault
-        return reply
+        return self.run(asking(request))
 
     def run(self, plan: "Plan[T]") -> T:
+        lines = lines_of(plan)
         try:
-            request = next(plan)
+            line = next(lines)
             while True:
-                try:
-                    reply = self.ask(request)
-                except Exception as fault:
-                    request = plan.throw(fault)
-                else:
-                    request = plan.send(reply)
+                line = lines.send(self.send(line))
         except StopIteration as end:
             return end.value  # type: ignore[no-any-return]
-
-    def open(self, cpu: str = "8080", quota: int = 64, drives: Sequence[str] = ("blank",), from_file: Optional[str] = None) -> Session:
-        """Opens a session: a new one, or one that goes on from a saving of the folder."""
-        return Session(self, self.ask(open_request(cpu, quota, drives, from_file))["slot"])
-
-    def many(self, requests: Sequence[Request]) -> List[Outcome]:
-        """The replies to many requests. One that is refused or wrong has its error at its place, which isn't raised."""
-        return self.run(many_plan(requests))
 
     def close(self) -> int:
         """Ends the input, waits for the host's end, and returns its status. All sessions are closed then."""
@@ -190,4 +145,12 @@ class Host:
             return 0
         self._replies.read()
         self._replies.close()
-        return self.process.wait()
+        status = self.process.wait()
+        self._remove_copies()
+        return status
+
+    def __enter__(self) -> "Host":
+        return self
+
+    def __exit__(self, kind: Optional[Type[BaseException]], fault: Optional[BaseException], trace: Optional[TracebackType]) -> None:
+        self.close()

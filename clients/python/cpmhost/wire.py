@@ -5,23 +5,41 @@ import os
 from dataclasses import dataclass
 from typing import Any, Dict, List, Optional, Sequence, Union
 
+from .faults import BadText, LineTooLong
+
 Request = Dict[str, Any]
 Reply = Dict[str, Any]
 Bytes = Union[str, bytes]
 
+# how many bytes a line has at most
+MOST_LINE = 1 << 20
+
 
 def text_of(data: Bytes) -> str:
-    """Bytes as the protocol has them: a text whose characters are U+0000 to U+00FF. A text stays what it is."""
-    return data if isinstance(data, str) else data.decode("latin-1")
+    """Bytes as the protocol has them: a text whose characters are U+0000 to U+00FF. A text stays what it is, if it is one."""
+    if not isinstance(data, str):
+        return data.decode("latin-1")
+    for place, character in enumerate(data):
+        if character > "\xff":
+            raise BadText(f"{character!r} at {place} is no byte: text_of(text.encode(..)) has the bytes of another encoding")
+    return data
 
 
 def bytes_of(text: str) -> bytes:
     """The bytes of such a text."""
-    return text.encode("latin-1")
+    return text_of(text).encode("latin-1")
 
 
 def line_of(request: Request) -> bytes:
-    return json.dumps(request, ensure_ascii=False, separators=(",", ":")).encode() + b"\n"
+    """The shortest line of a request."""
+    try:
+        line = json.dumps(request, ensure_ascii=False, separators=(",", ":")).encode()
+    except UnicodeEncodeError as fault:
+        raise BadText(str(fault)) from fault
+    if len(line) > MOST_LINE:
+        how = "`cpmhost disk put` puts a file of any length" if request.get("do") == "put" else "less fits if it is asked for in parts"
+        raise LineTooLong(f"the request {request.get('do')!r} has {len(line):,} bytes as a line, which has {MOST_LINE:,} at most: {how}")
+    return line + b"\n"
 
 
 def reply_of(line: bytes) -> Reply:
@@ -31,18 +49,11 @@ def reply_of(line: bytes) -> Reply:
     return reply
 
 
-def serve_words(
-    program: Optional[str] = None,
-    folder: Optional[str] = None,
-    system: Optional[str] = None,
-    frames: Optional[int] = None,
-) -> List[str]:
+def serve_words(program: Optional[str], folder: Optional[str], system: Optional[str], frames: Optional[int]) -> List[str]:
     """The command that serves. The program is the one that the variable CPMHOST names, or else `cpmhost`."""
-    words = [program or os.environ.get("CPMHOST", "cpmhost"), "serve"]
-    named = {"--folder": folder, "--system": system, "--frames": frames}
-    for option, value in named.items():
-        if value is not None:
-            words += [option, str(value)]
+    words: List[str] = [program or os.environ.get("CPMHOST") or "cpmhost", "serve"]
+    for option, value in {"--folder": folder, "--system": system, "--frames": frames}.items():
+        words += [] if value is None else [option, str(value)]
     return words
 
 

@@ -221,6 +221,18 @@ class Ends(unittest.TestCase):
                 host.open()
                 host.open()
 
+    def test_a_reply_that_nobody_waited_for(self):
+        fake, _, session = with_session(turn("A", "A", steps=9), turn("B", "B", steps=9))
+        readline = fake.readline
+
+        def interrupted():
+            fake.readline = readline
+            raise KeyboardInterrupt
+
+        fake.readline = interrupted
+        self.assertRaises(KeyboardInterrupt, session.turn, "A", 9)
+        self.assertEqual(session.turn("B", 9).text, "B")
+
     def test_a_refusal_that_isnt_known(self):
         found = cpmhost.faults.fault_of({"refused": "Elsewhere", "why": "it is elsewhere"})
         self.assertEqual((found.word, found.why, isinstance(found, cpmhost.Refused)), ("Elsewhere", "it is elsewhere", True))
@@ -231,6 +243,84 @@ class Ends(unittest.TestCase):
         line = cpmhost.wire.line_of({"keys": cpmhost.text_of(every)})
         self.assertEqual(line.count(b"\n"), 1)
         self.assertEqual(cpmhost.bytes_of(json.loads(line)["keys"]), every)
+
+
+class Lines(unittest.TestCase):
+    """What has no line isn't sent, and changes nothing here."""
+
+    def test_a_text_that_is_no_bytes(self):
+        fake, _, session = with_session(key("DIR\r", 4), turn("", "A>", steps=20))
+        for call in (session.type, session.turn):
+            with self.assertRaises(cpmhost.BadText):
+                call("DIR €\r")
+        with self.assertRaises(cpmhost.BadText):
+            session.save("\ud800")
+        session.type("DIR\r")
+        self.assertEqual(session.turn(steps=20).text, "A>")
+        self.assertEqual(len(fake.asked), 3)
+
+    def test_keys_of_a_refused_request(self):
+        refusal = '{"refused":"OutOfMemory","why":"out of memory"}'
+        _, _, session = with_session((key("A", 1)[0], refusal), key("B", 1), turn("", "B", steps=9))
+        with self.assertRaises(cpmhost.OutOfMemory):
+            session.type("A")
+        session.type("B")
+        self.assertEqual(session.turn(steps=9).text, "B")
+
+    def test_the_shortest_line(self):
+        two = b'\b\t\n\f\r"\\'
+        for byte in range(256):
+            length = len(cpmhost.wire.line_of({"text": cpmhost.text_of(bytes([byte]))})) - len(b'{"text":""}\n')
+            self.assertEqual(length, 2 if byte in two or byte >= 0x80 else 6 if byte < 0x20 else 1, byte)
+
+    def test_a_line_that_is_too_long(self):
+        fake = FakeHost()
+        drive = Host(streams=(fake, fake)).files["work.img"]
+        with self.assertRaises(cpmhost.LineTooLong) as raised:
+            drive.put("ZEROS.BIN", bytes(200_000))
+        self.assertRegex(str(raised.exception), r"^the request 'put' has 1,200,060 bytes as a line, which has 1,048,576 at most: `cpmhost disk put`")
+        self.assertEqual(fake.asked, [])
+        self.assertEqual(len(cpmhost.wire.line_of({"text": "x" * ((1 << 20) - 11)})), (1 << 20) + 1)
+        self.assertRaises(cpmhost.LineTooLong, cpmhost.wire.line_of, {"text": "x" * ((1 << 20) - 10)})
+
+    def test_many_that_are_too_long_for_a_line(self):
+        fake = FakeHost()
+        fake.write = lambda data: fake.told(json.dumps({"replies": [{"bytes": len(it["text"])} for it in json.loads(data)["requests"]]}).encode() + b"\n")
+        lengths = [400_000, 500_000, 300_000, 1_100_000, 7, 900_000]
+        puts = [{"do": "put", "drive": "work.img", "name": "A", "text": "x" * length} for length in lengths]
+        found = Host(streams=(fake, fake)).many(puts)
+        self.assertIsInstance(found.pop(3), cpmhost.LineTooLong)
+        self.assertEqual([it["bytes"] for it in found], [length for length in lengths if length != 1_100_000])
+        self.assertEqual(Host(streams=(fake, fake)).many([]), [])
+
+
+class DrivesOfSessions(unittest.TestCase):
+    def with_files(self, *replies):
+        """A session whose second drive is read, and the host that replies so to a line of a close and a `files`."""
+        fake, host, session = with_session()
+        copies = host._copies[:2]
+        requests = [{"do": "close", "slot": 1, "out": copies}, {"do": "files", "drive": copies[1]}]
+        fake.known[parsed(json.dumps({"do": "many", "requests": requests}))] = [json.dumps({"replies": list(replies)})]
+        fake.known[parsed('{"do": "close", "slot": 1}')] = [examples_of("look")]
+        return fake, session
+
+    def test_files(self):
+        fake, session = self.with_files(json.loads(examples_of("look")), {"text": "A.TXT\nB.TXT\n"})
+        self.assertEqual(session.files["B"].names(), ["A.TXT", "B.TXT"])
+        self.assertEqual([json.loads(line)["do"] for line in fake.asked], ["open", "fork", "many"])
+
+    def test_copies_that_cant_be_written(self):
+        fake, session = self.with_files({"refused": "FileFault", "why": "-"}, {"refused": "AbsentFile", "why": "-"})
+        self.assertRaises(cpmhost.FileFault, session.files["B"].names)
+        self.assertEqual(json.loads(fake.asked[-1]), {"do": "close", "slot": 1})
+
+    def test_what_is_only_read(self):
+        fake, session = self.with_files()
+        with self.assertRaises(cpmhost.LiveDrive):
+            session.files["A"]["X.TXT"] = "x"
+        self.assertRaises(cpmhost.LiveDrive, session.files["A"].create)
+        self.assertRaises(cpmhost.BadDrives, session.files["E"].names)
+        self.assertEqual(len(fake.asked), 1)
 
 
 class ByAsyncio(unittest.TestCase):

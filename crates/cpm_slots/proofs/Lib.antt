@@ -5,6 +5,7 @@ pub mod AccountLaws
 pub mod OpeningLaws
 pub mod LifeLaws
 pub mod RestoredLaws
+pub mod RemakingLaws
 pub mod CutLaws
 pub mod TableLaws
 pub mod FitSlots

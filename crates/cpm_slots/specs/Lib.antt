@@ -8,3 +8,4 @@ pub mod HostWithStore
 pub mod Laws
 pub mod Restoring
 pub mod Drives
+pub mod Remaking

@@ -45,7 +45,7 @@ pub const LEAST_FRAMES: u16 = 16;
 #[derive(Drop)]
 pub struct Host {
     pub(crate) system: SystemDrive,
-    frames: u16,
+    pub(crate) frames: u16,
     pub(crate) openings: u64,
     pub(crate) store: FrameStore,
     pub(crate) slots: Vec<Slot>,

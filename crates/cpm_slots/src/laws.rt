@@ -2,6 +2,7 @@
 
 ghost use Rattle.cpm_slots.specs.Laws.{Apart, Isolation, SlotAlone, EachAlone, SavingsHaveLives, Parting, NoParting, Restoring, NoRestoring, ForkIsRestored};
 ghost use Rattle.cpm_slots.specs.Laws.{TwoWorlds, Within, SlotCutting, NeverAgain, Orderly};
+ghost use Rattle.cpm_slots.specs.Remaking.{Remaking};
 
 /// What is asked of one slot leaves every other.
 pub fn apart()
@@ -80,4 +81,9 @@ pub fn never_again()
 /// A host that was made keeps its slots in order, at most 64, and their quotas within its frames.
 pub fn orderly()
     ensures { Orderly }
+{}
+
+/// A host is made again of the numbers and the savings of its open slots, and of the number of its openings.
+pub fn remaking()
+    ensures { Remaking }
 {}

@@ -6,6 +6,7 @@ pub mod event;
 mod fork;
 pub mod host;
 pub mod laws;
+mod remaking;
 mod run;
 mod saved;
 mod slots;
