@@ -97,6 +97,9 @@ class AsyncHost(HostState[asyncio.StreamReader, asyncio.StreamWriter]):
     async def open(self, cpu: str = "8080", quota: int = 64, drives: Sequence[str] = ("blank",), from_file: Optional[str] = None) -> AsyncSession:
         return AsyncSession(self, (await self.ask(open_request(cpu, quota, drives, from_file)))["slot"])
 
+    def session(self, slot: int) -> AsyncSession:
+        return AsyncSession(self, slot)
+
     @property
     def files(self) -> Files[AsyncDrive]:
         return Files(lambda drive: AsyncDrive(self, drive))

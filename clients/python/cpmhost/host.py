@@ -102,6 +102,10 @@ class Host(HostState[BinaryIO, BinaryIO]):
         """Opens a session: a new one, or one that goes on from a saving of the folder."""
         return Session(self, self.ask(open_request(cpu, quota, drives, from_file))["slot"])
 
+    def session(self, slot: int) -> Session:
+        """The session of a slot that is open already, as where the host goes on with a journal."""
+        return Session(self, slot)
+
     @property
     def files(self) -> Files[Drive]:
         """The folder of the host: `host.files["work.img"]` is a drive."""

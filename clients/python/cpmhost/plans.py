@@ -71,9 +71,12 @@ class HostState(State, Generic[R, W]):
         frames: Optional[int] = None,
         program: Optional[str] = None,
         streams: Optional[Tuple[R, W]] = None,
+        journal: Optional[str] = None,
+        resume: Optional[str] = None,
+        compact: bool = False,
     ) -> None:
         super().__init__(self)
-        self._words = serve_words(program, folder, system, frames)
+        self._words = serve_words(program, folder=folder, system=system, frames=frames, journal=journal, resume=resume, compact=compact)
         self._streams = streams
         # the drives of sessions are read in these files of the folder, which no other host has
         name = uuid.uuid4().hex

@@ -49,11 +49,12 @@ def reply_of(line: bytes) -> Reply:
     return reply
 
 
-def serve_words(program: Optional[str], folder: Optional[str], system: Optional[str], frames: Optional[int]) -> List[str]:
-    """The command that serves. The program is the one that the variable CPMHOST names, or else `cpmhost`."""
+def serve_words(program: Optional[str], **options: Union[None, bool, int, str]) -> List[str]:
+    """The command that serves, with those options that have a value. The program is the one that the variable CPMHOST names, or else `cpmhost`."""
     words: List[str] = [program or os.environ.get("CPMHOST") or "cpmhost", "serve"]
-    for option, value in {"--folder": folder, "--system": system, "--frames": frames}.items():
-        words += [] if value is None else [option, str(value)]
+    for option, value in options.items():
+        if value is not None and value is not False:
+            words += [f"--{option}"] if value is True else [f"--{option}", str(value)]
     return words
 
 

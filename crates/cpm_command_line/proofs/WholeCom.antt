@@ -245,7 +245,7 @@ debug_whole words e =
     }
 
 serve_plain : IsPlain serve_built.rules
-serve_plain = plain_by_ids serve_built.rules refl (value_word _, (count_word _, (value_word _, (help_word, tt))))
+serve_plain = plain_by_ids serve_built.rules refl (value_word _, (count_word _, (value_word _, (value_word _, (value_word _, (flag_word _, (help_word, tt)))))))
 
 serve_shorts : HasHelpShorts serve_built.rules
 serve_shorts x a is = help_found x a is
@@ -256,6 +256,8 @@ serve_whole words e =
     record {
       frames = count_of (codes "frames") rows
           (text_or_none serve_built serve_plain serve_shorts words e (count_rule (codes "frames")) (inr (inl refl)));
+      compact = flag_in (codes "compact") rows
+          (default_text serve_built serve_plain serve_shorts words e (flag_rule (codes "compact")) (inr (inr (inr (inr (inr (inl refl)))))) tt);
     }
 
 saved_plain : IsPlain saved_built.rules

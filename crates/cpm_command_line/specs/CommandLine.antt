@@ -104,10 +104,11 @@ abbrev pub debug_app : App
 debug_app = with_rule (with_rule (with_rule (with_rule (with_rule (new_app (codes "debug"))
     (word_left_out (codes "file"))) (flag (codes "z80"))) (value_option (codes "list"))) (value_option (codes "from"))) (value_option (codes "system"))
 
--- own: `serve [--system IMAGE] [--frames N] [--folder FOLDER]`
+-- own: `serve [--system IMAGE] [--frames N] [--folder FOLDER] [--journal FILE] [--resume FILE] [--compact]`
 abbrev pub serve_app : App
-serve_app = with_rule (with_rule (with_rule (new_app (codes "serve"))
-    (value_option (codes "system"))) (count_option (codes "frames"))) (value_option (codes "folder"))
+serve_app = with_rule (with_rule (with_rule (with_rule (with_rule (with_rule (new_app (codes "serve"))
+    (value_option (codes "system"))) (count_option (codes "frames"))) (value_option (codes "folder")))
+    (value_option (codes "journal"))) (value_option (codes "resume"))) (flag (codes "compact"))
 
 -- own: `saved FILE`
 abbrev pub saved_app : App
@@ -234,6 +235,9 @@ HasEntriesOf given (Serve task) =
     (given.0 ≡ codes "serve") × (first_of (codes "system") given.1 ≡ option_map (λ t. t.now) task.system)
     × ReadsCountIfAny (one_of (codes "frames") given.1) task.frames
     × (first_of (codes "folder") given.1 ≡ option_map (λ t. t.now) task.folder)
+    × (first_of (codes "journal") given.1 ≡ option_map (λ t. t.now) task.journal)
+    × (first_of (codes "resume") given.1 ≡ option_map (λ t. t.now) task.resume)
+    × (one_of (codes "compact") given.1 ≡ Some (bool_text task.is_compact))
 HasEntriesOf given (Saved file) =
     (given.0 ≡ codes "saved") × (first_of (codes "file") given.1 ≡ Some file.now)
 HasEntriesOf given (Disk task) = ⊥
@@ -306,6 +310,7 @@ pub record IsWholeDebug (rows : List Row) : Type 0 where
 -- own: the entries of `serve` are whole
 pub record IsWholeServe (rows : List Row) : Type 0 where
   pub frames : IsCountIfAny (one_of (codes "frames") rows)
+  pub compact : IsFlag (one_of (codes "compact") rows)
 
 -- own: the entries of `saved` are whole
 pub record IsWholeSaved (rows : List Row) : Type 0 where

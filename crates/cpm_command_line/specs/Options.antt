@@ -4,7 +4,8 @@ use Rattle.cpm_flags.specs.declared.regs.Cpu.{Cpu}
 use Rattle.cpm_flags.specs.declared.regs.Cpu.TheVariants.{I8080, Z80}
 use Rattle.cpm_command_line.specs.declared.fault.UsageFault.{UsageFault}
 use Rattle.cpm_command_line.specs.declared.fault.UsageFault.TheVariants.{FolderWithoutDisk, FolderWithoutDrive, FromWithPlace, FromWithProgram, FromWithStart}
-use Rattle.cpm_command_line.specs.declared.fault.UsageFault.TheVariants.{CheckpointZero, FramesOutside, NoProgram, OutWithoutDisk, OutWithoutDrive}
+use Rattle.cpm_command_line.specs.declared.fault.UsageFault.TheVariants.{CheckpointZero, CompactWithoutResume, FramesOutside, TwoJournals}
+use Rattle.cpm_command_line.specs.declared.fault.UsageFault.TheVariants.{NoProgram, OutWithoutDisk, OutWithoutDrive}
 use Rattle.cpm_command_line.specs.declared.fault.UsageFault.TheVariants.{PaceUntyped, PaceZero, PartialWithoutOut}
 use Rattle.cpm_command_line.specs.declared.fault.UsageFault.TheVariants.{ProgressAtKeyboard, ProgressAtPrompt, RecordAlone, RecordUntyped}
 use Rattle.cpm_command_line.specs.declared.fault.UsageFault.TheVariants.{SystemWithoutFrom, TooManyDisks, TooManyPlaces, TwoScripts}
@@ -101,7 +102,10 @@ is_outside_frames (Some n) = nat_lt n 16 || nat_lt 16384 n
 -- own: what is wrong first with the options of `serve`
 abbrev pub fault_of_serve : ServeTask → Option UsageFault
 fault_of_serve task =
-    if is_outside_frames task.frames then Some FramesOutside else None
+    if is_outside_frames task.frames then Some FramesOutside
+    else (if is_some task.journal && is_some task.resume then Some TwoJournals
+    else (if task.is_compact && not (is_some task.resume) then Some CompactWithoutResume
+    else None))
 
 -- own: what is wrong first with the options of a task
 abbrev pub task_fault : Task → Option UsageFault

@@ -51,6 +51,8 @@ kinds_of fault.PaceZero = []
 kinds_of fault.PaceUntyped = []
 kinds_of fault.CheckpointZero = []
 kinds_of fault.FramesOutside = []
+kinds_of fault.TwoJournals = []
+kinds_of fault.CompactWithoutResume = []
 kinds_of (fault.Other word) =
     kind.NoEquals ∷ kind.TooManyValues ∷ kind.TooFewValues ∷ kind.WrongNumberOfValues
     ∷ kind.DisplayVersion ∷ kind.Io ∷ kind.Format ∷ []

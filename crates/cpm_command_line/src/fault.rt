@@ -120,6 +120,12 @@ pub enum UsageFault {
     /// No host has so many frames, or so few.
     #[error("'--frames' needs a number from 16 to 16384")]
     FramesOutside,
+    /// `--journal` and `--resume` were both given.
+    #[error("'--journal' doesn't go with '--resume', which goes on with its own journal")]
+    TwoJournals,
+    /// `--compact` was given without `--resume`.
+    #[error("'--compact' needs '--resume'")]
+    CompactWithoutResume,
     /// Anything else, in the words of the reader of command lines.
     #[error("{0}")]
     Other(ShownWord),

@@ -177,6 +177,10 @@ fn serve_fault(task: &ServeTask<'_>) -> Option<UsageFault>
 {
     if is_outside_frames(task.frames) {
         Some(UsageFault::FramesOutside)
+    } else if task.journal.is_some() && task.resume.is_some() {
+        Some(UsageFault::TwoJournals)
+    } else if task.is_compact && task.resume.is_none() {
+        Some(UsageFault::CompactWithoutResume)
     } else {
         None
     }

@@ -182,6 +182,9 @@ fn serve_task<'a>(matches: &ArgMatches<'a>) -> Task<'a>
         system: text_if_any(matches, "system"),
         frames: count_if_any(matches, "frames"),
         folder: text_if_any(matches, "folder"),
+        journal: text_if_any(matches, "journal"),
+        resume: text_if_any(matches, "resume"),
+        is_compact: flag_of(matches, "compact"),
     })
 }
 

@@ -3,6 +3,7 @@
 /// The page of `serve`.
 pub const SERVE_PAGE: &str = "\
 Usage: cpmhost serve [--system IMAGE] [--frames N] [--folder FOLDER]
+                     [--journal FILE | --resume FILE [--compact]]
 
 Serve a host of up to 64 sessions to another program: read requests on standard
 input, an object of JSON on each line, and write a reply to each on standard
@@ -18,8 +19,18 @@ Options:
   --folder FOLDER
               the folder that the requests' files are in. No name in a request
               leads out of it. Without it no request has a file
+  --journal FILE
+              keep in FILE what changes the host, before it is replied, so that
+              a host that is lost can be made again. FILE must be new
+  --resume FILE
+              make the host again of the journal in FILE, with its system drive
+              and as many frames, and go on with that journal
+  --compact   put a shorter journal in the place of that one first, which makes
+              the same host
   -h, --help  print this page
 
 Examples:
   cpmhost serve --folder class
+  cpmhost serve --folder class --journal class.journal
+  cpmhost serve --folder class --resume class.journal
 ";

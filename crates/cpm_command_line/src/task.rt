@@ -159,7 +159,7 @@ pub struct DebugTask<'a> {
 
 /// A host that is served lines.
 ///
-/// `serve [--system IMAGE] [--frames N] [--folder FOLDER]`
+/// `serve [--system IMAGE] [--frames N] [--folder FOLDER] [--journal FILE | --resume FILE [--compact]]`
 #[derive(Drop)]
 pub struct ServeTask<'a> {
     /// The image of the system drive, where one was given.
@@ -168,6 +168,12 @@ pub struct ServeTask<'a> {
     pub frames: Option<u64>,
     /// The folder that its files are in, where one was given.
     pub folder: Option<&'a str>,
+    /// The file that what changes the host is kept in, as a new journal, if it is.
+    pub journal: Option<&'a str>,
+    /// The file of a journal that is done again and gone on with, in place of a new one.
+    pub resume: Option<&'a str>,
+    /// That journal is made as short as can be first. Only with `resume`.
+    pub is_compact: bool,
 }
 
 /// A command of `disk` with its words. The files are those of `user`, from 0 to 15.

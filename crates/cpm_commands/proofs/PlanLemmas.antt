@@ -11,7 +11,7 @@ use Rattle.cpm_batch.specs.Outputs.{SessionOutput, files_of, files_of_all, image
 use Rattle.cpm_batch.specs.Reads.{AreImagesRead, AreInputsRead, AreRead, IsForkedSaidRead, IsInputReadOf, IsSaidRead}
 use Rattle.cpm_checkpoint.specs.declared.checkpoint.Checkpoint.{Checkpoint}
 use Rattle.cpm_command_line.specs.declared.task.RunTask.{RunTask}
-use Rattle.cpm_config.specs.Files.{OutputName, all_named, all_named_if_any, named_if_any, output_files}
+use Rattle.cpm_config.specs.Files.{OutputName, all_named, all_named_if_any, named_if_any}
 use Rattle.cpm_config.specs.Rules.{texts_of_strings}
 use Rattle.cpm_config.specs.declared.config.Config.{Config}
 use Rattle.cpm_config.specs.declared.config.Origin.{Origin}

@@ -1,16 +1,16 @@
 -- The words of recordings, one after another.
-use Rattle.std.proofs.Common.{◌≡◌, ◌∙◌, ◌<◌, ◌≤◌, ◌+◌, ◌==◌, inr, ℕ, Bool, true, false, if◌then◌else◌, List, [], ◌∷◌, ◌++◌, length, drop, get_or, map, Option, Some, None, Result, Ok, Err, ap, sym, refl, arith}
+use Rattle.std.proofs.Common.{◌≡◌, ◌∙◌, ◌<◌, ◌≤◌, ◌+◌, inr, ℕ, Bool, true, false, if◌then◌else◌, List, [], ◌∷◌, ◌++◌, length, drop, get_or, map, Option, Some, None, Result, Ok, Err, ap, sym, refl}
 use Rattle.std.specs.Prelude.{◌||◌, is_some, not, option_map}
 use Rattle.std.specs.List.{list_any}
 use Rattle.std.specs.Str.{bytes_eq}
 use Rattle.std.specs.Borrow.{Bor}
-use Rattle.std.proofs.lemmas.List.{at_drop_all, drop_all, drop_more, map_push}
+use Rattle.std.proofs.lemmas.List.{at_drop_all, drop_more, map_push}
 use Rattle.cpm_batch.specs.declared.source.Replay.{Replay}
 use Rattle.cpm_config.specs.declared.config.SessionConfig.{SessionConfig}
 use Rattle.cpm_host.specs.declared.error.HostError.{HostError}
 use Rattle.cpm_config.specs.Rules.{place_of, session_view}
 use Rattle.cpm_commands.specs.Replays.{IsNextRefused, IsReplayRefusal, NamedReplay, NotParted, NotThere, Repeated, ReplayFault}
-use Rattle.cpm_commands.specs.Replays.{is_equals, is_replayed, next_replay, or_refused, replay_by, replay_of_parts, replay_parts, replay_view, replays_from}
+use Rattle.cpm_commands.specs.Replays.{is_replayed, next_replay, or_refused, replay_by, replay_parts, replay_view, replays_from}
 
 -- what the words that are left come to, after these
 abbrev pub from_here : List SessionConfig → List Replay → List (Bor (List ℕ)) → ℕ → Result (List NamedReplay) ReplayFault

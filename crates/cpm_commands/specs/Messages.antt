@@ -1,5 +1,5 @@
 -- What a person is told of a command, beside what it prints. All of it is own.
-use Rattle.std.specs.Prelude.{◌≡◌, ◌&&◌, ℕ, Bool, true, false, is_some, slice_index, List, [], ◌∷◌, ◌++◌, codes, not, string_bytes, MatchOption, Option, Some}
+use Rattle.std.specs.Prelude.{◌≡◌, ◌&&◌, ℕ, Bool, true, false, is_some, slice_index, List, [], ◌∷◌, ◌++◌, codes, not, string_bytes, MatchOption, Option}
 use Rattle.cpm_command_line.specs.declared.task.PlayTask.{PlayTask}
 use Rattle.cpm_decode.specs.RowsZ80.{decodedz80}
 use Rattle.cpm_flags.specs.declared.regs.Cpu.{Cpu}

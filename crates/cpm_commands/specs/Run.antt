@@ -1,6 +1,6 @@
 -- What the command `run` does. All of it is own.
 use Rattle.std.specs.Prelude.{◌≡◌, ◌⊎◌, ℕ, Bool, ◌&&◌, List, [], ◌∷◌, ◌++◌, codes, flat_map, is_some, map, option_map, string_bytes, zip}
-use Rattle.std.specs.Prelude.{Option, Some, None, Ok, Err, String, Vec}
+use Rattle.std.specs.Prelude.{Option, Some, None, Ok, Err, String}
 use Rattle.std.specs.declared.alloc.Global.{Global}
 use Rattle.cpm_batch.specs.Sources.{key_file, key_source}
 use Rattle.cpm_batch.specs.declared.source.Replay.{Replay}

@@ -4,7 +4,7 @@ use Rattle.cpm_command_line.specs.declared.task.ServeTask.{ServeTask}
 use Rattle.cpm_geom.specs.Disk.{Disk}
 use Rattle.cpm_host.specs.Program.{disk_or_blank}
 use Rattle.cpm_host.specs.declared.error.HostError.{HostError}
-use Rattle.cpm_host.specs.declared.error.HostError.TheVariants.{InputUnreadable, OutputUnwritable, OutOfMemory}
+use Rattle.cpm_host.specs.declared.error.HostError.TheVariants.{InputUnreadable, JournalUnwritable, OutputUnwritable, OutOfMemory}
 use Rattle.cpm_serve.specs.declared.talk.TalkError.{TalkError}
 use Rattle.cpm_serve.specs.declared.talk.TalkError.TheVariants as talk
 use Rattle.cpm_slots.specs.Host.{Host, new_host}
@@ -33,11 +33,16 @@ IsHostUnbegun {F} does task old new e =
     IsSystemUnread does (system_named task) old new e
     ⊎ ((disk : Option Disk) × IsSystemRead does (system_named task) old new disk × (e ≡ OutOfMemory))
 
+-- A host goes on from a journal, or keeps one from now on, and is served then: `begins` says what became of it by the journal.
+abbrev pub HasTalkedFrom : {D : Type 0} → (begins : (resumed : Host) → Option HostError → D → Type 0) → (talked : D → Host → Type 0) → Type 0
+HasTalkedFrom {D} begins talked = (from : D) × (resumed : Host) × begins resumed None from × talked from resumed
+
 -- what a talk comes to that ended early
 abbrev pub host_error_of_talk : TalkError → HostError
 host_error_of_talk (talk.Unreadable reason) = InputUnreadable reason
 host_error_of_talk (talk.Unwritable reason) = OutputUnwritable reason
 host_error_of_talk talk.OutOfMemory = OutOfMemory
+host_error_of_talk talk.Unkept = JournalUnwritable
 
 -- the host was made, and all lines were served, so
 pub record HasServed {F : Type 0} (does : F → StoreAccess → F → Type 0) (talked : Host → Host → Type 0) (task : ServeTask) (old new : F) : Type 0 where
@@ -46,9 +51,10 @@ pub record HasServed {F : Type 0} (does : F → StoreAccess → F → Type 0) (t
   pub begun : IsHostBegun does task old new made
   pub lines : talked made left
 
--- it was not made, and nothing was served; or some lines were, so
-pub data IsServiceEnded {F : Type 0} (does : F → StoreAccess → F → Type 0) (talked_partly : Host → Host → Type 0) (idle : Type 0) (task : ServeTask)
-    (old new : F) (e : HostError) : Type 0 where
-  NotMade : IsHostUnbegun does task old new e → idle → IsServiceEnded does talked_partly idle task old new e
-  CutOff : (made left : Host) (error : TalkError) → e ≡ host_error_of_talk error → IsHostBegun does task old new made → talked_partly made left
-      → IsServiceEnded does talked_partly idle task old new e
+-- it was not made, or its journal was refused, and nothing was served; or some lines were, so
+pub data IsServiceEnded {F : Type 0} (does : F → StoreAccess → F → Type 0) (talked_partly : TalkError → Host → Host → Type 0)
+    (unbegun : Host → HostError → Type 0) (idle : Type 0) (task : ServeTask) (old new : F) (e : HostError) : Type 0 where
+  NotMade : IsHostUnbegun does task old new e → idle → IsServiceEnded does talked_partly unbegun idle task old new e
+  NotBegun : (made : Host) → IsHostBegun does task old new made → unbegun made e → IsServiceEnded does talked_partly unbegun idle task old new e
+  CutOff : (made left : Host) (error : TalkError) → e ≡ host_error_of_talk error → IsHostBegun does task old new made → talked_partly error made left
+      → IsServiceEnded does talked_partly unbegun idle task old new e

@@ -6,6 +6,7 @@ use Rattle.cpm_command_line.specs.HelpWords.{text_of_page}
 use Rattle.cpm_command_line.specs.declared.task.DiskTask.{DiskTask}
 use Rattle.cpm_command_line.specs.declared.task.DiskTask.TheVariants.{New, List as Listing, Put, Get, Remove, Rename}
 use Rattle.cpm_command_line.specs.declared.task.PlayTask.{PlayTask}
+use Rattle.cpm_command_line.specs.declared.task.ServeTask.{ServeTask}
 use Rattle.cpm_command_line.specs.declared.task.Task.{Task}
 use Rattle.cpm_command_line.specs.declared.task.Task.TheVariants.{Com, Boot, Asm, List as Lines, Check, Run, Debug, Saved, Serve, Disk, Help}
 use Rattle.cpm_disk_commands.specs.declared.damage.NamedFile.{NamedFile}
@@ -15,6 +16,7 @@ use Rattle.cpm_run.specs.Run.{StoreActs}
 use Rattle.cpm_run.specs.Settled.{Streams}
 use Rattle.cpm_run.specs.declared.ending.Ending.{Ending}
 use Rattle.cpm_run.specs.declared.report.SessionReport.{SessionReport}
+use Rattle.cpm_serve.specs.declared.talk.TalkError.{TalkError}
 use Rattle.cpm_slots.specs.Host.{Host}
 use Rattle.cpm_store.specs.Files.{StoreFiles, StoreName}
 use Rattle.cpm_store.specs.Log.{StoreAccess}
@@ -55,8 +57,10 @@ pub record ToldActs : Type 1 where
   pub told_end : PlayTask → List (List ℕ × NamedFile) → Ending → (waits : Bool) → Option PlayEnd → (dropped : Bool) → Type 0
   pub told_illegal : List SessionReport → Type 0
   -- a host that was made so was served all lines of standard input, and is left so; or some of them; and a folder was asked nothing
-  pub talked : (made left : Host) → Type 0
-  pub talked_partly : (made left : Host) → Type 0
+  pub talked : ServeTask → (made left : Host) → Type 0
+  pub talked_partly : ServeTask → TalkError → (made left : Host) → Type 0
+  -- or its journal was refused
+  pub unbegun : ServeTask → (made : Host) → HostError → Type 0
   pub unasked : Type 0
 
 -- what they do as a store
@@ -125,7 +129,7 @@ IsPlainTaskDone {F} {W} acts told p (Run task) =
     p.io.unread p.io.left p.io.before.console p.io.written.console p.io.unrecorded p.io.record_now
 IsPlainTaskDone {F} {W} acts told p (Debug task) = IsDebugTaskDone acts.does task p.old p.new p.unread p.io.before.console p.io.written.console
 IsPlainTaskDone {F} {W} acts told p (Saved file) = HasToldSaved acts.does file.now p.old p.new p.io.before.console p.io.written.console
-IsPlainTaskDone {F} {W} acts told p (Serve task) = HasServed acts.does told.talked task p.old p.new
+IsPlainTaskDone {F} {W} acts told p (Serve task) = HasServed acts.does (told.talked task) task p.old p.new
 IsPlainTaskDone {F} {W} acts told p (Disk task) = IsDiskTaskDone acts p task
 IsPlainTaskDone {F} {W} acts told p (Help page) = (p.new ≡ p.old) × Appends p.io.before.console p.io.written.console (text_of_page page)
 
@@ -191,6 +195,6 @@ IsTaskRefused {F} {W} acts told p (Debug task) e =
     IsDebugTaskRefused acts.does task p.old p.new p.unread p.io.before.console p.io.written.console p.out p.out_now e
 IsTaskRefused {F} {W} acts told p (Saved file) e = IsSavedTellingRefused acts.does file.now p.old p.new p.out p.out_now e
 IsTaskRefused {F} {W} acts told p (Serve task) e =
-    IsServiceEnded acts.does told.talked_partly (told.unasked × IsSilent p) task p.old p.new e
+    IsServiceEnded acts.does (told.talked_partly task) (λ made e. told.unbegun task made e × IsSilent p) (told.unasked × IsSilent p) task p.old p.new e
 IsTaskRefused {F} {W} acts told p (Disk task) e = IsDiskTaskRefused acts p task e
 IsTaskRefused {F} {W} acts told p (Help page) e = (p.new ≡ p.old) × IsUnprinted e

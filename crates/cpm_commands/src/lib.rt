@@ -41,6 +41,6 @@ pub use record::KeyRecord;
 pub use report::LineWriter;
 pub use run::{SessionsWatcher, run_sessions};
 pub use saved::tell_saved;
-pub use serve::serve_requests;
+pub use serve::{ServedFolder, serve_requests};
 pub use task::do_task;
 pub use words::{TaskDoer, do_line, do_words, outcome_status};

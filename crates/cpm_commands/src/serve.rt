@@ -1,10 +1,13 @@
 //! The command `serve`.
-ghost use Rattle.std.specs.Prelude.{◌≡◌, ◌≤◌, IfErr, IfOk, OnOk};
-ghost use Rattle.cpm_commands.specs.Serve.{HasServed, IsHostBegun, IsHostUnbegun, IsServiceEnded, frames_asked, host_error_of_talk};
+ghost use Rattle.std.specs.Prelude.{◌≡◌, ◌≤◌, IfErr, IfOk, None, OnOk, Option, Some};
+ghost use Rattle.cpm_commands.specs.Serve.{HasServed, HasTalkedFrom, IsHostBegun, IsHostUnbegun, IsServiceEnded, frames_asked};
+ghost use Rattle.cpm_commands.specs.Serve.{host_error_of_talk};
 ghost use Rattle.cpm_host.specs.Program.{disk_or_blank};
+ghost use Rattle.cpm_command_line.specs.declared.task.ServeTask.{ServeTask};
+ghost use Rattle.cpm_host.specs.declared.error.HostError.{HostError};
 ghost use Rattle.cpm_host.specs.declared.error.HostError.TheVariants.{OutOfMemory};
 ghost use Rattle.cpm_serve.specs.Talk.{HasTalked, HasTalkedPartly};
-ghost use Rattle.cpm_slots.specs.Host.{new_host};
+ghost use Rattle.cpm_slots.specs.Host.{Host as HostSeen, new_host};
 
 use crate::begin::read_system;
 use crate::files::CommandFiles;
@@ -81,11 +84,28 @@ fn ended_early(error: TalkError) -> HostError
         TalkError::Unreadable(reason) => HostError::InputUnreadable(reason),
         TalkError::Unwritable(reason) => HostError::OutputUnwritable(reason),
         TalkError::OutOfMemory => HostError::OutOfMemory,
+        TalkError::Unkept => HostError::JournalUnwritable,
     }
 }
 
-/// Makes a host, and serves it the lines of an input over a folder of files, with their replies, up to the end of the input.
-pub fn serve_requests<F: CommandFiles, D: Folder, I: BufRead, W: Write>(
+/// A folder that a host is served over, with the journal that a task asks for, or with none.
+pub trait ServedFolder: Folder {
+    // From this state to that one by what a task asks of a journal, and from a new host to the one that is served; which is refused so, or isn't.
+    ghost begins: { Self → ServeTask → HostSeen → HostSeen → Option HostError → Self → Type 0 };
+
+    /// Begins the journal of a task: a new one; or one that is done again on a new host, and gone on with. Where none is asked for it does nothing.
+    fn begin(
+        &mut self,
+        alloc: Global,
+        task: &ServeTask<'_>,
+        server: &mut Server,
+    ) -> Result<(), HostError>
+        ensures begun { OnOk result (begins self.old task.now server.old.host.host server.new.host.host None self.new) }
+        ensures refused { IfErr result (λ e. begins self.old task.now server.old.host.host server.new.host.host (Some e) self.new) };
+}
+
+/// Makes a host, or makes one again of a journal, and serves it the lines of an input over a folder of files, with their replies, up to the end of the input.
+pub fn serve_requests<F: CommandFiles, D: ServedFolder, I: BufRead, W: Write>(
     alloc: Global,
     task: &ServeTask<'_>,
     files: &mut F,
@@ -94,14 +114,18 @@ pub fn serve_requests<F: CommandFiles, D: Folder, I: BufRead, W: Write>(
     out: &mut W,
 ) -> Result<(), HostError>
     ensures served { OnOk result (HasServed F.does
-        (λ made left. HasTalked D.does (I.remaining input.old) made left folder.old folder.new (W.contents out.old) (W.contents out.new))
+        (λ made left. HasTalkedFrom (λ resumed e to. D.begins folder.old task.now made resumed e to)
+        (λ from resumed. HasTalked D.does (I.remaining input.old) resumed left from folder.new (W.contents out.old) (W.contents out.new)))
         task.now files.old files.new) }
     ensures refusal { IfErr result (IsServiceEnded F.does
-        (λ made left. HasTalkedPartly D.does (I.remaining input.old) made left folder.old folder.new)
+        (λ error made left. HasTalkedFrom (λ resumed e to. D.begins folder.old task.now made resumed e to)
+        (λ from resumed. HasTalkedPartly D.does error (I.remaining input.old) resumed left from folder.new (W.contents out.old) (W.contents out.new)))
+        (λ made e. ((left : HostSeen) × D.begins folder.old task.now made left (Some e) folder.new) × (out.new ≡ out.old))
         ((folder.new ≡ folder.old) × (out.new ≡ out.old)) task.now files.old files.new) }
 {
     let host = begin_host(alloc, task, files)?;
     let mut server = Server { host };
+    folder.begin(alloc, task, &mut server)?;
     match serve_lines(&mut server, alloc, folder, input, out) {
         Ok(()) => Ok(()),
         Err(error) => Err(ended_early(error)),

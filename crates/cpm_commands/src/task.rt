@@ -1,5 +1,5 @@
 //! What a command line asks for, done.
-ghost use Rattle.std.specs.Prelude.{◌≡◌, false, IfErr, IfOk, None, OnOk, option_map};
+ghost use Rattle.std.specs.Prelude.{◌≡◌, false, IfErr, IfOk, None, OnOk, Some, option_map};
 ghost use Rattle.std.specs.Io.KnownBytes.{Appends};
 ghost use Rattle.cpm_command_line.specs.DiskLine.{HasUser};
 ghost use Rattle.cpm_command_line.specs.Line.{HasUsers};
@@ -12,7 +12,9 @@ ghost use Rattle.cpm_commands.specs.Task.{IsDiskTaskDone, IsDiskTaskRefused, IsT
 ghost use Rattle.cpm_commands.specs.Task.{with_status};
 ghost use Rattle.cpm_play.specs.Typist.{nobody};
 ghost use Rattle.cpm_run.specs.Settled.{streams};
+ghost use Rattle.cpm_commands.specs.Serve.{HasTalkedFrom};
 ghost use Rattle.cpm_serve.specs.Talk.{HasTalked, HasTalkedPartly};
+ghost use Rattle.cpm_slots.specs.Host.{Host as HostSeen};
 
 use crate::asm::assemble_file;
 use crate::check::check_image;
@@ -27,11 +29,10 @@ use crate::record::KeyRecord;
 use crate::report::{LineWriter, print_text};
 use crate::run::{SessionsWatcher, run_sessions};
 use crate::saved::tell_saved;
-use crate::serve::serve_requests;
+use crate::serve::{ServedFolder, serve_requests};
 use cpm_checkpoint::Checkpoint;
 use cpm_command_line::{Page, page_text};
 use cpm_host::{DiskTask, HostError, Task, Typist};
-use cpm_serve::Folder;
 use std::alloc::Global;
 use std::io::{BufRead, Write};
 
@@ -156,7 +157,7 @@ pub fn do_task<
     W: LineWriter,
     R: KeyRecord,
     T: SessionsWatcher + Messages,
-    D: Folder,
+    D: ServedFolder,
 >(
     alloc: Global,
     task: &Task<'_>,
@@ -187,8 +188,11 @@ pub fn do_task<
           told_left_out = λ places. HasToldLeftOut T.tells watcher.old places;
           told_end = λ task unwritten ending waits end dropped. HasToldEnd T.tells T.is_read task unwritten ending waits end dropped watcher.new;
           told_illegal = λ sessions. HasToldIllegal T.tells sessions watcher.new;
-          talked = λ made left. HasTalked D.does (I.remaining input.old) made left folder.old folder.new (W.contents out.old) (W.contents out.new);
-          talked_partly = λ made left. HasTalkedPartly D.does (I.remaining input.old) made left folder.old folder.new;
+          talked = λ serve made left. HasTalkedFrom (λ resumed e to. D.begins folder.old serve made resumed e to)
+              (λ from resumed. HasTalked D.does (I.remaining input.old) resumed left from folder.new (W.contents out.old) (W.contents out.new));
+          talked_partly = λ serve error made left. HasTalkedFrom (λ resumed e to. D.begins folder.old serve made resumed e to)
+              (λ from resumed. HasTalkedPartly D.does error (I.remaining input.old) resumed left from folder.new (W.contents out.old) (W.contents out.new));
+          unbegun = λ serve made e. (left : HostSeen) × D.begins folder.old serve made left (Some e) folder.new;
           unasked = folder.new ≡ folder.old;
         })
         (record {
@@ -217,8 +221,11 @@ pub fn do_task<
           told_left_out = λ places. HasToldLeftOut T.tells watcher.old places;
           told_end = λ task unwritten ending waits end dropped. HasToldEnd T.tells T.is_read task unwritten ending waits end dropped watcher.new;
           told_illegal = λ sessions. HasToldIllegal T.tells sessions watcher.new;
-          talked = λ made left. HasTalked D.does (I.remaining input.old) made left folder.old folder.new (W.contents out.old) (W.contents out.new);
-          talked_partly = λ made left. HasTalkedPartly D.does (I.remaining input.old) made left folder.old folder.new;
+          talked = λ serve made left. HasTalkedFrom (λ resumed e to. D.begins folder.old serve made resumed e to)
+              (λ from resumed. HasTalked D.does (I.remaining input.old) resumed left from folder.new (W.contents out.old) (W.contents out.new));
+          talked_partly = λ serve error made left. HasTalkedFrom (λ resumed e to. D.begins folder.old serve made resumed e to)
+              (λ from resumed. HasTalkedPartly D.does error (I.remaining input.old) resumed left from folder.new (W.contents out.old) (W.contents out.new));
+          unbegun = λ serve made e. (left : HostSeen) × D.begins folder.old serve made left (Some e) folder.new;
           unasked = folder.new ≡ folder.old;
         })
         (record {

@@ -8,7 +8,7 @@ use Rattle.cpm_host.specs.declared.error.HostError.TheVariants.{Usage, NotText, 
 use Rattle.cpm_host.specs.declared.error.HostError.TheVariants.{FileUnwritable, InputUnreadable, ListUnwritable, NotAFolder}
 use Rattle.cpm_host.specs.declared.error.HostError.TheVariants.{OutputUnwritable, SourceRefused, OutOfMemory, OpeningRefused}
 use Rattle.cpm_host.specs.declared.error.HostError.TheVariants.{CutOff, NoReplay, ProgramTooLong, RecordUnwritable, ReplayedTwice, RunRefused}
-use Rattle.cpm_host.specs.declared.error.HostError.TheVariants.{SavedElsewhere, SavingRefused, TailRefused}
+use Rattle.cpm_host.specs.declared.error.HostError.TheVariants.{JournalRefused, JournalUnwritable, SavedElsewhere, SavingRefused, TailRefused}
 use Rattle.cpm_check.specs.Check.{code_of_check}
 use Rattle.cpm_check.specs.declared.error.CheckError.{CheckError}
 use Rattle.cpm_check.specs.declared.error.CheckError.TheVariants as check
@@ -45,6 +45,8 @@ code_of_command (OutputUnwritable reason) = code.Unwritable
 code_of_command (ListUnwritable reason) = code.Unwritable
 code_of_command (FileUnwritable name reason) = code.Unwritable
 code_of_command (RecordUnwritable reason) = code.Unwritable
+code_of_command JournalUnwritable = code.Unwritable
+code_of_command (JournalRefused refusal) = code.Machine
 code_of_command (NotAFolder name) = code.Unwritable
 code_of_command (SourceRefused line kind found) = code.Source
 code_of_command OutOfMemory = code.OutOfMemory

@@ -95,9 +95,37 @@ pub enum HostError {
     /// The machine was saved over another system drive than it is to go on over.
     #[error("the machine was saved over another system drive; '--system' names the one that it had")]
     SavedElsewhere,
+    /// A change of a served host can't be kept in its journal.
+    #[error("can't write the journal")]
+    JournalUnwritable,
+    /// A journal can't be done again.
+    #[error("can't go on with the journal: {0}")]
+    JournalRefused(JournalRefusal),
     /// The program still ran when it had made all the steps that it may make, so its disks were not written.
     #[error("the program still ran after {0} steps, so its disks are as they were; give it more '--steps', or '--partial' to write them as they stand")]
     CutOff(u64),
+}
+
+/// Why a journal can't be done again. Lines are counted from 1.
+#[derive(Clone, Copy, Debug, Drop, Error)]
+pub enum JournalRefusal {
+    /// The file is empty, or its first line is none of a journal.
+    #[error("the file is no journal")]
+    NoJournal,
+    #[error("it is of another version")]
+    OtherVersion,
+    /// It was kept over another system drive.
+    #[error("it was kept over another system drive; '--system' names the one that it had")]
+    OtherSystem,
+    /// Its host had more frames or fewer.
+    #[error("its host had another number of frames; '--frames' gives the one that it had")]
+    OtherFrames,
+    /// A line is no entry.
+    #[error("line {0} is wrong")]
+    WrongLine(u64),
+    /// The host refuses what a line has.
+    #[error("line {0} can't be done")]
+    UndoneLine(u64),
 }
 
 impl fmt::Debug for HostError {
@@ -164,12 +192,14 @@ impl HostError {
             | HostError::ListUnwritable(_)
             | HostError::RecordUnwritable(_)
             | HostError::FileUnwritable { .. }
+            | HostError::JournalUnwritable
             | HostError::NotAFolder(_) => RefusalCode::Unwritable,
             HostError::SourceRefused { .. } => RefusalCode::Source,
             HostError::OutOfMemory => RefusalCode::OutOfMemory,
             HostError::OpeningRefused(_)
             | HostError::ProgramTooLong(_)
             | HostError::SavingRefused(_)
+            | HostError::JournalRefused(_)
             | HostError::SavedElsewhere => RefusalCode::Machine,
             HostError::CutOff(_) => RefusalCode::CutOff,
         }

@@ -39,7 +39,7 @@ pub use cpm_script::{
 };
 pub use cpm_store::{MemoryStore, Store, StoreError};
 pub use debug::debug_start;
-pub use error::HostError;
+pub use error::{HostError, JournalRefusal};
 pub use input::{MOST_FILE, read_whole};
 pub use list::run_list;
 pub use program::{ProgramPlay, Source, cues_of, recorded_cues_of, run_program};

@@ -26,9 +26,8 @@ use Rattle.cpm_protocol.specs.declared.word.WireRefusal.TheVariants as refusal
 use Rattle.cpm_serve.specs.DriveFiles.{DiskWork, IsGetWork, IsListWork, IsPutWork, OfDisk, OfNamed, disk_file_name, disk_refusal, got_accesses, got_answer, name_line, name_lines, no_work, put_accesses, put_answer}
 use Rattle.cpm_serve.specs.DriveFiles.{put_made, put_writes, stored_answer, text_made}
 use Rattle.cpm_serve.specs.Drives.{disk_answered}
-use Rattle.cpm_serve.specs.Folder.{AccessesLead, AreNoFolderWrites, FolderAccess, FolderAnswer, hold_access, write_access}
+use Rattle.cpm_serve.specs.Folder.{AccessesLead, AreNoFolderWrites, FolderAccess, FolderAnswer, Released, hold_access, write_access}
 use Rattle.cpm_serve.specs.Reading.{IsFileDisk, IsHeldDisk, work_answer}
-use Rattle.cpm_serve.specs.Served.{outcome}
 use Rattle.cpm_serve.specs.ServedWith.{IsRequestServedWith}
 use Rattle.cpm_serve.proofs.ServedLemmas.{same-outcome}
 
@@ -74,9 +73,9 @@ put-lacked does h drive name text n a from at is = record {
 }
 
 -- whose drive is not read
-pub put-unread : {F : Type 0} (does : F → FolderAccess → F → Type 0) (h : Host) (drive name text n : List ℕ) (why : WireRefusal) (a : Answered) (from to : F) → disk_file_name name ≡ Some n →
-    IsHeldDisk does drive from to (Err why) → a ≡ Refused why → IsRequestServedWith (AccessesLead does from to) (Put drive name text) h h a
-put-unread does h drive name text n why a from to at k is =
+pub put-unread : {F : Type 0} (does : F → FolderAccess → F → Type 0) (h : Host) (drive name text n : List ℕ) (why : WireRefusal) (a : Answered) (from mid to : F) → disk_file_name name ≡ Some n →
+    IsHeldDisk does drive from mid (Err why) → does mid Released to → a ≡ Refused why → IsRequestServedWith (AccessesLead does from to) (Put drive name text) h h a
+put-unread does h drive name text n why a from mid to at k did is =
     let by = k.answer in
     record {
       lacked = false;
@@ -85,14 +84,14 @@ put-unread does h drive name text n why a from to at k is =
       work = subst (λ (o : Option (List ℕ)). OfNamed (IsPutWork text) o (disk_answered by) no_work) (sym at) (subst (λ (r : Result Disk WireRefusal). OfNamed (IsPutWork text) (Some n) r no_work) k.is tt);
       served = same-outcome refl (is ∙ ap (λ (r : Result Disk WireRefusal). put_made (length text) r no_work []) k.is ∙ ap (λ (o : Option (List ℕ)). put_answer (length text) o (by ∷ []) no_work) (sym at));
       leads = subst (λ (o : Option (List ℕ)). AccessesLead does from to (put_accesses drive o (by ∷ []) no_work)) (sym at)
-          (subst (λ (r : Result Disk WireRefusal). AccessesLead does from to (hold_access drive by ∷ put_writes drive r no_work [])) k.is (to, k.did, refl));
+          (subst (λ (r : Result Disk WireRefusal). AccessesLead does from to (hold_access drive by ∷ put_writes drive r no_work [])) k.is (mid, k.did, (to, did, refl)));
       unwritten = λ x. absurd cc;
     }
 
 -- which is not put
-pub put-refused : {F : Type 0} (does : F → FolderAccess → F → Type 0) (h : Host) (drive name text n : List ℕ) (disk : Disk) (why : WireRefusal) (a : Answered) (from to : F) → disk_file_name name ≡ Some n →
-    IsHeldDisk does drive from to (Ok disk) → IsPutWork text disk n (Err why) → a ≡ Refused why → IsRequestServedWith (AccessesLead does from to) (Put drive name text) h h a
-put-refused does h drive name text n disk why a from to at k work is =
+pub put-refused : {F : Type 0} (does : F → FolderAccess → F → Type 0) (h : Host) (drive name text n : List ℕ) (disk : Disk) (why : WireRefusal) (a : Answered) (from mid to : F) → disk_file_name name ≡ Some n →
+    IsHeldDisk does drive from mid (Ok disk) → IsPutWork text disk n (Err why) → does mid Released to → a ≡ Refused why → IsRequestServedWith (AccessesLead does from to) (Put drive name text) h h a
+put-refused does h drive name text n disk why a from mid to at k work did is =
     let by = k.answer in
     let made : DiskWork = Err why in
     record {
@@ -102,7 +101,7 @@ put-refused does h drive name text n disk why a from to at k work is =
       work = subst (λ (o : Option (List ℕ)). OfNamed (IsPutWork text) o (disk_answered by) made) (sym at) (subst (λ (r : Result Disk WireRefusal). OfNamed (IsPutWork text) (Some n) r made) k.is work);
       served = same-outcome refl (is ∙ ap (λ (r : Result Disk WireRefusal). put_made (length text) r made []) k.is ∙ ap (λ (o : Option (List ℕ)). put_answer (length text) o (by ∷ []) made) (sym at));
       leads = subst (λ (o : Option (List ℕ)). AccessesLead does from to (put_accesses drive o (by ∷ []) made)) (sym at)
-          (subst (λ (r : Result Disk WireRefusal). AccessesLead does from to (hold_access drive by ∷ put_writes drive r made [])) k.is (to, k.did, refl));
+          (subst (λ (r : Result Disk WireRefusal). AccessesLead does from to (hold_access drive by ∷ put_writes drive r made [])) k.is (mid, k.did, (to, did, refl)));
       unwritten = λ x. absurd cc;
     }
 

@@ -13,3 +13,10 @@ pub mod RefusedLemmas
 pub mod ReadLemmas
 pub mod OutputLemmas
 pub mod DiskLemmas
+pub mod KeptLemmas
+pub mod ResumeLemmas
+pub mod KeepableLemmas
+pub mod ResumedLaws
+pub mod AgainLemmas
+pub mod RemakeLaws
+pub mod CompactLemmas

@@ -1,14 +1,16 @@
 -- Requests, one after another.
-use Rattle.std.proofs.Common.{◌≡◌, ◌<◌, ◌+◌, ℕ, List, [], ◌∷◌, ◌++◌, length, map, take, drop, get_or, false, refl, sym, subst, ap, ap₂, ◌∙◌, add-one, append_assoc}
+use Rattle.std.proofs.Common.{◌≡◌, ◌<◌, ◌+◌, ℕ, List, [], ◌∷◌, ◌++◌, length, map, take, drop, get_or, true, false, refl, sym, subst, ap, ap₂, ◌∙◌, add-one, append_assoc}
 use Rattle.std.proofs.lemmas.List.{map-append, take-append-drop}
 use Rattle.std.proofs.Math.Seq.{take-append_seam, take-suc}
-use Rattle.std.specs.Prelude.{OnErr, Result, Ok, Err}
+use Rattle.std.specs.Prelude.{IfErr, IfOk, OnErr, Result, Ok, Err}
 use Rattle.serde_json.specs.Data.{Data}
 use Rattle.cpm_slots.specs.Host.{Host}
 use Rattle.cpm_serve.specs.DriveFiles.{no_work}
 use Rattle.cpm_serve.specs.Folder.{FolderAccess}
-use Rattle.cpm_serve.specs.Lines.{EventsLead, WireEvent, event_reply, event_served, host_served, replies_served}
+use Rattle.cpm_serve.specs.Lines.{AreKept, CutEventsLead, EventsLead, IsEndedBy, IsLastUnkept, KeptEventsLead, WireEvent, event_reply, event_served, host_served, replies_served}
 use Rattle.cpm_serve.specs.Parts.{AreServed, AreServedUpTo, IsEventCut, IsEventServed, event_of}
+use Rattle.cpm_serve.specs.declared.folder.ServeError.{ServeError}
+use Rattle.cpm_serve.specs.declared.folder.ServeError.TheVariants as error
 
 abbrev value_of : WireEvent → Data
 value_of e = e.value
@@ -27,9 +29,24 @@ pub leads-append : {F : Type 0} (does : F → FolderAccess → F → Type 0) (h 
 leads-append {F} does h from mid to [] fs a b = subst (λ (f : F). EventsLead does h f to fs) (sym a) b
 leads-append {F} does h from mid to (e ∷ es) fs a b = (a.0, a.1, a.2, leads-append does (event_served h e).host a.0 mid to es fs a.3 b)
 
+-- what changed is kept of both
+pub kept-append : (es fs : List WireEvent) → AreKept es → AreKept fs → AreKept (es ++ fs)
+kept-append [] fs a b = b
+kept-append (e ∷ es) fs a b = (a.0, kept-append es fs a.1 b)
+
+-- it is not of one more
+last-append : (es : List WireEvent) (e : WireEvent) → AreKept es → e.unkept ≡ true → IsLastUnkept (es ++ e ∷ [])
+last-append [] e a is = is
+last-append (x ∷ []) e a is = (a.0, is)
+last-append (x ∷ y ∷ es) e a is = (a.0, last-append (y ∷ es) e a.1 is)
+
+ended-append : (by : ServeError) (es : List WireEvent) (e : WireEvent) → AreKept es → IsEndedBy by (e ∷ []) → IsEndedBy by (es ++ e ∷ [])
+ended-append error.OutOfMemory es e a b = kept-append es (e ∷ []) a b
+ended-append error.Unkept es e a b = last-append es e a b
+
 -- events that no memory was refused to
 abbrev plain : List Data → List WireEvent
-plain ds = map (λ d. event_of d false [] no_work) ds
+plain ds = map (λ d. event_of d false [] no_work false) ds
 
 plain-values : (ds : List Data) → map value_of (plain ds) ≡ ds
 plain-values [] = refl
@@ -45,8 +62,8 @@ one-more_values ds d events event before one =
 
 -- one more was served
 pub served-more : {F : Type 0} (does : F → FolderAccess → F → Type 0) (from mid to : F) (ds all : List Data) (d : Data) (rs : List Data) (r : Data) (old h new : Host) →
-    AreServed (EventsLead does old from mid) ds old h rs → IsEventServed (EventsLead does h mid to) d h new r → all ≡ ds ++ d ∷ [] →
-    AreServed (EventsLead does old from to) all old new (rs ++ r ∷ [])
+    AreServed (KeptEventsLead does old from mid) ds old h rs → IsEventServed (KeptEventsLead does h mid to) d h new r → all ≡ ds ++ d ∷ [] →
+    AreServed (KeptEventsLead does old from to) all old new (rs ++ r ∷ [])
 served-more does from mid to ds all d rs r old h new k one e =
     let event = one.event in
     record {
@@ -54,14 +71,17 @@ served-more does from mid to ds all d rs r old h new k one e =
       values = one-more_values ds d k.events event k.values one.value ∙ sym e;
       host = one.host ∙ ap (λ (g : Host). (event_served g event).host) k.host ∙ sym (host-append old k.events (event ∷ []));
       replies = ap₂ (λ (xs : List Data) (x : Data). xs ++ x ∷ []) k.replies (one.replied ∙ ap (λ (g : Host). event_reply g event) k.host) ∙ sym (replies-append old k.events (event ∷ []));
-      leads = leads-append does old from mid to k.events (event ∷ []) k.leads (subst (λ (g : Host). EventsLead does g mid to (event ∷ [])) k.host one.leads);
+      leads = (
+        leads-append does old from mid to k.events (event ∷ []) k.leads.0 (subst (λ (g : Host). EventsLead does g mid to (event ∷ [])) k.host one.leads.0),
+        kept-append k.events (event ∷ []) k.leads.1 one.leads.1,
+      );
     }
 
--- one more was served, and there was no memory for its reply
-pub cut-at : {F : Type 0} (does : F → FolderAccess → F → Type 0) (from mid to : F) (ds all : List Data) (d : Data) (rest rs : List Data) (old h new : Host) →
-    AreServed (EventsLead does old from mid) ds old h rs → IsEventCut (EventsLead does h mid to) d h new → all ≡ ds ++ d ∷ rest →
-    AreServedUpTo (EventsLead does old from to) all old new
-cut-at does from mid to ds all d rest rs old h new k one e =
+-- one more was served, and then the line ended early
+pub cut-at : {F : Type 0} (does : F → FolderAccess → F → Type 0) (by : ServeError) (from mid to : F) (ds all : List Data) (d : Data) (rest rs : List Data) (old h new : Host) →
+    AreServed (KeptEventsLead does old from mid) ds old h rs → IsEventCut (CutEventsLead by does h mid to) d h new → all ≡ ds ++ d ∷ rest →
+    AreServedUpTo (CutEventsLead by does old from to) all old new
+cut-at does by from mid to ds all d rest rs old h new k one e =
     let event = one.event in
     let done = k.events ++ event ∷ [] in
     record {
@@ -70,8 +90,10 @@ cut-at does from mid to ds all d rest rs old h new k one e =
           ∙ append_assoc ds (d ∷ []) rest ∙ sym e;
       count = length done;
       host = one.host ∙ ap (λ (g : Host). (event_served g event).host) k.host ∙ sym (host-append old k.events (event ∷ [])) ∙ ap (host_served old) (sym (take-append_seam done (plain rest)));
-      leads = subst (EventsLead does old from to) (sym (take-append_seam done (plain rest)))
-          (leads-append does old from mid to k.events (event ∷ []) k.leads (subst (λ (g : Host). EventsLead does g mid to (event ∷ [])) k.host one.leads));
+      leads = subst (CutEventsLead by does old from to) (sym (take-append_seam done (plain rest))) (
+        leads-append does old from mid to k.events (event ∷ []) k.leads.0 (subst (λ (g : Host). EventsLead does g mid to (event ∷ [])) k.host one.leads.0),
+        ended-append by k.events event k.leads.1 one.leads.1,
+      );
     }
 
 pub cut-served : (L : List WireEvent → Type 0) (d r : Data) (h new : Host) → IsEventServed L d h new r → IsEventCut L d h new
@@ -88,9 +110,17 @@ all-values view xs i x within is =
     ∙ ap (λ ds. ds ++ map view (drop (i + 1) xs)) (up-to view xs i x within is)
     ∙ append_assoc (map view (take i xs)) (view x ∷ []) (map view (drop (i + 1) xs))
 
-pub on-err : {A E : Type 0} (r : Result A E) (P : Type 0) → P → OnErr r P
-on-err (Ok x) P p = tt
-on-err (Err e) P p = p
+-- ---- outcomes
+
+-- what is so where memory is lacking, where nothing else is
+pub lacked-cut : {A : Type 0} (r : Result A ServeError) (P : ServeError → Type 0) → IfErr r (λ e. e ≡ error.OutOfMemory) → P error.OutOfMemory → IfErr r P
+lacked-cut (Ok x) P is p = tt
+lacked-cut (Err e) P is p = subst P (sym is) p
+
+-- what is so of a value that was made
+pub made-as : {A E G : Type 0} (r : Result A G) (o : Result A E) (P : A → Type 0) → IfOk r (λ x. o ≡ Ok x) → IfOk o P → IfOk r P
+made-as (Ok x) o P is k = subst (λ q. IfOk q P) is k
+made-as (Err e) o P is k = tt
 
 pub OnErr-weaker : {A E : Type 0} (r : Result A E) (P Q : Type 0) → (P → Q) → OnErr r P → OnErr r Q
 OnErr-weaker (Ok x) P Q f p = tt

@@ -1,6 +1,6 @@
 -- Drives that are written.
 use Rattle.std.proofs.Common.{◌≡◌, ◌∙◌, ℕ, List, [], ◌∷◌, ◌++◌, map, Bool, true, false, not, ◌&&◌, Option, Some, None, refl, sym, subst, ap, inl, inr, ⊎_elim, if◌then◌else◌}
-use Rattle.std.specs.Prelude.{⊤, ◌⊎◌, IfSome, Result, Ok, Err, Vec, length}
+use Rattle.std.specs.Prelude.{⊤, IfSome, Result, Ok, Err, Vec, length}
 use Rattle.std.specs.declared.alloc.Global.{Global}
 use Rattle.std.specs.Borrow.{Bor}
 use Rattle.cpm_flags.specs.declared.regs.Cpu.{Cpu}

@@ -2,6 +2,7 @@
 use Rattle.std.proofs.Common.{◌≡◌, ◌∙◌, min, nat_eq, take-take, ◌<◌, ◌≤◌, ◌+◌, ◌-◌, zero, suc, ⊎_elim, length-take-le, add-one, drop, drop-cons, drop_of_length-le, get_or, ap, ap₂, sym, refl, ℕ, Bool, true, false, List, [], ◌∷◌, ◌++◌, append_assoc, append-nil, Option, Some, None, IfSome, length, length-append, map, subst, take, arith, inl, inr}
 use Rattle.std.specs.Prelude.{◌==◌, ◌||◌, ◌⊎◌, if◌then◌else◌, IfNone, Vec}
 use Rattle.std.specs.declared.alloc.Global.{Global}
+use Rattle.std.specs.declared.io.Error.{Error}
 use Rattle.std.proofs.lemmas.Bool.{cases_lt, eq-eqb}
 use Rattle.std.proofs.lemmas.Bool.Decides.{nat_tests}
 use Rattle.std.proofs.lemmas.List.{take_all}
@@ -10,8 +11,13 @@ use Rattle.std.specs.Io.BufRead.{take_through, drop_through, ends_with_byte, str
 use Rattle.std.specs.Io.KnownBytes.{Appends, Consumes}
 use Rattle.cpm_slots.specs.Host.{Host}
 use Rattle.cpm_serve.specs.Folder.{FolderAccess}
-use Rattle.cpm_serve.specs.Lines.{AreLinesServed, Asks, Broken, EventsLead, IsLineCut, IsLineHeard, IsLineServed, LineHeard, Long, Unread, WireEvent, most_line}
-use Rattle.cpm_serve.specs.Talk.{HasTalked, HasTalkedPartly, IsLineKept, IsLineRead, IsReadOn, ReadsLines, has_newline, most_kept, kept_lines, most_wire_lines, put_first, reply_lines, wire_lines}
+use Rattle.cpm_serve.specs.Lines.{AreLinesServed, Asks, Broken, CutEventsLead, IsLineCut, IsLineHeard, IsLineServed, KeptEventsLead, LineHeard, Long, Unread, WireEvent, most_line}
+use Rattle.cpm_serve.specs.Talk.{HasTalked, HasTalkedPartly, IsLineKept, IsLineRead, IsReadOn, IsTalkEnd, ReadsLines, has_newline, most_kept, kept_lines, most_wire_lines, put_first, reply_lines}
+use Rattle.cpm_serve.specs.Talk.{talk_error, wire_lines}
+use Rattle.cpm_serve.specs.declared.folder.ServeError.{ServeError}
+use Rattle.cpm_serve.specs.declared.folder.ServeError.TheVariants as serve
+use Rattle.cpm_serve.specs.declared.talk.TalkError.{TalkError}
+use Rattle.cpm_serve.specs.declared.talk.TalkError.TheVariants as talk
 
 by_case : (ends : Bool) (b : ℕ) (bs : List ℕ) → put_first b (kept_lines bs) ≡ (b ∷ take_through 10 bs) ∷ kept_lines (drop_through 10 bs)
     → (if ends then (b ∷ []) ∷ kept_lines bs else put_first b (kept_lines bs))
@@ -56,7 +62,7 @@ reads_more (Some text) None new lines more a b = absurd a
 reads_more (Some text) (Some rest) None lines more a b = absurd b
 reads_more (Some text) (Some rest) (Some last) lines more a b = a ∙ ap (λ ls. lines ++ ls) b ∙ sym (append_assoc lines more (wire_lines last))
 
-appends_more : (old now new : Option (List ℕ)) (xs ys : List ℕ) → Appends old now xs → Appends now new ys → Appends old new (xs ++ ys)
+pub appends_more : (old now new : Option (List ℕ)) (xs ys : List ℕ) → Appends old now xs → Appends now new ys → Appends old new (xs ++ ys)
 appends_more None now new xs ys a b = tt
 appends_more (Some old) None new xs ys a b = absurd a
 appends_more (Some old) (Some now) None xs ys a b = absurd b
@@ -66,14 +72,14 @@ replies_more : (texts : List (List ℕ)) (text : List ℕ) → reply_lines (text
 replies_more [] text = refl
 replies_more (t ∷ ts) text = ap (λ bs. t ++ 0x0A ∷ bs) (replies_more ts text) ∙ sym (append_assoc t (0x0A ∷ reply_lines ts) (text ++ 0x0A ∷ []))
 
-rebased : {F : Type 0} (does : F → FolderAccess → F → Type 0) (line text : List ℕ) (old now new : Host) (from mid to : F) → now ≡ old → from ≡ mid → IsLineServed (EventsLead does now mid to) line now new text →
-    IsLineServed (EventsLead does old from to) line old new text
+rebased : {F : Type 0} (does : F → FolderAccess → F → Type 0) (line text : List ℕ) (old now new : Host) (from mid to : F) → now ≡ old → from ≡ mid → IsLineServed (KeptEventsLead does now mid to) line now new text →
+    IsLineServed (KeptEventsLead does old from to) line old new text
 rebased {F} does line text old now new from mid to host folder one =
-    subst (λ (f : F). IsLineServed (EventsLead does old f to) line old new text) (sym folder)
-    (subst (λ (g : Host). IsLineServed (EventsLead does g mid to) line g new text) host one)
+    subst (λ (f : F). IsLineServed (KeptEventsLead does old f to) line old new text) (sym folder)
+    (subst (λ (g : Host). IsLineServed (KeptEventsLead does g mid to) line g new text) host one)
 
 lines_more : {F : Type 0} (does : F → FolderAccess → F → Type 0) (lines : List (List ℕ)) (old now new : Host) (from mid to : F) (texts : List (List ℕ)) (line text : List ℕ) → AreLinesServed does lines old now from mid texts →
-    IsLineServed (EventsLead does now mid to) line now new text → AreLinesServed does (lines ++ line ∷ []) old new from to (texts ++ text ∷ [])
+    IsLineServed (KeptEventsLead does now mid to) line now new text → AreLinesServed does (lines ++ line ∷ []) old new from to (texts ++ text ∷ [])
 lines_more does [] old now new from mid to [] line text a one = (new, to, rebased does line text old now new from mid to a.0 a.1 one, (refl, refl))
 lines_more does [] old now new from mid to (t ∷ ts) line text a one = absurd a
 lines_more does (l ∷ ls) old now new from mid to [] line text a one = absurd a
@@ -92,7 +98,7 @@ talk_begun does input old from before = record { lines = []; texts = []; read = 
 
 -- one line more
 pub talk_more : {F : Type 0} (does : F → FolderAccess → F → Type 0) (input now next : Option (List ℕ)) (old mid new : Host) (from between to : F) (before after last : Option (List ℕ)) (count : ℕ) (line text : List ℕ) →
-    IsTalkSoFar does input now old mid from between before after count → ReadsLines now next (line ∷ []) → IsLineServed (EventsLead does mid between to) line mid new text →
+    IsTalkSoFar does input now old mid from between before after count → ReadsLines now next (line ∷ []) → IsLineServed (KeptEventsLead does mid between to) line mid new text →
     Appends after last (text ++ 0x0A ∷ []) → IsTalkSoFar does input next old new from to before last (count + 1)
 talk_more does input now next old mid new from between to before after last count line text k read served written = record {
   lines = k.lines ++ line ∷ [];
@@ -144,44 +150,58 @@ front_of None now lines read = tt
 front_of (Some text) None lines read = absurd read
 front_of (Some text) (Some rest) lines read = (wire_lines rest, read)
 
--- no line more
-pub talk_stopped : {F : Type 0} (does : F → FolderAccess → F → Type 0) (input now : Option (List ℕ)) (old new : Host) (from to : F) (before after : Option (List ℕ)) (count : ℕ) →
-    IsTalkSoFar does input now old new from to before after count → HasTalkedPartly does input old new from to
-talk_stopped does input now old new from to before after count k = record {
+-- where no other line was begun
+front_whole : (input now : Option (List ℕ)) (lines : List (List ℕ)) → ReadsLines input now lines →
+    IfSome input (λ text. (rest : List (List ℕ)) × (wire_lines text ≡ lines ++ [] ++ rest))
+front_whole input now lines read = front_of input now (lines ++ []) (subst (ReadsLines input now) (sym (append-nil lines)) read)
+
+-- no line more is read
+pub talk_stopped : {F : Type 0} (does : F → FolderAccess → F → Type 0) (fault : Error) (input now : Option (List ℕ)) (old new : Host) (from to : F) (before after : Option (List ℕ)) (count : ℕ) →
+    IsTalkSoFar does input now old new from to before after count → HasTalkedPartly does (talk.Unreadable fault) input old new from to before after
+talk_stopped does fault input now old new from to before after count k = record {
   lines = k.lines;
   texts = k.texts;
-  front = front_of input now k.lines k.read;
+  begun = [];
+  front = front_whole input now k.lines k.read;
   mid = new;
   between = to;
   served = k.served;
-  last = inl (refl, refl);
+  end = (refl, refl, refl, k.written);
 }
 
--- a line more, for whose reply there was no memory
-pub talk_cut : {F : Type 0} (does : F → FolderAccess → F → Type 0) (input now : Option (List ℕ)) (old mid new : Host) (from between to : F) (before after : Option (List ℕ)) (count : ℕ) (line : List ℕ) →
-    IsTalkSoFar does input now old mid from between before after count → IsLineCut (EventsLead does mid between to) line mid new → HasTalkedPartly does input old new from to
-talk_cut does input now old mid new from between to before after count line k cut = record {
+cut_end : {F : Type 0} (does : F → FolderAccess → F → Type 0) (by : ServeError) (line : List ℕ) (texts : List (List ℕ)) (mid new : Host) (between to : F) (before after : Option (List ℕ)) →
+    IsLineCut (CutEventsLead by does mid between to) line mid new → Appends before after (reply_lines texts) → IsTalkEnd does (talk_error by) texts (line ∷ []) mid new between to before after
+cut_end does serve.OutOfMemory line texts mid new between to before after cut written = ((line, refl, cut), written)
+cut_end does serve.Unkept line texts mid new between to before after cut written = ((line, refl, cut), written)
+
+-- a line more, that was not served to its end
+pub talk_cut : {F : Type 0} (does : F → FolderAccess → F → Type 0) (by : ServeError) (error : TalkError) (input now next : Option (List ℕ)) (old mid new : Host) (from between to : F) (before after : Option (List ℕ)) (count : ℕ) (line : List ℕ) →
+    error ≡ talk_error by → IsTalkSoFar does input now old mid from between before after count → ReadsLines now next (line ∷ []) → IsLineCut (CutEventsLead by does mid between to) line mid new →
+    HasTalkedPartly does error input old new from to before after
+talk_cut does by error input now next old mid new from between to before after count line is k read cut = record {
   lines = k.lines;
   texts = k.texts;
-  front = front_of input now k.lines k.read;
+  begun = line ∷ [];
+  front = front_of input next (k.lines ++ line ∷ []) (reads_more input now next k.lines (line ∷ []) k.read read);
   mid = mid;
   between = between;
   served = k.served;
-  last = inr (line, cut);
+  end = subst (λ (e : TalkError). IsTalkEnd does e k.texts (line ∷ []) mid new between to before after) (sym is) (cut_end does by line k.texts mid new between to before after cut k.written);
 }
 
 -- or whose reply was not written
-pub talk_unwritten : {F : Type 0} (does : F → FolderAccess → F → Type 0) (input now next : Option (List ℕ)) (old mid new : Host) (from between to : F) (before after : Option (List ℕ)) (count : ℕ) (line text : List ℕ) →
-    IsTalkSoFar does input now old mid from between before after count → ReadsLines now next (line ∷ []) → IsLineServed (EventsLead does mid between to) line mid new text →
-    HasTalkedPartly does input old new from to
-talk_unwritten does input now next old mid new from between to before after count line text k read served = record {
+pub talk_unwritten : {F : Type 0} (does : F → FolderAccess → F → Type 0) (fault : Error) (input now next : Option (List ℕ)) (old mid new : Host) (from between to : F) (before after last : Option (List ℕ)) (count : ℕ) (line text : List ℕ) →
+    IsTalkSoFar does input now old mid from between before after count → ReadsLines now next (line ∷ []) → IsLineServed (KeptEventsLead does mid between to) line mid new text →
+    HasTalkedPartly does (talk.Unwritable fault) input old new from to before last
+talk_unwritten does fault input now next old mid new from between to before after last count line text k read served = record {
   lines = k.lines ++ line ∷ [];
   texts = k.texts ++ text ∷ [];
-  front = front_of input next (k.lines ++ line ∷ []) (reads_more input now next k.lines (line ∷ []) k.read read);
+  begun = [];
+  front = front_whole input next (k.lines ++ line ∷ []) (reads_more input now next k.lines (line ∷ []) k.read read);
   mid = new;
   between = to;
   served = lines_more does k.lines old mid new from between to k.texts line text k.served served;
-  last = inl (refl, refl);
+  end = (refl, refl, refl, (let n = length-append k.texts (text ∷ []) in omega (arith, n)));
 }
 
 -- ---- a line in parts

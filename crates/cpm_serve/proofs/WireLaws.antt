@@ -16,11 +16,12 @@ use Rattle.cpm_protocol.specs.Replies.{Opened, reply_json}
 use Rattle.cpm_protocol.specs.Requests.{AskedFault, FourNames, Open, WireAsked, request_asked}
 use Rattle.cpm_slots.specs.Drives.{open_fault}
 use Rattle.cpm_protocol.specs.declared.word.WireRefusal.{WireRefusal}
+use Rattle.cpm_serve.specs.Changes.{keep_accesses}
 use Rattle.cpm_serve.specs.DriveFiles.{DiskWork}
 use Rattle.cpm_serve.specs.Drives.{drives_read, name_count}
 use Rattle.cpm_serve.specs.Folder.{FolderAccess, FolderAnswer}
 use Rattle.cpm_serve.specs.Laws.{AnswersAlone, IsFold, LinesAreEvents, own_texts, Transcripts, TwoTranscripts, WireAlone, WireIsolation, WrongLines, WrongRequests, events_in}
-use Rattle.cpm_serve.specs.Lines.{Asks, Broken, EventsLead, IsLineServed, Long, Unread, WireEvent, event_reply, event_served, events_of, host_after_line, host_after_lines, host_served, replies_to_lines, request_accesses, request_served, tag_shown, values_asked}
+use Rattle.cpm_serve.specs.Lines.{Asks, Broken, EventsLead, IsLineServed, KeptEventsLead, Long, Unread, WireEvent, event_reply, event_served, events_of, host_after_line, host_after_lines, host_served, replies_to_lines, request_accesses, request_change, request_served, tag_shown, values_asked}
 use Rattle.cpm_serve.specs.Own.{OwnRequest, asks_slot, is_own, own_asked, own_replies, own_requests, session_after, session_answer, session_asks, session_replies, unnumbered}
 use Rattle.cpm_serve.specs.Served.{Served, added_if, after_asks}
 use Rattle.cpm_serve.specs.ServedWith.{opened_if_fit, opened_read, served_with_if}
@@ -44,7 +45,8 @@ wrong-lines h (Asks value events) w =
     ap (host_served h) (no-events events none)
 
 pub wrong-requests : WrongRequests
-wrong-requests h e fault wrong = (ap (λ r. (request_served e h r).host) wrong, ap (request_accesses e h) wrong)
+wrong-requests h e fault wrong =
+    (ap (λ r. (request_served e h r).host) wrong, ap (λ r. request_accesses e h r ++ keep_accesses e.unkept (request_change e h r)) wrong)
 
 -- ---- lines and events
 
@@ -53,13 +55,13 @@ lines-are-events h [] = refl
 lines-are-events h (x ∷ xs) = lines-are-events (host_after_line h x) xs ∙ sym (host-append h (events_of x) (events_in xs))
 
 transcripts-one : {F : Type 0} (does : F → FolderAccess → F → Type 0) (line text : List ℕ) (lines texts : List (List ℕ)) (old h new : Host) (from mid to : F) →
-    IsLineServed (EventsLead does old from mid) line old h text → IsFold does lines h new mid to texts → IsFold does (line ∷ lines) old new from to (text ∷ texts)
+    IsLineServed (KeptEventsLead does old from mid) line old h text → IsFold does lines h new mid to texts → IsFold does (line ∷ lines) old new from to (text ∷ texts)
 transcripts-one does line text lines texts old h new from mid to one k = record {
   heard = one.heard ∷ k.heard;
   are = (one.is, k.are);
   host = k.host ∙ ap (λ (g : Host). host_after_lines g k.heard) one.host;
   replies = ap₂ (λ (t : List ℕ) (ts : List (List ℕ)). t ∷ ts) one.reply (k.replies ∙ ap (λ (g : Host). replies_to_lines g k.heard) one.host);
-  leads = leads-append does old from mid to (events_of one.heard) (events_in k.heard) one.leads
+  leads = leads-append does old from mid to (events_of one.heard) (events_in k.heard) one.leads.0
       (subst (λ (g : Host). EventsLead does g mid to (events_in k.heard)) one.host k.leads);
 }
 
@@ -157,7 +159,7 @@ AllBelow-event : (h : Host) (e : WireEvent) → AllBelow h.openings h.slots → 
 AllBelow-event h e b =
     event-is h e (request_asked e.value) (λ g. AllBelow g.openings g.slots) b (λ s. AllBelow-added h.openings s h.slots b) (λ id asks. AllBelow-asks id asks h b)
 
-AllBelow-events : (h : Host) (events : List WireEvent) → AllBelow h.openings h.slots → AllBelow (host_served h events).openings (host_served h events).slots
+pub AllBelow-events : (h : Host) (events : List WireEvent) → AllBelow h.openings h.slots → AllBelow (host_served h events).openings (host_served h events).slots
 AllBelow-events h [] b = b
 AllBelow-events h (e ∷ es) b = AllBelow-events (event_served h e).host es (AllBelow-event h e b)
 

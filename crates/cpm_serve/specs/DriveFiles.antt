@@ -18,7 +18,7 @@ use Rattle.cpm_protocol.specs.Replies.{Answered, Refused, Text, Written}
 use Rattle.cpm_protocol.specs.declared.word.WireRefusal.{WireRefusal}
 use Rattle.cpm_protocol.specs.declared.word.WireRefusal.TheVariants as refusal
 use Rattle.cpm_serve.specs.Drives.{disk_answered}
-use Rattle.cpm_serve.specs.Folder.{FolderAccess, FolderAnswer, Failed, Given, Stored, first_answer, hold_access, one_read, one_write, write_refusal}
+use Rattle.cpm_serve.specs.Folder.{FolderAccess, FolderAnswer, Failed, Given, Released, Stored, first_answer, hold_access, one_read, one_write, write_refusal}
 
 -- What the work on a disk makes: bytes, or why it is not done. It is part of an event; what it is says `IsDiskWork`.
 abbrev pub DiskWork : Type 0
@@ -118,9 +118,11 @@ abbrev pub put_answer : ℕ → Option (List ℕ) → List FolderAnswer → Disk
 put_answer count None answers made = Refused refusal.BadName
 put_answer count (Some name) answers made = put_made count (disk_answered (first_answer answers)) made (answers_behind answers)
 
+-- the file is written, or it is let go
 abbrev pub put_writes : (drive : List ℕ) → Result Disk WireRefusal → DiskWork → List FolderAnswer → List FolderAccess
 put_writes drive (Ok disk) (Ok image) rest = one_write ((drive, image) ∷ []) rest
-put_writes drive _ _ rest = []
+put_writes drive (Ok disk) (Err why) rest = Released ∷ []
+put_writes drive (Err why) made rest = Released ∷ []
 
 abbrev pub held_accesses : (drive : List ℕ) → List FolderAnswer → DiskWork → List FolderAccess
 held_accesses drive [] made = []

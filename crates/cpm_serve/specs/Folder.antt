@@ -1,5 +1,9 @@
 -- A folder of files: what it is asked, and what it answers. All of it is own: docs/PROTOCOL.md.
-use Rattle.std.specs.Prelude.{⊤, ◌≡◌, ℕ, List, [], ◌∷◌, Result, Ok, Err, Vec}
+use Rattle.std.specs.Prelude.{⊤, ◌≡◌, ℕ, List, [], ◌∷◌, Option, Some, None, Result, Ok, Err, Vec}
+use Rattle.serde_json.specs.Data.{Data}
+use Rattle.cpm_machine.specs.MachineState.{MachineState}
+use Rattle.cpm_machine.specs.Saving.{Saving}
+use Rattle.cpm_slots.specs.Host.{Host, saving_of}
 use Rattle.std.specs.declared.alloc.Global.{Global}
 use Rattle.cpm_store.specs.Writes.{NamedBytes}
 use Rattle.cpm_protocol.specs.declared.word.WireRefusal.{WireRefusal}
@@ -13,7 +17,14 @@ pub data FolderAnswer : Type 0 where
   Stored : FolderAnswer
   Failed : (fault : FolderError) → FolderAnswer
 
--- An access: what was asked of a folder, and its answer. A file is held where it is replaced next.
+-- What changed a host: a request as it was asked; a session that was opened from files, as its saving; or a slot that was closed.
+pub data HostChange : Type 0 where
+  AsAsked : (value : Data) → HostChange
+  AsSaved : (saving : Saving) → HostChange
+  AsClosed : (slot : ℕ) → HostChange
+
+-- An access: what was asked of a folder, and its answer. A file is held where it is replaced next; it is let go where it is not. A change is kept where the
+-- folder has a journal.
 pub data FolderAccess : Type 0 where
   Gave : (name bytes : List ℕ) → FolderAccess
   Unread : (name : List ℕ) (fault : FolderError) → FolderAccess
@@ -21,6 +32,9 @@ pub data FolderAccess : Type 0 where
   Unheld : (name : List ℕ) (fault : FolderError) → FolderAccess
   Wrote : (files : List NamedBytes) → FolderAccess
   Unwritten : (files : List NamedBytes) (fault : FolderError) → FolderAccess
+  Released : FolderAccess
+  Kept : (change : HostChange) → FolderAccess
+  Unkept : (change : HostChange) → FolderAccess
 
 -- ---- accesses by their answers; an answer to another question counts as a fault
 
@@ -38,6 +52,16 @@ abbrev pub write_access : List NamedBytes → FolderAnswer → FolderAccess
 write_access files (Given bytes) = Unwritten files error.Fault
 write_access files Stored = Wrote files
 write_access files (Failed e) = Unwritten files e
+
+abbrev pub keep_access : HostChange → FolderAnswer → FolderAccess
+keep_access change (Given bytes) = Unkept change
+keep_access change Stored = Kept change
+keep_access change (Failed e) = Unkept change
+
+-- a session is kept where it is open
+abbrev pub KeepsOpened : {F : Type 0} → (F → FolderAccess → F → Type 0) → (from to : F) → Host → Option MachineState → FolderAnswer → Type 0
+KeepsOpened {F} does from to h None answer = from ≡ to
+KeepsOpened {F} does from to h (Some s) answer = does from (keep_access (AsSaved (saving_of h s)) answer) to
 
 -- the answer that the code gets
 abbrev pub read_answer : Result (Vec ℕ Global) FolderError → FolderAnswer
@@ -93,9 +117,11 @@ abbrev pub AreNoFolderWrites : List FolderAccess → Type 0
 AreNoFolderWrites [] = ⊤
 AreNoFolderWrites (a ∷ log) = IsNoFolderWrite a × AreNoFolderWrites log
 
--- what a folder that is none is asked: no file is there, and none is written
+-- what a folder that is none is asked: no file is there, none is written, and it has no journal
 abbrev pub IsNoFolderAccess : FolderAccess → Type 0
 IsNoFolderAccess (Unread name e) = e ≡ error.Absent
 IsNoFolderAccess (Unheld name e) = e ≡ error.Absent
 IsNoFolderAccess (Unwritten files e) = e ≡ error.Fault
+IsNoFolderAccess Released = ⊤
+IsNoFolderAccess (Kept change) = ⊤
 IsNoFolderAccess _ = ⊥

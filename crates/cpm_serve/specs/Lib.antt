@@ -13,3 +13,9 @@ pub mod Parts
 pub mod Own
 pub mod Laws
 pub mod Talk
+pub mod Changes
+pub mod Keeping
+pub mod KeptFolder
+pub mod Redone
+pub mod Resumed
+pub mod Compact

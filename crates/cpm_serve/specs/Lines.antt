@@ -1,5 +1,5 @@
 -- What a line does to a host, and the text of its reply. All of it is own: docs/PROTOCOL.md.
-use Rattle.std.specs.Prelude.{⊤, ◌≡◌, ◌<◌, ◌≤◌, IsUtf8, ℕ, Bool, true, List, [], ◌∷◌, length, map, take, Option, Some, None, Result, Ok, Err}
+use Rattle.std.specs.Prelude.{⊤, ◌≡◌, ◌<◌, ◌≤◌, IsUtf8, ℕ, Bool, true, false, List, [], ◌∷◌, ◌++◌, length, map, take, Option, Some, None, Result, Ok, Err}
 use Rattle.serde_json.specs.Data.{Data, null, Items, no_items, item}
 use Rattle.serde_json.specs.Read.{read}
 use Rattle.serde_json.specs.View.{items_of}
@@ -9,19 +9,23 @@ use Rattle.cpm_protocol.specs.Requests.{AskedFault, AskedTag, LineAsked, One, Ma
 use Rattle.cpm_protocol.specs.declared.fault.FieldFault.{FieldFault}
 use Rattle.cpm_protocol.specs.declared.word.WireRefusal.TheVariants as refusal
 use Rattle.cpm_slots.specs.Host.{Host}
+use Rattle.cpm_serve.specs.Changes.{kept_change, keep_accesses}
 use Rattle.cpm_serve.specs.DriveFiles.{DiskWork}
-use Rattle.cpm_serve.specs.Folder.{AccessesLead, AreNoFolderWrites, FolderAccess, FolderAnswer}
+use Rattle.cpm_serve.specs.Folder.{AccessesLead, AreNoFolderWrites, FolderAccess, FolderAnswer, HostChange}
 use Rattle.cpm_serve.specs.Served.{Served, outcome}
+use Rattle.cpm_serve.specs.declared.folder.ServeError.{ServeError}
+use Rattle.cpm_serve.specs.declared.folder.ServeError.TheVariants as error
 use Rattle.cpm_serve.specs.ServedWith.{IsDiskWork, accesses_of, served_with_if}
 
 -- ---- a value
 
--- the value of a request, whether memory was refused to it, what the folder answered, and what the work on a disk made
+-- the value of a request, whether memory was refused to it, what the folder answered, what the work on a disk made, and whether it could not be kept
 pub record WireEvent : Type 0 where
   pub value : Data
   pub lacked : Bool
   pub answers : List FolderAnswer
   pub made : DiskWork
+  pub unkept : Bool
 
 -- a tag that can't be read doesn't come back
 abbrev pub tag_kept : Result (Option AskedTag) FieldFault → Option AskedTag
@@ -39,13 +43,21 @@ request_served e h (Err fault) = outcome h (Wrong fault)
 abbrev pub event_served : Host → WireEvent → Served
 event_served h e = request_served e h (request_asked e.value)
 
+-- what is kept of it
+abbrev pub request_change : WireEvent → Host → Result WireAsked AskedFault → Option HostChange
+request_change e h (Ok r) = kept_change e.value r (served_with_if e.lacked h e.answers e.made r)
+request_change e h (Err fault) = None
+
+abbrev pub event_change : Host → WireEvent → Option HostChange
+event_change h e = request_change e h (request_asked e.value)
+
 abbrev pub request_accesses : WireEvent → Host → Result WireAsked AskedFault → List FolderAccess
 request_accesses e h (Ok r) = accesses_of h e.answers e.made r
 request_accesses e h (Err fault) = []
 
--- what is asked of the folder
+-- what is asked of the folder, and then what it is to keep
 abbrev pub event_accesses : Host → WireEvent → List FolderAccess
-event_accesses h e = request_accesses e h (request_asked e.value)
+event_accesses h e = request_accesses e h (request_asked e.value) ++ keep_accesses e.unkept (event_change h e)
 
 -- The work on a disk made what it makes; and where memory was refused, no file was written.
 abbrev pub IsRequestTrue : WireEvent → Host → Result WireAsked AskedFault → Type 0
@@ -75,6 +87,30 @@ abbrev pub EventsLead : {F : Type 0} → (F → FolderAccess → F → Type 0) �
 EventsLead {F} does h from to [] = from ≡ to
 EventsLead {F} does h from to (e ∷ es) =
     (next : F) × IsEventTrue h e × AccessesLead does from next (event_accesses h e) × EventsLead does (event_served h e).host next to es
+
+-- all that they changed is kept
+abbrev pub AreKept : List WireEvent → Type 0
+AreKept [] = ⊤
+AreKept (e ∷ es) = (e.unkept ≡ false) × AreKept es
+
+-- the last of them could not be kept, and all before it are
+abbrev pub IsLastUnkept : List WireEvent → Type 0
+IsLastUnkept [] = ⊥
+IsLastUnkept (e ∷ []) = e.unkept ≡ true
+IsLastUnkept (e ∷ es) = (e.unkept ≡ false) × IsLastUnkept es
+
+-- where the serving of a line ended early: there was no memory for a reply, or a change could not be kept
+abbrev pub IsEndedBy : ServeError → List WireEvent → Type 0
+IsEndedBy error.OutOfMemory es = AreKept es
+IsEndedBy error.Unkept es = IsLastUnkept es
+
+-- the folder was led by events, and all that they changed is kept
+abbrev pub KeptEventsLead : {F : Type 0} → (F → FolderAccess → F → Type 0) → Host → (from to : F) → List WireEvent → Type 0
+KeptEventsLead {F} does h from to es = EventsLead does h from to es × AreKept es
+
+-- or it ended early so
+abbrev pub CutEventsLead : {F : Type 0} → ServeError → (F → FolderAccess → F → Type 0) → Host → (from to : F) → List WireEvent → Type 0
+CutEventsLead {F} e does h from to es = EventsLead does h from to es × IsEndedBy e es
 
 -- ---- a line
 
@@ -162,10 +198,10 @@ AreLinesHeard _ _ = ⊥
 abbrev pub AreLinesServed : {F : Type 0} → (F → FolderAccess → F → Type 0) → List (List ℕ) → (old new : Host) → (from to : F) → List (List ℕ) → Type 0
 AreLinesServed {F} does [] old new from to [] = (new ≡ old) × (from ≡ to)
 AreLinesServed {F} does (line ∷ lines) old new from to (text ∷ texts) =
-    (h : Host) × (next : F) × IsLineServed (EventsLead does old from next) line old h text × AreLinesServed does lines h new next to texts
+    (h : Host) × (next : F) × IsLineServed (KeptEventsLead does old from next) line old h text × AreLinesServed does lines h new next to texts
 AreLinesServed {F} does _ old new from to _ = ⊥
 
--- there was no memory for a reply: the first requests of the line were served, perhaps all
+-- the serving of a line ended early: the first requests of the line were served, perhaps all
 pub record IsLineCut (Leads : List WireEvent → Type 0) (line : List ℕ) (old new : Host) : Type 0 where
   pub heard : LineHeard
   pub is : IsLineHeard line heard

@@ -21,10 +21,18 @@ HasByteKeys (Turn slot keys steps) = list_all is_byte_character keys ≡ true
 HasByteKeys (Put drive name text) = list_all is_byte_character text ≡ true
 HasByteKeys _ = ⊤
 
-abbrev pub event_of : Data → Bool → List FolderAnswer → DiskWork → WireEvent
-event_of d lacked answers made = record { value = d; lacked = lacked; answers = answers; made = made }
+abbrev pub event_of : Data → Bool → List FolderAnswer → DiskWork → (unkept : Bool) → WireEvent
+event_of d lacked answers made unkept = record { value = d; lacked = lacked; answers = answers; made = made; unkept = unkept }
 
 -- In what follows `Leads` says how the folder was led by events.
+
+-- the request that a value is was done, and this is to be replied
+pub record IsEventDone (Leads : List WireEvent → Type 0) (d : Data) (old new : Host) (answer : Answered) : Type 0 where
+  pub event : WireEvent
+  pub value : event.value ≡ d
+  pub host : new ≡ (event_served old event).host
+  pub answered : answer ≡ (event_served old event).reply
+  pub leads : Leads (event ∷ [])
 
 -- the request that a value is was served, and this is the reply
 pub record IsEventServed (Leads : List WireEvent → Type 0) (d : Data) (old new : Host) (reply : Data) : Type 0 where
@@ -34,7 +42,7 @@ pub record IsEventServed (Leads : List WireEvent → Type 0) (d : Data) (old new
   pub replied : reply ≡ event_reply old event
   pub leads : Leads (event ∷ [])
 
--- and there was no memory for the reply
+-- and then the line ended early
 pub record IsEventCut (Leads : List WireEvent → Type 0) (d : Data) (old new : Host) : Type 0 where
   pub event : WireEvent
   pub value : event.value ≡ d
@@ -49,7 +57,7 @@ pub record AreServed (Leads : List WireEvent → Type 0) (ds : List Data) (old n
   pub replies : made ≡ replies_served old events
   pub leads : Leads events
 
--- so many of them were, and there was no memory for the replies
+-- so many of them were, and then the line ended early
 pub record AreServedUpTo (Leads : List WireEvent → Type 0) (ds : List Data) (old new : Host) : Type 0 where
   pub events : List WireEvent
   pub values : map (λ e. e.value) events ≡ ds
@@ -69,7 +77,7 @@ pub record IsValueServed (Leads : List WireEvent → Type 0) (d : Data) (old new
   pub reply : made ≡ line_reply d (line_asked d) (replies_served old events)
   pub leads : Leads events
 
--- and there was no memory for it
+-- and it ended early
 pub record IsValueCut (Leads : List WireEvent → Type 0) (d : Data) (old new : Host) : Type 0 where
   pub events : List WireEvent
   pub asked : AreAskedBy d events

@@ -1,12 +1,16 @@
 -- Lines that are read, and replies that are written. All of it is own: docs/PROTOCOL.md.
-use Rattle.std.specs.Prelude.{⊤, ◌≡◌, ◌⊎◌, ℕ, ◌-◌, ◌==◌, ◌||◌, Bool, true, false, length, if◌then◌else◌}
+use Rattle.std.specs.Prelude.{⊤, ◌≡◌, ◌<◌, ℕ, ◌-◌, ◌==◌, ◌||◌, Bool, true, false, length, if◌then◌else◌}
 use Rattle.std.specs.Prelude.{List, [], ◌∷◌, ◌++◌, map, take, Option, Some, None, IfSome, Vec}
 use Rattle.std.specs.declared.alloc.Global.{Global}
 use Rattle.std.specs.Io.BufRead.{drop_through, strip_last, take_through}
 use Rattle.std.specs.Io.KnownBytes.{Appends, Consumes}
 use Rattle.cpm_slots.specs.Host.{Host}
 use Rattle.cpm_serve.specs.Folder.{FolderAccess}
-use Rattle.cpm_serve.specs.Lines.{AreLinesServed, EventsLead, IsLineCut}
+use Rattle.cpm_serve.specs.Lines.{AreLinesServed, CutEventsLead, IsLineCut}
+use Rattle.cpm_serve.specs.declared.folder.ServeError.{ServeError}
+use Rattle.cpm_serve.specs.declared.folder.ServeError.TheVariants as serve
+use Rattle.cpm_serve.specs.declared.talk.TalkError.{TalkError}
+use Rattle.cpm_serve.specs.declared.talk.TalkError.TheVariants as talk
 
 -- ---- lines
 
@@ -77,12 +81,36 @@ pub record HasTalked {F : Type 0} (does : F → FolderAccess → F → Type 0) (
   pub served : AreLinesServed does lines old new from to texts
   pub written : Appends before after (reply_lines texts)
 
--- It was served some, from the first on: the reader or the writer failed, or there was no memory for a line or for its reply.
-pub record HasTalkedPartly {F : Type 0} (does : F → FolderAccess → F → Type 0) (input : Option (List ℕ)) (old new : Host) (from to : F) : Type 0 where
+abbrev pub talk_error : ServeError → TalkError
+talk_error serve.OutOfMemory = talk.OutOfMemory
+talk_error serve.Unkept = talk.Unkept
+
+-- a line was begun, and ended early so
+abbrev pub IsLineBegun : {F : Type 0} → (F → FolderAccess → F → Type 0) → ServeError → (begun : List (List ℕ)) → (mid new : Host) → (between to : F) → Type 0
+IsLineBegun {F} does e begun mid new between to = (line : List ℕ) × (begun ≡ line ∷ []) × IsLineCut (CutEventsLead e does mid between to) line mid new
+
+-- A talk ended early behind these lines, of which these are the replies, and perhaps in another line.
+abbrev pub IsTalkEnd : {F : Type 0} → (F → FolderAccess → F → Type 0) → TalkError → (texts begun : List (List ℕ)) → (mid new : Host) → (between to : F)
+    → (before after : Option (List ℕ)) → Type 0
+-- no line was begun, and all replies are written
+IsTalkEnd {F} does (talk.Unreadable e) texts begun mid new between to before after =
+    (begun ≡ []) × (new ≡ mid) × (between ≡ to) × Appends before after (reply_lines texts)
+-- the last reply is not written whole
+IsTalkEnd {F} does (talk.Unwritable e) texts begun mid new between to before after = (begun ≡ []) × (new ≡ mid) × (between ≡ to) × (0 < length texts)
+-- a line was not served to its end, and the replies to those before it are written
+IsTalkEnd {F} does talk.OutOfMemory texts begun mid new between to before after =
+    IsLineBegun does serve.OutOfMemory begun mid new between to × Appends before after (reply_lines texts)
+IsTalkEnd {F} does talk.Unkept texts begun mid new between to before after =
+    IsLineBegun does serve.Unkept begun mid new between to × Appends before after (reply_lines texts)
+
+-- It was served some lines, from the first on, and then the talk ended early. The next line was perhaps begun, and no line behind it.
+pub record HasTalkedPartly {F : Type 0} (does : F → FolderAccess → F → Type 0) (error : TalkError) (input : Option (List ℕ)) (old new : Host) (from to : F)
+    (before after : Option (List ℕ)) : Type 0 where
   pub lines : List (List ℕ)
   pub texts : List (List ℕ)
-  pub front : IfSome input (λ text. (rest : List (List ℕ)) × (wire_lines text ≡ lines ++ rest))
+  pub begun : List (List ℕ)
+  pub front : IfSome input (λ text. (rest : List (List ℕ)) × (wire_lines text ≡ lines ++ begun ++ rest))
   pub mid : Host
   pub between : F
   pub served : AreLinesServed does lines old mid from between texts
-  pub last : ((new ≡ mid) × (between ≡ to)) ⊎ ((line : List ℕ) × IsLineCut (EventsLead does mid between to) line mid new)
+  pub end : IsTalkEnd does error texts begun mid new between to before after

@@ -4,7 +4,8 @@ ghost use Rattle.cpm_protocol.specs.Bytes.{is_byte_text};
 ghost use Rattle.cpm_protocol.specs.Requests.{Files, Get, Put};
 ghost use Rattle.cpm_slots.specs.Host.{Host};
 ghost use Rattle.cpm_serve.specs.DriveFiles.{IsGetWork, IsListWork, IsPutWork, disk_file_name, disk_refusal, file_refusal, name_line, name_lines};
-ghost use Rattle.cpm_serve.specs.Folder.{AccessesLead};
+ghost use Rattle.cpm_protocol.specs.Replies.{Refused};
+ghost use Rattle.cpm_serve.specs.Folder.{AccessesLead, Released};
 ghost use Rattle.cpm_serve.specs.Owned.{owned_answer};
 ghost use Rattle.cpm_serve.specs.Reading.{IsHeldDisk, text_work, work_answer};
 ghost use Rattle.cpm_serve.specs.ServedWith.{IsRequestServedWith};
@@ -139,6 +140,15 @@ fn given(outcome: Result<Vec<u8>, WireRefusal>) -> OwnedReply
     }
 }
 
+/// Lets the file go that was to be replaced.
+fn let_go<F: Folder>(folder: &mut F, refusal: WireRefusal) -> OwnedReply
+    ensures reply { owned_answer result ≡ Refused refusal }
+    ensures did { F.does folder.old Released folder.new }
+{
+    folder.release();
+    refused(refusal)
+}
+
 /// Writes a file on a drive.
 pub(crate) fn put_file<F: Folder>(
     alloc: Global,
@@ -158,11 +168,11 @@ pub(crate) fn put_file<F: Folder>(
     };
     let image = match held_image(alloc, folder, drive) {
         Ok(image) => image,
-        Err(refusal) => return refused(refusal),
+        Err(refusal) => return let_go(folder, refusal),
     };
     match with_file(alloc, &image, &file, &text) {
         Ok(bytes) => stored(text.as_slice().len(), write_file(folder, drive, bytes)),
-        Err(refusal) => refused(refusal),
+        Err(refusal) => let_go(folder, refusal),
     }
 }
 

@@ -11,7 +11,7 @@ use cpm_protocol::{DriveNames, WireRefusal};
 use std::alloc::{AllocError, Global};
 
 /// The format of the blank disk that a name is of.
-fn format_named(name: &str) -> Option<Format>
+pub(crate) fn format_named(name: &str) -> Option<Format>
     ensures { option_map blank_disk result ≡ disk_named name.now }
 {
     match name {

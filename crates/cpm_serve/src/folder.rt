@@ -1,11 +1,16 @@
 //! A folder of files, as a service has one.
-ghost use Rattle.cpm_serve.specs.Folder.{FolderAccess, hold_access, read_access, read_answer, read_refusal, write_access, write_answer};
+ghost use Rattle.cpm_serve.specs.Folder.{FolderAccess, hold_access, keep_access, read_access, read_answer, read_refusal, write_access, write_answer};
+ghost use Rattle.cpm_serve.specs.Folder.{AsAsked, AsClosed, KeepsOpened, Released};
 ghost use Rattle.cpm_serve.specs.Folder.{IsNoFolderAccess, write_refusal};
 ghost use Rattle.cpm_store.specs.Writes.{named_output};
+ghost use Rattle.cpm_slots.specs.Host.{slot_at};
+ghost use Rattle.serde_json.specs.View.{view};
 ghost use Rattle.std.specs.Prelude.{◌≡◌, ◌∷◌, [], Err, map};
 
 use cpm_protocol::WireRefusal;
+use cpm_slots::{Host, SlotId};
 use cpm_store::Output;
+use serde_json::Value;
 use std::alloc::Global;
 use thiserror::Error;
 
@@ -25,7 +30,18 @@ pub enum FolderError {
     OutOfMemory,
 }
 
-/// Files by their names.
+/// Why a line is not served to its end.
+#[derive(Clone, Copy, Debug, PartialEq, Eq, Drop, Error)]
+pub enum ServeError {
+    /// There is no memory for its reply.
+    #[error("out of memory")]
+    OutOfMemory,
+    /// What it changed can't be kept.
+    #[error("the journal can't be written")]
+    Unkept,
+}
+
+/// Files by their names, and perhaps a journal of what changes the host.
 pub trait Folder {
     // From this state, by this access, to that state. Every folder has it, and a body that is proved for each of them can know no step but those that its
     // own accesses made.
@@ -42,6 +58,28 @@ pub trait Folder {
     /// Writes files, in order. Each is whole then, or as it was.
     fn write(&mut self, files: &[Output<'_>]) -> Result<(), FolderError>
         ensures did { does self.old (write_access (map named_output files.now) (write_answer result)) self.new };
+
+    /// Lets the file go that is held, since it is not replaced.
+    fn release(&mut self)
+        ensures did { does self.old Released self.new };
+
+    /// Keeps a request that was done. A folder with no journal does nothing.
+    fn keep(&mut self, alloc: Global, request: &Value) -> Result<(), FolderError>
+        ensures did { does self.old (keep_access (AsAsked (view request.now)) (write_answer result)) self.new };
+
+    /// Keeps a slot's closing.
+    fn keep_closed(&mut self, alloc: Global, slot: u64) -> Result<(), FolderError>
+        ensures did { does self.old (keep_access (AsClosed slot) (write_answer result)) self.new };
+
+    /// Keeps a session that was opened from files, as it is now.
+    fn keep_opened(
+        &mut self,
+        alloc: Global,
+        host: &mut Host,
+        slot: SlotId,
+    ) -> Result<(), FolderError>
+        ensures did { KeepsOpened does self.old self.new host.old.host (slot_at slot.0 host.old.host.slots) (write_answer result) }
+        ensures unchanged { host.new ≡ host.old };
 }
 
 /// A folder that is none: no file is there, and none is written.
@@ -67,6 +105,25 @@ impl Folder for NoFolder {
         ensures fault { result ≡ Err FolderError.Fault }
     {
         Err(FolderError::Fault)
+    }
+
+    fn release(&mut self) {}
+
+    fn keep(&mut self, _alloc: Global, _request: &Value) -> Result<(), FolderError> {
+        Ok(())
+    }
+
+    fn keep_closed(&mut self, _alloc: Global, _slot: u64) -> Result<(), FolderError> {
+        Ok(())
+    }
+
+    fn keep_opened(
+        &mut self,
+        _alloc: Global,
+        _host: &mut Host,
+        _slot: SlotId,
+    ) -> Result<(), FolderError> {
+        Ok(())
     }
 }
 

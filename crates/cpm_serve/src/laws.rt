@@ -1,8 +1,13 @@
 //! The laws of the wire, as contracts.
 ghost use Rattle.cpm_serve.specs.Laws.{LinesAreEvents, RefusedRequests, Transcripts, TurnsAreParts, TwoTranscripts, WireAlone, WireIsolation};
+ghost use Rattle.cpm_serve.specs.Compact.{CompactJournalsRemake};
+ghost use Rattle.cpm_serve.specs.KeptFolder.{KeptLines};
 ghost use Rattle.cpm_serve.specs.Laws.{WrongLines, WrongRequests};
+ghost use Rattle.cpm_serve.specs.Redone.{BegunJournalsRemake, JournalsRemake};
+ghost use Rattle.cpm_serve.specs.Resumed.{WireCutOff, WireResumed};
 
 use crate::folder::Folder;
+use std::io::Write;
 
 /// A line that is no request changes nothing.
 pub fn wrong_lines()
@@ -48,4 +53,34 @@ pub fn two_transcripts()
 /// The replies to a session's own requests follow from its opening, these requests, what the folder answered to them, and the system drive.
 pub fn wire_alone()
     ensures { WireAlone }
+{}
+
+/// What lines change stands in the journal, a line each, in order.
+pub fn kept_lines<F: Folder, J: Write>()
+    ensures { KeptLines F.does J.contents }
+{}
+
+/// What events change, done again, makes the host that it was kept of.
+pub fn journals_remake()
+    ensures { JournalsRemake }
+{}
+
+/// The first entries of a journal, done again, make the host behind the first events.
+pub fn begun_journals_remake()
+    ensures { BegunJournalsRemake }
+{}
+
+/// A journal that a served host has kept is done again as that host.
+pub fn wire_resumed<F: Folder, J: Write>()
+    ensures { WireResumed F.does J.contents }
+{}
+
+/// One that is cut off anywhere is done again as the host after all lines whose entries are whole in it, and the first of what the others ask.
+pub fn wire_cut_off<F: Folder, J: Write>()
+    ensures { WireCutOff F.does J.contents }
+{}
+
+/// The shortest journal of a host, done again, makes the host.
+pub fn compact_journals_remake()
+    ensures { CompactJournalsRemake }
 {}

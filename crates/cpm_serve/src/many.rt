@@ -1,17 +1,18 @@
 //! Requests, one after another.
-ghost use Rattle.std.specs.Prelude.{◌≡◌, IfOk, OnErr, map, option_map};
+ghost use Rattle.std.specs.Prelude.{◌≡◌, ◌++◌, ◌∷◌, [], IfErr, IfOk, Ok, OnOk, map, option_map};
 ghost use Rattle.serde_json.specs.View.{view};
-ghost use Rattle.cpm_protocol.specs.Requests.{request_seen, tag_of_code};
+ghost use Rattle.cpm_protocol.specs.Requests.{request_asked, request_seen, tag_of_code};
 ghost use Rattle.cpm_serve.specs.Owned.{owned_answer};
 ghost use Rattle.cpm_serve.specs.Folder.{AccessesLead};
-ghost use Rattle.cpm_serve.specs.Lines.{EventsLead, tag_shown};
-ghost use Rattle.cpm_serve.specs.Parts.{AreServed, AreServedUpTo, HasByteKeys, IsEventCut, IsEventServed};
+ghost use Rattle.cpm_serve.specs.Lines.{CutEventsLead, KeptEventsLead, tag_shown};
+ghost use Rattle.cpm_serve.specs.Parts.{AreServed, AreServedUpTo, HasByteKeys, IsEventCut, IsEventDone, IsEventServed};
 ghost use Rattle.cpm_serve.specs.ServedWith.{IsRequestServedWith};
 
 use crate::close::{close, save};
 use crate::disk::{get_file, list_files, put_file};
-use crate::folder::Folder;
+use crate::folder::{Folder, ServeError};
 use crate::grant::grant;
+use crate::keep::keep;
 use crate::open::{fork, open, resume};
 use crate::owned::OwnedReply;
 use crate::slot::{look, peek, press, take};
@@ -23,7 +24,7 @@ use serde_json::Value;
 use std::alloc::{AllocError, Global};
 
 /// Does a request.
-fn perform<F: Folder>(
+pub(crate) fn perform<F: Folder>(
     host: &mut Host,
     alloc: Global,
     folder: &mut F,
@@ -65,21 +66,67 @@ pub(crate) fn tag_shown(value: &Value) -> Option<Tag<'_>>
     }
 }
 
-/// Does the request that a value is, and gives its reply.
+/// A value that was made, or the end of the line for want of memory.
+pub(crate) fn made(outcome: Result<Value, AllocError>) -> Result<Value, ServeError>
+    ensures made { IfOk result (λ value. outcome ≡ Ok value) }
+    ensures lacked { IfErr result (λ e. e ≡ ServeError.OutOfMemory) }
+{
+    match outcome {
+        Ok(value) => Ok(value),
+        Err(AllocError) => Err(ServeError::OutOfMemory),
+    }
+}
+
+/// Does a request, and keeps what it changed.
+fn perform_kept<F: Folder>(
+    host: &mut Host,
+    alloc: Global,
+    folder: &mut F,
+    request: WireRequest<'_>,
+    value: &Value,
+) -> Result<OwnedReply, ServeError>
+    requires bytes { HasByteKeys (request_seen request) }
+    requires asked { request_asked (view value.now) ≡ Ok (request_seen request) }
+    ensures done { IfOk result (λ reply. IsEventDone (KeptEventsLead F.does host.old.host folder.old folder.new) (view value.now)
+        host.old.host host.new.host (owned_answer reply)) }
+    ensures unkept { IfErr result (λ e. IsEventCut (CutEventsLead e F.does host.old.host folder.old folder.new) (view value.now) host.old.host host.new.host) }
+{
+    let reply = perform(host, alloc, folder, request);
+    match keep(host, alloc, folder, request, value, &reply) {
+        Ok(()) => Ok(reply),
+        Err(_) => Err(ServeError::Unkept),
+    }
+}
+
+/// Does the request that a value is, keeps what it changed, and gives its reply.
 pub(crate) fn serve_value<F: Folder>(
     host: &mut Host,
     alloc: Global,
     folder: &mut F,
     value: &Value,
-) -> Result<Value, AllocError>
-    ensures served { IfOk result (λ reply. IsEventServed (EventsLead F.does host.old.host folder.old folder.new) (view value.now)
+) -> Result<Value, ServeError>
+    ensures served { IfOk result (λ reply. IsEventServed (KeptEventsLead F.does host.old.host folder.old folder.new) (view value.now)
         host.old.host host.new.host (view reply)) }
-    ensures cut { OnErr result (IsEventCut (EventsLead F.does host.old.host folder.old folder.new) (view value.now) host.old.host host.new.host) }
+    ensures cut { IfErr result (λ e. IsEventCut (CutEventsLead e F.does host.old.host folder.old folder.new) (view value.now) host.old.host host.new.host) }
 {
     let tag = tag_shown(value);
     match request_of(value) {
-        Ok(request) => perform(host, alloc, folder, request).value(alloc, tag),
-        Err(fault) => WireReply::Wrong(fault).value(alloc, tag),
+        Ok(request) => {
+            let reply = perform_kept(host, alloc, folder, request, value)?;
+            made(reply.value(alloc, tag))
+        }
+        Err(fault) => made(WireReply::Wrong(fault).value(alloc, tag)),
+    }
+}
+
+/// Adds a reply.
+fn pushed(replies: &mut Vec<Value>, reply: Value) -> Result<(), ServeError>
+    ensures added { OnOk result (replies.new.items ≡ replies.old.items ++ reply ∷ []) }
+    ensures lacked { IfErr result (λ e. e ≡ ServeError.OutOfMemory) }
+{
+    match replies.push(reply) {
+        Ok(()) => Ok(()),
+        Err(_) => Err(ServeError::OutOfMemory),
     }
 }
 
@@ -89,15 +136,16 @@ pub(crate) fn serve_values<F: Folder>(
     alloc: Global,
     folder: &mut F,
     values: &[Value],
-) -> Result<Vec<Value>, AllocError>
-    ensures served { IfOk result (λ replies. AreServed (EventsLead F.does host.old.host folder.old folder.new) (map view values.now)
+) -> Result<Vec<Value>, ServeError>
+    ensures served { IfOk result (λ replies. AreServed (KeptEventsLead F.does host.old.host folder.old folder.new) (map view values.now)
         host.old.host host.new.host (map view replies.items)) }
-    ensures cut { OnErr result (AreServedUpTo (EventsLead F.does host.old.host folder.old folder.new) (map view values.now) host.old.host host.new.host) }
+    ensures cut { IfErr result (λ e. AreServedUpTo (CutEventsLead e F.does host.old.host folder.old folder.new) (map view values.now)
+        host.old.host host.new.host) }
 {
     let mut replies = Vec::new(alloc);
     for value in values {
         let reply = serve_value(host, alloc, folder, value)?;
-        replies.push(reply)?;
+        pushed(&mut replies, reply)?;
     }
     Ok(replies)
 }

@@ -1,10 +1,10 @@
 //! Lines that are read, and replies that are written.
-ghost use Rattle.std.specs.Prelude.{◌≡◌, ◌<◌, ◌≤◌, ◌++◌, ◌∷◌, [], IfNone, IfOk, IfSome, OnErr, OnOk, length, take};
+ghost use Rattle.std.specs.Prelude.{◌≡◌, ◌<◌, ◌≤◌, ◌++◌, ◌∷◌, [], IfErr, IfNone, IfOk, IfSome, OnOk, length, take};
 ghost use Rattle.std.specs.Io.BufRead.{strip_last, take_through};
 ghost use Rattle.std.specs.Io.KnownBytes.{Appends};
-ghost use Rattle.cpm_serve.specs.Talk.{HasTalked, HasTalkedPartly, IsLineRead, IsReadOn, has_newline};
+ghost use Rattle.cpm_serve.specs.Talk.{HasTalked, HasTalkedPartly, IsLineRead, IsReadOn, has_newline, talk_error};
 
-use crate::folder::Folder;
+use crate::folder::{Folder, ServeError};
 use crate::server::{MOST_LINE, Server};
 use std::alloc::Global;
 use std::io;
@@ -26,6 +26,9 @@ pub enum TalkError {
     /// There is no memory for a reply.
     #[error("out of memory")]
     OutOfMemory,
+    /// What a line changed can't be kept.
+    #[error("the journal can't be written")]
+    Unkept,
 }
 
 /// A line without the newline that ends it.
@@ -104,8 +107,18 @@ fn write_reply<W: Write>(out: &mut W, reply: &str) -> io::Result<()>
     Ok(())
 }
 
-/// Serves the lines that it reads, each before it reads the next, and writes their replies, a line each, up to the end of the input. A line that is no
-/// request changes nothing. Of one that is too long no more is kept than tells that, and the rest is passed over.
+/// What becomes of a talk where a line is not served to its end.
+fn unserved(error: ServeError) -> TalkError
+    ensures { result ≡ talk_error error }
+{
+    match error {
+        ServeError::OutOfMemory => TalkError::OutOfMemory,
+        ServeError::Unkept => TalkError::Unkept,
+    }
+}
+
+/// Serves the lines that it reads, each before it reads the next, keeps what they change, and writes their replies, a line each, up to the end of the
+/// input. A line that is no request changes nothing. Of one that is too long no more is kept than tells that, and the rest is passed over.
 pub fn serve_lines<F: Folder, R: BufRead, W: Write>(
     server: &mut Server,
     alloc: Global,
@@ -115,7 +128,8 @@ pub fn serve_lines<F: Folder, R: BufRead, W: Write>(
 ) -> Result<(), TalkError>
     ensures talked { OnOk result (HasTalked F.does (R.remaining input.old) server.old.host.host server.new.host.host folder.old folder.new
         (W.contents out.old) (W.contents out.new)) }
-    ensures partly { OnErr result (HasTalkedPartly F.does (R.remaining input.old) server.old.host.host server.new.host.host folder.old folder.new) }
+    ensures partly { IfErr result (λ e. HasTalkedPartly F.does e (R.remaining input.old) server.old.host.host server.new.host.host folder.old folder.new
+        (W.contents out.old) (W.contents out.new)) }
 {
     for _line in 0..u64::MAX {
         let line = match next_line(alloc, input) {
@@ -123,8 +137,9 @@ pub fn serve_lines<F: Folder, R: BufRead, W: Write>(
             Ok(None) => return Ok(()),
             Err(error) => return Err(TalkError::Unreadable(error)),
         };
-        let Ok(reply) = server.serve(alloc, folder, without_newline(&line)) else {
-            return Err(TalkError::OutOfMemory);
+        let reply = match server.serve(alloc, folder, without_newline(&line)) {
+            Ok(reply) => reply,
+            Err(error) => return Err(unserved(error)),
         };
         if let Err(error) = write_reply(out, reply.as_str()) {
             return Err(TalkError::Unwritable(error));

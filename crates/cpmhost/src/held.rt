@@ -324,7 +324,7 @@ fn locked(rt: &impl LockableFiles, name: &str) -> io::Result<Option<(Mark, File)
 }
 
 /// Whether another command has the lock of a file; else this one has it from now on, where the system can lock it. A signal that comes meanwhile is no answer.
-fn is_locked_elsewhere(file: &File) -> bool {
+pub fn is_locked_elsewhere(file: &File) -> bool {
     for _attempt in 0..MOST_LOCK_PAUSES {
         match file.try_lock() {
             Err(TryLockError::WouldBlock) => return true,

@@ -10,6 +10,8 @@ mod bounds;
 mod files;
 mod folder;
 mod held;
+mod journal;
+mod journal_folder;
 mod kept;
 mod marks;
 mod output;

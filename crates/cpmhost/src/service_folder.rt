@@ -8,7 +8,9 @@ use crate::output::Outputs;
 use cpm_commands::{CommandFiles, FilePlan, FileRole, OutputNaming};
 use cpm_host::{HostError, RunError, Store, StoreError, shown};
 use cpm_serve::{Folder, FolderError};
+use cpm_slots::{Host, SlotId};
 use cpm_store::Output;
+use serde_json::Value;
 use std::alloc::{AllocError, Global};
 use std::fs;
 use std::io::ErrorKind;
@@ -194,5 +196,26 @@ impl<R: LockableFiles> Folder for ServiceFolder<'_, R> {
 
     fn write(&mut self, files: &[Output<'_>]) -> Result<(), FolderError> {
         self.write_all(files)
+    }
+
+    fn release(&mut self) {
+        self.held = None;
+    }
+
+    fn keep(&mut self, _alloc: Global, _request: &Value) -> Result<(), FolderError> {
+        Ok(())
+    }
+
+    fn keep_closed(&mut self, _alloc: Global, _slot: u64) -> Result<(), FolderError> {
+        Ok(())
+    }
+
+    fn keep_opened(
+        &mut self,
+        _alloc: Global,
+        _host: &mut Host,
+        _slot: SlotId,
+    ) -> Result<(), FolderError> {
+        Ok(())
     }
 }

@@ -5,6 +5,7 @@ ghost use Rattle.cpm_command_line.specs.Line.{HasUsers};
 
 use crate::files::MachineFiles;
 use crate::held::LockableFiles;
+use crate::journal_folder::JournalFolder;
 use crate::kept::{CheckpointFile, load_if_any};
 use crate::output::Outputs;
 use crate::paced::PacedTypist;
@@ -13,7 +14,6 @@ use crate::progress::{Form, Teller};
 use crate::record::Record;
 use crate::refused::{CommandRefusal, RefusalDetail};
 use crate::screen::{Lines, Screen};
-use crate::service_folder::ServiceFolder;
 use crate::terminal::{TerminalTypist, TypingOutput};
 use crate::typing::Terminals;
 use crate::wanted::{
@@ -196,7 +196,7 @@ fn do_over<'a, R: LockableFiles + StandardInput, P: Typist>(
         return Err(HostError::OutOfMemory);
     };
     let folders = folders_of(rt.alloc(), task)?;
-    let mut folder = ServiceFolder::new(rt, outputs, &folders);
+    let mut folder = JournalFolder::new(rt, outputs, &folders);
     let done = cpm_commands::do_task(
         rt.alloc(),
         task,

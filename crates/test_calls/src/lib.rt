@@ -10,6 +10,8 @@ mod disks;
 #[cfg(test)]
 mod entries;
 #[cfg(test)]
+mod journal;
+#[cfg(test)]
 mod machines;
 #[cfg(test)]
 mod protocol;

@@ -5,8 +5,9 @@ ghost use Rattle.std.specs.Prelude.{⊤};
 use crate::same::same;
 use cpm_geom::{Format, Image};
 use cpm_serve::{Folder, FolderError, Server};
-use cpm_slots::Host;
+use cpm_slots::{Host, SlotId};
 use cpm_store::{MemoryStore, Output, Store};
+use serde_json::Value;
 use std::alloc::Global;
 use std::process::Abort;
 
@@ -71,6 +72,25 @@ impl Folder for MemoryFolder {
                 return Err(FolderError::Fault);
             }
         }
+        Ok(())
+    }
+
+    fn release(&mut self) {}
+
+    fn keep(&mut self, _alloc: Global, _request: &Value) -> Result<(), FolderError> {
+        Ok(())
+    }
+
+    fn keep_closed(&mut self, _alloc: Global, _slot: u64) -> Result<(), FolderError> {
+        Ok(())
+    }
+
+    fn keep_opened(
+        &mut self,
+        _alloc: Global,
+        _host: &mut Host,
+        _slot: SlotId,
+    ) -> Result<(), FolderError> {
         Ok(())
     }
 }

@@ -74,7 +74,10 @@ fn add_serve(alloc: Global, out: &mut String, task: &ServeTask<'_>) -> Result<()
     out.push_str("serve")?;
     add_text(alloc, out, " system", task.system)?;
     add_count(alloc, out, " frames", task.frames)?;
-    add_text(alloc, out, " folder", task.folder)
+    add_text(alloc, out, " folder", task.folder)?;
+    add_text(alloc, out, " journal", task.journal)?;
+    add_text(alloc, out, " resume", task.resume)?;
+    add_flag(out, " is_compact", task.is_compact)
 }
 
 /// Adds a page of the help.

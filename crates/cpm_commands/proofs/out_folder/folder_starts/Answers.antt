@@ -1,4 +1,4 @@
-use Rattle.std.proofs.Common.{◌≡◌, ◌∙◌, ◌+◌, [], ap, map, slice_get}
+use Rattle.std.proofs.Common.{◌∙◌, ◌+◌, [], ap, slice_get}
 use Rattle.cpm_commands.proofs.OutFolderLemmas.{started_more}
 use Rattle.cpm_commands.proofs.out_folder.folder_starts.Goals as goal
 

@@ -1,5 +1,3 @@
-use Rattle.std.proofs.Common.{◌≡◌, ◌∙◌}
-use Rattle.std.specs.Prelude.{Ok, Err}
 use Rattle.cpm_protocol.specs.Requests.{drive_names_of}
 use Rattle.cpm_serve.specs.Owned.{owned_answer}
 use Rattle.cpm_serve.proofs.OutputLemmas.{close-absent, close-by, close-refused, cpu-absent}

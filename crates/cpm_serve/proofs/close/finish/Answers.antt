@@ -1,4 +1,3 @@
-use Rattle.std.proofs.Common.{◌≡◌, ◌∙◌}
 use Rattle.cpm_slots.specs.Host.{slot_at}
 use Rattle.cpm_serve.proofs.ServedLemmas.{closed-unknown, if-open}
 use Rattle.cpm_serve.proofs.close.finish.Goals as goal

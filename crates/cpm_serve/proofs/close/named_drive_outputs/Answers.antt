@@ -1,4 +1,4 @@
-use Rattle.std.proofs.Common.{[], Some, inl, refl}
+use Rattle.std.proofs.Common.{[], Some}
 use Rattle.cpm_protocol.specs.Requests.{drive_names_of}
 use Rattle.cpm_slots.specs.Host.{slot_at}
 use Rattle.cpm_serve.specs.Reading.{outputs_had}

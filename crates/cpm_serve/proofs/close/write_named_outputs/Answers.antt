@@ -1,4 +1,4 @@
-use Rattle.std.proofs.Common.{◌≡◌, ap, map, refl}
+use Rattle.std.proofs.Common.{ap, map, refl}
 use Rattle.std.specs.Prelude.{⊤, Result, Ok, Err}
 use Rattle.cpm_protocol.specs.Requests.{drive_names_of}
 use Rattle.cpm_slots.specs.Host.{slot_at}

@@ -19,15 +19,16 @@ returns-in_default-bytes_of g c = λ h.
 
 pub returns-in-Err : goal.returns-in-Err
 returns-in-Err g c = λ h.
-    put-unread g.F.Folder.does h c.args.drive.now c.args.name.now (chars c.args.text.now) c.in-Some.file.name c.in-Err.refusal (owned_answer c.refused-in-Err.result) c.args.folder.now c.held_image.new.folder
-    (sym c.in-Some.ensures.name) c.in-Err.ensures c.refused-in-Err.ensures
+    put-unread g.F.Folder.does h c.args.drive.now c.args.name.now (chars c.args.text.now) c.in-Some.file.name c.in-Err.refusal (owned_answer c.let_go.result) c.args.folder.now c.held_image.new.folder
+    c.let_go.new.folder (sym c.in-Some.ensures.name) c.in-Err.ensures c.let_go.ensures.did c.let_go.ensures.reply
 
 pub returns : goal.returns
 returns g c = λ h.
-    subst (λ (t : List ℕ). IsRequestServedWith (AccessesLead g.F.Folder.does c.args.folder.now c.held_image.new.folder) (Put c.args.drive.now c.args.name.now t) h h (owned_answer c.refused-in-Err-with_file.result))
+    subst (λ (t : List ℕ). IsRequestServedWith (AccessesLead g.F.Folder.does c.args.folder.now c.let_go-in-Err-with_file.new.folder) (Put c.args.drive.now c.args.name.now t) h h (owned_answer c.let_go-in-Err-with_file.result))
     (c.in-Ok.ensures.all c.requires)
-    (put-refused g.F.Folder.does h c.args.drive.now c.args.name.now c.in-Ok.text.items c.in-Some.file.name c.in-Ok-held_image.image c.in-Err-with_file.refusal (owned_answer c.refused-in-Err-with_file.result)
-    c.args.folder.now c.held_image.new.folder (sym c.in-Some.ensures.name) c.in-Ok-held_image.ensures (rw c.deref.ensures.value at c.in-Err-with_file.ensures) c.refused-in-Err-with_file.ensures)
+    (put-refused g.F.Folder.does h c.args.drive.now c.args.name.now c.in-Ok.text.items c.in-Some.file.name c.in-Ok-held_image.image c.in-Err-with_file.refusal (owned_answer c.let_go-in-Err-with_file.result)
+    c.args.folder.now c.held_image.new.folder c.let_go-in-Err-with_file.new.folder (sym c.in-Some.ensures.name) c.in-Ok-held_image.ensures (rw c.deref.ensures.value at c.in-Err-with_file.ensures)
+    c.let_go-in-Err-with_file.ensures.did c.let_go-in-Err-with_file.ensures.reply)
 
 pub returns-in-Ok-with_file : goal.returns-in-Ok-with_file
 returns-in-Ok-with_file g c = λ h.
