@@ -33,7 +33,6 @@ def program(variable, usual):
 
 CPMHOST = program("CPMHOST", "release/cpmhost")
 TEST_ROWS = program("TEST_ROWS", "release/test_rows")
-BENCH_MACHINES = program("BENCH_MACHINES", "crates/bench_machines/out/bench_machines")
 
 # ---- what is wrong
 

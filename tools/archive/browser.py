@@ -18,17 +18,13 @@ def command():
     return next((it for it in map(shutil.which, COMMANDS) if it), None)
 
 
-class Page:
-    """A page that is open, at a width and in a scheme of colours; used by `with`."""
-
-    def __init__(self, file, width, height, scheme):
-        self.address = f"file://{os.path.realpath(file)}"
-        self.width, self.height, self.scheme = width, height, scheme
-        self.number = 0
-        # what the browser says unasked: errors, and what it loads
-        self.events = []
+class Browser:
+    """A browser that runs; used by `with`."""
 
     def __enter__(self):
+        self.number = 0
+        # of each tab: what the browser says of it unasked
+        self.events = {}
         self.room = tempfile.TemporaryDirectory(prefix="archive-browser-", ignore_cleanup_errors=True)
         told, self.tell = os.pipe()
         self.answers, answered = os.pipe()
@@ -45,7 +41,6 @@ class Page:
         os.close(told)
         os.close(answered)
         self.incoming = os.fdopen(self.answers, "rb")
-        self.open()
         return self
 
     def __exit__(self, *_):
@@ -54,18 +49,6 @@ class Page:
         self.incoming.close()
         os.close(self.tell)
         self.room.cleanup()
-
-    def open(self):
-        self.session = None
-        target = self.ask("Target.createTarget", url="about:blank")["targetId"]
-        self.session = self.ask("Target.attachToTarget", targetId=target, flatten=True)["sessionId"]
-        for domain in ("Page", "Runtime", "Log", "Network"):
-            self.ask(f"{domain}.enable")
-        self.ask("Emulation.setDeviceMetricsOverride", width=self.width, height=self.height, deviceScaleFactor=1, mobile=self.width < 600)
-        self.ask("Emulation.setEmulatedMedia", features=[{"name": "prefers-color-scheme", "value": self.scheme}])
-        self.ask("Page.navigate", url=self.address)
-        while not any(it["method"] == "Page.loadEventFired" for it in self.events):
-            self.hear()
 
     def hear(self):
         """The next message of the browser; an event is kept."""
@@ -77,14 +60,14 @@ class Page:
             data += byte
         message = json.loads(data[:-1])
         if "method" in message:
-            self.events.append(message)
+            self.events.setdefault(message.get("sessionId"), []).append(message)
         return message
 
-    def ask(self, method, **parameters):
+    def ask(self, session, method, **parameters):
         self.number += 1
         asked = {"id": self.number, "method": method, "params": parameters}
-        if self.session:
-            asked["sessionId"] = self.session
+        if session:
+            asked["sessionId"] = session
         os.write(self.tell, json.dumps(asked).encode() + b"\0")
         while True:
             message = self.hear()
@@ -92,6 +75,35 @@ class Page:
                 if "error" in message:
                     raise OSError(f"the browser refused {method}: {message['error']['message']}")
                 return message["result"]
+
+
+class Tab:
+    """A page that is open in a browser, each in a window of its own, at a width and in a scheme of colours."""
+
+    def __init__(self, browser, address, width, height, scheme="light", scale=1):
+        self.browser, self.address = browser, address
+        target = browser.ask(None, "Target.createTarget", url="about:blank", newWindow=True)["targetId"]
+        self.session = browser.ask(None, "Target.attachToTarget", targetId=target, flatten=True)["sessionId"]
+        # what the browser says unasked: errors, and what it loads
+        self.events = browser.events.setdefault(self.session, [])
+        for domain in ("Page", "Runtime", "Log", "Network"):
+            self.ask(f"{domain}.enable")
+        self.resize(width, height, scale)
+        self.ask("Emulation.setEmulatedMedia", features=[{"name": "prefers-color-scheme", "value": scheme}])
+        self.load("Page.navigate", url=address)
+
+    def ask(self, method, **parameters):
+        return self.browser.ask(self.session, method, **parameters)
+
+    def resize(self, width, height, scale=1):
+        self.ask("Emulation.setDeviceMetricsOverride", width=width, height=height, deviceScaleFactor=scale, mobile=width < 600)
+
+    def load(self, method, **parameters):
+        """Loads the page, and waits until it is there."""
+        begin = len(self.events)
+        self.ask(method, **parameters)
+        while not any(it["method"] == "Page.loadEventFired" for it in self.events[begin:]):
+            self.browser.hear()
 
     def value(self, expression):
         """What an expression of JavaScript gives in the page."""
@@ -118,3 +130,18 @@ class Page:
         data = self.ask("Page.captureScreenshot", format="png")["data"]
         with open(file, "wb") as out:
             out.write(base64.b64decode(data))
+
+
+class Page(Tab):
+    """A file that is open in a browser of its own; used by `with`."""
+
+    def __init__(self, file, width, height, scheme):
+        self.opened = f"file://{os.path.realpath(file)}", width, height, scheme
+        self.own = Browser()
+
+    def __enter__(self):
+        super().__init__(self.own.__enter__(), *self.opened)
+        return self
+
+    def __exit__(self, *ended):
+        self.own.__exit__(*ended)

@@ -1,6 +1,5 @@
 """The plot of an archive's page: how many sessions took how many steps, as a histogram in SVG."""
 
-import collections
 import math
 
 # parts of a decade that each have a bar
@@ -28,13 +27,9 @@ def swatch(end):
     return f'<svg class="swatch" width="16" height="16" aria-hidden="true"><defs>{pattern(end, "legend")}</defs><rect width="16" height="16" fill="url(#{end}-legend)"/></svg>'
 
 
-def counted(rows):
-    """For each bar, by the number of its part, how many sessions of each end it has; a count of 0 stands with 1."""
-    bars = collections.defaultdict(collections.Counter)
-    for row in rows:
-        if row.count is not None:
-            bars[math.floor(PARTS * math.log10(max(row.count, 1)) + 1e-9)][row.end] += 1
-    return bars
+def bar_of(count):
+    """The number of the bar that a count of steps belongs to; 0 stands with 1."""
+    return math.floor(PARTS * math.log10(max(count, 1)) + 1e-9)
 
 
 def tick_step(most):
@@ -94,9 +89,8 @@ def columns(scale, bars, suffix):
         yield f"<g><title>{told}</title>{''.join(rects)}</g>"
 
 
-def histogram(rows, width, height, suffix):
-    """The SVG of a histogram of this size; `suffix` tells its patterns from another's. Without a session it is empty."""
-    bars = counted(rows)
+def histogram(bars, width, height, suffix):
+    """The SVG of a histogram of this size, of how many sessions of each end a bar has; `suffix` tells its patterns from another's. Without a bar it is empty."""
     if not bars:
         return ""
     scale = Scale(bars, width, height)

@@ -10,16 +10,11 @@
 //! what Linux says of its own memory then. Or it forks such a session and closes the fork, `forks IMAGE TIMES`. Or it saves a session that has a small
 //! drive, or four large ones, and says how many bytes that has, `saves small TIMES`, `saves large TIMES`; or opens a slot of its saving, and closes it,
 //! `restores small TIMES`, `restores large TIMES`.
-//!
-//! Or it runs sessions of programs that nobody vouches for, `soak FOLDER NUMBER STEPS`, each by itself, or with a further word QUANTUM all on
-//! one host, and prints a line of what each showed and left.
 #![tactic(auto)]
 
-mod digest;
 mod forks;
 mod savings;
 mod sessions;
-mod soak;
 
 use cpm_flags::Cpu;
 use cpm_geom::{Format, Image};
@@ -31,7 +26,6 @@ use sessions::{
     HostTurns, host_of_drives, look_often, make_openings, open_and_close, run_beside, run_host,
     run_machine,
 };
-use soak::soak;
 use std::alloc::Global;
 use std::process::ExitCode;
 use std::{env, fs};
@@ -146,24 +140,6 @@ fn drive_of(rt: &HostRuntime, file: &str) -> Option<Image> {
     Image::from_bytes(fs::read(rt, file).ok()?).ok()
 }
 
-/// The steps of a turn, where they are told.
-fn quantum_of(words: &[&str]) -> Option<Option<u64>> {
-    match words {
-        [] => Some(None),
-        [quantum] => Some(Some(quantum.parse().ok()?)),
-        _ => None,
-    }
-}
-
-/// Runs the sessions of a folder, where the words ask for it.
-fn run_soak(rt: &HostRuntime, words: &[&str]) -> Option<()> {
-    let [folder, number, steps, rest @ ..] = words else {
-        return None;
-    };
-    let (number, steps) = (number.parse().ok()?, steps.parse().ok()?);
-    soak(rt, folder, number, steps, quantum_of(rest)?)
-}
-
 /// The drive in a file, where one is named, or a blank one.
 fn drive_or_blank(rt: &HostRuntime, words: &[&str]) -> Option<Image> {
     match words {
@@ -275,18 +251,10 @@ fn make_or_hold(rt: &HostRuntime, what: &str, rest: &[&str]) -> Option<u64> {
     }
 }
 
-/// Prints that number.
-fn print_measure(rt: &HostRuntime, words: &[&str]) -> Option<()> {
+/// Does what the words after the program's own name ask for, and prints that number.
+fn do_words(rt: &HostRuntime, words: &[&str]) -> Option<()> {
     let done = measure(rt, words)?;
     println!(rt; "{done}").ok()
-}
-
-/// Does what the words after the program's own name ask for.
-fn do_words(rt: &HostRuntime, words: &[&str]) -> Option<()> {
-    match words {
-        ["soak", rest @ ..] => run_soak(rt, rest),
-        words => print_measure(rt, words),
-    }
 }
 
 /// Does what the command line asks for.

@@ -1,6 +1,6 @@
 -- Savings that sessions go on from. All of it is own.
 use Rattle.std.specs.Prelude.{⊤, ◌≡◌, ◌≢◌, ℕ, List, length, count_by, is_some, chars, Option, Some, Err, IfSome, option_map, slice_index_or, string_bytes}
-use Rattle.cpm_command_line.specs.Shown.{shown_of}
+use Rattle.cpm_shown.specs.Shown.{shown_of}
 use Rattle.cpm_config.specs.declared.config.SessionConfig.{SessionConfig}
 use Rattle.cpm_drives.specs.Disks.{images_of}
 use Rattle.cpm_machine.specs.MachineState.{MachineState}

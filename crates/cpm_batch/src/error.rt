@@ -4,9 +4,9 @@ ghost use Rattle.cpm_batch.specs.Inputs.{code_of_reading};
 ghost use Rattle.cpm_batch.specs.declared.error.ReadError.TheVariants.{OutOfMemory};
 
 use crate::saved::SavingRefusal;
-use cpm_command_line::ShownWord;
 use cpm_refusals::RefusalCode;
 use cpm_script::LineFault;
+use cpm_shown::ShownWord;
 use std::alloc::{AllocError, AllocFailed};
 use thiserror::Error;
 

@@ -17,9 +17,9 @@ use crate::input::{Input, Start, read_bytes};
 use crate::recording::read_replay;
 use crate::restored::check_names;
 use crate::source::{KeySource, Replay, key_source, replay_of};
-use cpm_command_line::shown;
 use cpm_config::SessionConfig;
 use cpm_script::{Cue, ScriptError, read_forked_cues};
+use cpm_shown::shown;
 use cpm_store::Store;
 use std::alloc::Global;
 

@@ -18,11 +18,11 @@ use crate::recording::read_replay;
 use crate::restored::read_restored;
 use crate::saved::SavedMachine;
 use crate::source::{KeySource, Replay, key_source};
-use cpm_command_line::shown;
 use cpm_config::{Config, Origin, SessionConfig};
 use cpm_flags::Cpu;
 use cpm_geom::Image;
 use cpm_script::{Cue, ScriptError, read_cues};
+use cpm_shown::shown;
 use cpm_store::{Store, StoreError};
 use std::alloc::Global;
 

@@ -13,9 +13,9 @@ ghost use Rattle.cpm_batch.specs.Sources.{IsRecordingFault, IsRecordingOf, are_l
 
 use crate::error::ReadError;
 use crate::input::read_bytes;
-use cpm_command_line::shown;
 use cpm_script::laws::recordings_in_order;
 use cpm_script::{Cue, Key, LineFault, ScriptError, count_of, first_line, read_recording};
+use cpm_shown::shown;
 use cpm_store::Store;
 use std::alloc::{AllocError, Global};
 

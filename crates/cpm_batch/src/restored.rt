@@ -10,8 +10,8 @@ use crate::error::ReadError;
 use crate::input::{Input, Start, read_bytes, read_cues_of};
 use crate::saved::{SavedMachine, restored_machine};
 use crate::source::Replay;
-use cpm_command_line::shown;
 use cpm_config::SessionConfig;
+use cpm_shown::shown;
 use cpm_store::Store;
 use std::alloc::Global;
 

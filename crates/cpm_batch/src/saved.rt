@@ -4,10 +4,10 @@ ghost use Rattle.cpm_machine.specs.Saving.{IsUnrestored, bytes_of_saving, restor
 ghost use Rattle.cpm_batch.specs.Savings.{IsUnreadSaving, drive_count, saving_view, version_in};
 
 use crate::error::ReadError;
-use cpm_command_line::{ShownWord, shown};
 use cpm_geom::Image;
 use cpm_machine::saving::VERSION;
 use cpm_machine::{Machine, RestoreError, SavingDamage, SavingPart, SystemDigest};
+use cpm_shown::{ShownWord, shown};
 use std::alloc::{AllocError, Global};
 use std::fmt;
 

@@ -3,7 +3,7 @@ use Rattle.std.specs.Prelude.{◌≡◌, ℕ, List, [], ◌∷◌, ◌++◌, len
 use Rattle.cpm_batch.specs.Held.{IsImage}
 use Rattle.cpm_batch.specs.Inputs.{code_of_reading}
 use Rattle.cpm_batch.specs.declared.error.ReadError.TheVariants as read
-use Rattle.cpm_command_line.specs.Shown.{shown_of}
+use Rattle.cpm_shown.specs.Shown.{shown_of}
 use Rattle.cpm_directory.specs.Directory.{entries_of}
 use Rattle.cpm_directory.specs.WellFormed.{IsChecked}
 use Rattle.cpm_disk_commands.specs.Damage.{damage_of}

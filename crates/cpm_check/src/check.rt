@@ -5,10 +5,10 @@ ghost use Rattle.cpm_check.specs.Check.{IsCheckRefusal, IsSoundImage, ok_line};
 
 use crate::error::CheckError;
 use cpm_batch::ReadError;
-use cpm_command_line::shown;
 use cpm_directory::well_formed;
 use cpm_disk_commands::damage_of;
 use cpm_geom::Image;
+use cpm_shown::shown;
 use std::io;
 use std::io::Write;
 

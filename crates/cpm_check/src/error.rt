@@ -3,9 +3,9 @@ ghost use Rattle.std.specs.Prelude.{◌≡◌};
 ghost use Rattle.cpm_check.specs.Check.{code_of_check};
 
 use cpm_batch::ReadError;
-use cpm_command_line::ShownWord;
 use cpm_disk_commands::Damage;
 use cpm_refusals::RefusalCode;
+use cpm_shown::ShownWord;
 use std::{fmt, io};
 use thiserror::Error;
 

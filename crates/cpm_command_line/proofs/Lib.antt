@@ -9,5 +9,4 @@ pub mod LineLemmas
 pub mod NamedLemmas
 pub mod RefusalLemmas
 pub mod RestLemmas
-pub mod ShownLemmas
 pub mod UserLemmas

@@ -3,7 +3,7 @@ use Rattle.std.specs.Prelude.{◌≡◌, ◌&&◌, ◌||◌, ◌++◌, if◌then
 use Rattle.std.specs.Prelude.{Result, MatchResult, codes, unwrap_or}
 use Rattle.std.specs.Str.{bytes_eq}
 use Rattle.clap.specs.Words.{Text}
-use Rattle.cpm_command_line.specs.Shown.{shown_of}
+use Rattle.cpm_shown.specs.Shown.{shown_of}
 use Rattle.cpm_command_line.specs.declared.fault.UsageFault.{UsageFault}
 use Rattle.cpm_command_line.specs.declared.fault.UsageFault.TheVariants as fault
 use Rattle.cpm_command_line.specs.declared.fault.UsageRefusal.{UsageRefusal}

@@ -5,4 +5,3 @@ pub mod HelpWords
 pub mod Line
 pub mod Options
 pub mod Refusals
-pub mod Shown

@@ -14,7 +14,7 @@ mod serve_page;
 mod task;
 mod usage;
 
-pub use fault::{ShownWord, UsageError, UsageFault, UsageRefusal, shown, shown_line};
+pub use fault::{UsageError, UsageFault, UsageRefusal};
 pub use pages::{page_line, page_text};
 pub use read::command;
 pub use task::{DebugTask, DiskTask, PlayTask, RunTask, ServeTask, Task};

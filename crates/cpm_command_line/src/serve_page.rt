@@ -25,8 +25,8 @@ Options:
   --resume FILE
               make the host again of the journal in FILE, with its system drive
               and as many frames, and go on with that journal
-  --compact   put a shorter journal in the place of that one first, which makes
-              the same host
+  --compact   put a journal of savings in the place of that one first, some 515
+              KB for each session, which makes the same host without its steps
   -h, --help  print this page
 
 Examples:

@@ -172,7 +172,7 @@ pub struct ServeTask<'a> {
     pub journal: Option<&'a str>,
     /// The file of a journal that is done again and gone on with, in place of a new one.
     pub resume: Option<&'a str>,
-    /// That journal is made as short as can be first. Only with `resume`.
+    /// A journal of savings is put in the place of that one first. Only with `resume`.
     pub is_compact: bool,
 }
 

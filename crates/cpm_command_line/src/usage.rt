@@ -5,7 +5,8 @@ ghost use Rattle.cpm_command_line.specs.HelpWords.{ended_by, is_help_flag, is_he
 ghost use Rattle.cpm_command_line.specs.HelpWords.{page_in, page_of_disk_words, page_of_line, topic_pages, unless_flag};
 ghost use Rattle.cpm_command_line.specs.HelpWords.{unknown_name};
 
-use crate::fault::{UsageFault, UsageRefusal, shown};
+use crate::fault::{UsageFault, UsageRefusal};
+use cpm_shown::shown;
 
 /// What `cpmhost --version` prints.
 pub const VERSION: &str = "cpmhost 0.6.0\n";

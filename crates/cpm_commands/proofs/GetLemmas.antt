@@ -1,7 +1,7 @@
 -- Files that are taken out of a disk, one after the other.
 use Rattle.std.proofs.Common.{◌≡◌, ◌∙◌, inl, inr, ℕ, Bool, List, [], ◌∷◌, ◌++◌, String, Global, append_assoc, append-nil, ap, arith, length, refl, string_bytes, subst, sym}
 use Rattle.std.specs.Prelude.{Vec}
-use Rattle.cpm_command_line.specs.Shown.{shown_of}
+use Rattle.cpm_shown.specs.Shown.{shown_of}
 use Rattle.cpm_geom.specs.Disk.{Disk}
 use Rattle.cpm_image_files.specs.declared.name.FileName.{FileName}
 use Rattle.cpm_host.specs.declared.error.HostError.{HostError}

@@ -4,7 +4,7 @@ use Rattle.std.specs.Prelude.{Option, Some, None}
 use Rattle.std.specs.Io.KnownBytes.{Appends}
 use Rattle.std.specs.List.{after_first, before_first, concat, list_any, position_or_len}
 use Rattle.std.specs.Str.{bytes_eq}
-use Rattle.cpm_command_line.specs.Shown.{shown_of}
+use Rattle.cpm_shown.specs.Shown.{shown_of}
 use Rattle.cpm_geom.specs.Disk.{Disk, blank_disk}
 use Rattle.cpm_image_files.specs.ImageFiles.{IsPut}
 use Rattle.cpm_image_files.specs.Listing.{IsListed}

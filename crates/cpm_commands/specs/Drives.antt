@@ -1,7 +1,7 @@
 -- Where the drives of a machine come from: the images in files, and the files in folders. All of it is own.
 use Rattle.std.specs.Prelude.{⊤, ◌≡◌, ◌⊎◌, ℕ, Bool, true, false, List, [], ◌∷◌, ◌++◌, chars, codes, flat_map, map, string_bytes, Contains}
 use Rattle.std.specs.Path.{path_join}
-use Rattle.cpm_command_line.specs.Shown.{shown_of}
+use Rattle.cpm_shown.specs.Shown.{shown_of}
 use Rattle.cpm_disk_commands.specs.Folder.{host_file, kept_names, left_out_names, IsDiskOfFiles, IsDiskOfFilesRefusal}
 use Rattle.cpm_disk_commands.specs.Refusals.{file_named}
 use Rattle.cpm_disk_commands.specs.declared.damage.NamedFile.{NamedFile}

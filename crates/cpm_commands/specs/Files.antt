@@ -1,7 +1,7 @@
 -- How a command's files are written, and refused. All of it is own.
 use Rattle.std.specs.Prelude.{⊤, ◌≡◌, ◌⊎◌, ℕ, List, chars, slice_get, Option, Some, None}
 use Rattle.cpm_batch.specs.declared.error.ReadError.TheVariants.{File}
-use Rattle.cpm_command_line.specs.Shown.{shown_of}
+use Rattle.cpm_shown.specs.Shown.{shown_of}
 use Rattle.cpm_host.specs.declared.error.HostError.{HostError}
 use Rattle.cpm_host.specs.declared.error.HostError.TheVariants.{OutOfMemory, RunRefused}
 use Rattle.cpm_run.specs.declared.error.RunError.TheVariants.{FileRefused, WriteFault}

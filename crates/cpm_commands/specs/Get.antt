@@ -4,7 +4,7 @@ use Rattle.std.specs.Prelude.{Option, Some, None, String, Vec, zip}
 use Rattle.std.specs.Io.KnownBytes.{Appends}
 use Rattle.std.specs.Path.{path_join}
 use Rattle.std.specs.declared.alloc.Global.{Global}
-use Rattle.cpm_command_line.specs.Shown.{shown_of}
+use Rattle.cpm_shown.specs.Shown.{shown_of}
 use Rattle.cpm_geom.specs.Disk.{Disk}
 use Rattle.cpm_image_files.specs.Taken.{IsGetRefusal}
 use Rattle.cpm_image_files.specs.declared.name.FileName.{FileName}

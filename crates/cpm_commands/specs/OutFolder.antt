@@ -2,7 +2,7 @@
 use Rattle.std.specs.Prelude.{◌≡◌, ◌⊎◌, ℕ, ◌==◌, if◌then◌else◌, List, [], ◌∷◌, ◌++◌, Option, Some, None, chars, codes, decimal, drop}
 use Rattle.std.specs.Prelude.{flat_map, length, map, option_map, slice_get, string_bytes}
 use Rattle.std.specs.Path.{path_join}
-use Rattle.cpm_command_line.specs.Shown.{shown_of}
+use Rattle.cpm_shown.specs.Shown.{shown_of}
 use Rattle.cpm_disk_commands.specs.Changed.{IsCompareRefusal, IsDiskCompared, name_in_folder}
 use Rattle.cpm_disk_commands.specs.HostNames.{host_text}
 use Rattle.cpm_disk_commands.specs.declared.changed.ComparedFile.{ComparedFile}

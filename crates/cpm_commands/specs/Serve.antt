@@ -1,8 +1,10 @@
 -- What the command `serve` does. All of it is own.
 use Rattle.std.specs.Prelude.{◌≡◌, ◌⊎◌, ℕ, nat_lt, if◌then◌else◌, Option, Some, None, option_map}
+use Rattle.std.specs.Option.{option_or}
 use Rattle.cpm_command_line.specs.declared.task.ServeTask.{ServeTask}
 use Rattle.cpm_geom.specs.Disk.{Disk}
 use Rattle.cpm_host.specs.Program.{disk_or_blank}
+use Rattle.cpm_host.specs.Refusals.{IsOutRefusal}
 use Rattle.cpm_host.specs.declared.error.HostError.{HostError}
 use Rattle.cpm_host.specs.declared.error.HostError.TheVariants.{InputUnreadable, JournalUnwritable, OutputUnwritable, OutOfMemory}
 use Rattle.cpm_serve.specs.declared.talk.TalkError.{TalkError}
@@ -37,12 +39,21 @@ IsHostUnbegun {F} does task old new e =
 abbrev pub HasTalkedFrom : {D : Type 0} → (begins : (resumed : Host) → Option HostError → D → Type 0) → (talked : D → Host → Type 0) → Type 0
 HasTalkedFrom {D} begins talked = (from : D) × (resumed : Host) × begins resumed None from × talked from resumed
 
--- what a talk comes to that ended early
-abbrev pub host_error_of_talk : TalkError → HostError
-host_error_of_talk (talk.Unreadable reason) = InputUnreadable reason
-host_error_of_talk (talk.Unwritable reason) = OutputUnwritable reason
-host_error_of_talk talk.OutOfMemory = OutOfMemory
-host_error_of_talk talk.Unkept = JournalUnwritable
+-- the file of the journal that a task asks for, a new one or one that is gone on with, if it does
+abbrev pub journal_named : ServeTask → Option StoreName
+journal_named task = option_map (λ n. n.now) (option_or task.journal task.resume)
+
+-- what it comes to that a journal can't be written: the file is named, with the machine's reason
+abbrev pub IsUnkeptRefusal : Option StoreName → HostError → Type 0
+IsUnkeptRefusal None e = e ≡ JournalUnwritable
+IsUnkeptRefusal (Some name) e = IsOutRefusal name e
+
+-- what a talk comes to that ended early; `unkept` is what it comes to that the journal can't be written
+abbrev pub host_error_of_talk : (unkept : HostError) → TalkError → HostError
+host_error_of_talk unkept (talk.Unreadable reason) = InputUnreadable reason
+host_error_of_talk unkept (talk.Unwritable reason) = OutputUnwritable reason
+host_error_of_talk unkept talk.OutOfMemory = OutOfMemory
+host_error_of_talk unkept talk.Unkept = unkept
 
 -- the host was made, and all lines were served, so
 pub record HasServed {F : Type 0} (does : F → StoreAccess → F → Type 0) (talked : Host → Host → Type 0) (task : ServeTask) (old new : F) : Type 0 where
@@ -56,5 +67,5 @@ pub data IsServiceEnded {F : Type 0} (does : F → StoreAccess → F → Type 0)
     (unbegun : Host → HostError → Type 0) (idle : Type 0) (task : ServeTask) (old new : F) (e : HostError) : Type 0 where
   NotMade : IsHostUnbegun does task old new e → idle → IsServiceEnded does talked_partly unbegun idle task old new e
   NotBegun : (made : Host) → IsHostBegun does task old new made → unbegun made e → IsServiceEnded does talked_partly unbegun idle task old new e
-  CutOff : (made left : Host) (error : TalkError) → e ≡ host_error_of_talk error → IsHostBegun does task old new made → talked_partly error made left
-      → IsServiceEnded does talked_partly unbegun idle task old new e
+  CutOff : (made left : Host) (error : TalkError) (unkept : HostError) → IsUnkeptRefusal (journal_named task) unkept → e ≡ host_error_of_talk unkept error
+      → IsHostBegun does task old new made → talked_partly error made left → IsServiceEnded does talked_partly unbegun idle task old new e

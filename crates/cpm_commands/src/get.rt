@@ -1,7 +1,7 @@
 //! The command `disk get`: files are taken out of an image.
 ghost use Rattle.std.specs.Prelude.{◌≡◌, ◌<◌, [], ◌∷◌, ◌++◌, ◌⊎◌, IfErr, IfOk, OnOk, map, option_map, string_bytes};
 ghost use Rattle.std.specs.Io.KnownBytes.{Appends};
-ghost use Rattle.cpm_command_line.specs.Shown.{shown_of};
+ghost use Rattle.cpm_shown.specs.Shown.{shown_of};
 ghost use Rattle.cpm_store.specs.Writes.{named_output};
 ghost use Rattle.cpm_commands.specs.Get.{AreFilesTaken, HasGot, HasNoPath, HasPath, HasTakenNamed};
 ghost use Rattle.cpm_commands.specs.Get.{IsCrowded, IsDestination, IsFileTaken, IsFileUntaken, IsGetEnded, IsGetRefused, IsGetUnended, IsNoFolder};

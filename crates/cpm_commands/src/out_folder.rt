@@ -1,6 +1,6 @@
 //! The files of drives that go into folders of the host once a machine was played: those that are new or have changed.
 ghost use Rattle.std.specs.Prelude.{◌≡◌, [], ◌∷◌, IfErr, IfOk, OnOk, Some, chars, flat_map, map, option_map, slice_get, string_bytes};
-ghost use Rattle.cpm_command_line.specs.Shown.{shown_of};
+ghost use Rattle.cpm_shown.specs.Shown.{shown_of};
 ghost use Rattle.cpm_commands.specs.Drives.{AreToldBy};
 ghost use Rattle.cpm_commands.specs.OutFolder.{AreFoldersLeft, AreFoldersUnleft, HasAddedFiles, HasAddedFolder, IsEven, IsFolderUnleft, IsUnwrittenTold};
 ghost use Rattle.cpm_commands.specs.OutFolder.{folder_starts_of, folder_view, left_outputs, left_unwritten, outputs_of_change, outputs_of_file, path_in};

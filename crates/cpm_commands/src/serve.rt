@@ -1,7 +1,7 @@
 //! The command `serve`.
 ghost use Rattle.std.specs.Prelude.{◌≡◌, ◌≤◌, IfErr, IfOk, None, OnOk, Option, Some};
 ghost use Rattle.cpm_commands.specs.Serve.{HasServed, HasTalkedFrom, IsHostBegun, IsHostUnbegun, IsServiceEnded, frames_asked};
-ghost use Rattle.cpm_commands.specs.Serve.{host_error_of_talk};
+ghost use Rattle.cpm_commands.specs.Serve.{IsUnkeptRefusal, host_error_of_talk, journal_named};
 ghost use Rattle.cpm_host.specs.Program.{disk_or_blank};
 ghost use Rattle.cpm_command_line.specs.declared.task.ServeTask.{ServeTask};
 ghost use Rattle.cpm_host.specs.declared.error.HostError.{HostError};
@@ -76,15 +76,15 @@ fn begin_host<F: CommandFiles>(
     host_over(alloc, system, frames_asked(task.frames))
 }
 
-/// What a talk comes to that ended early.
-fn ended_early(error: TalkError) -> HostError
-    ensures { result ≡ host_error_of_talk error }
+/// What a talk comes to that ended early; where the journal can't be written, that is known already.
+fn ended_early(error: TalkError, unkept: HostError) -> HostError
+    ensures { result ≡ host_error_of_talk unkept error }
 {
     match error {
         TalkError::Unreadable(reason) => HostError::InputUnreadable(reason),
         TalkError::Unwritable(reason) => HostError::OutputUnwritable(reason),
         TalkError::OutOfMemory => HostError::OutOfMemory,
-        TalkError::Unkept => HostError::JournalUnwritable,
+        TalkError::Unkept => unkept,
     }
 }
 
@@ -102,6 +102,10 @@ pub trait ServedFolder: Folder {
     ) -> Result<(), HostError>
         ensures begun { OnOk result (begins self.old task.now server.old.host.host server.new.host.host None self.new) }
         ensures refused { IfErr result (λ e. begins self.old task.now server.old.host.host server.new.host.host (Some e) self.new) };
+
+    /// What it comes to that the journal of a task can't be written: the file and the machine's reason are told.
+    fn unkept(&self, task: &ServeTask<'_>) -> HostError
+        ensures named { IsUnkeptRefusal (journal_named task.now) result };
 }
 
 /// Makes a host, or makes one again of a journal, and serves it the lines of an input over a folder of files, with their replies, up to the end of the input.
@@ -128,6 +132,6 @@ pub fn serve_requests<F: CommandFiles, D: ServedFolder, I: BufRead, W: Write>(
     folder.begin(alloc, task, &mut server)?;
     match serve_lines(&mut server, alloc, folder, input, out) {
         Ok(()) => Ok(()),
-        Err(error) => Err(ended_early(error)),
+        Err(error) => Err(ended_early(error, folder.unkept(task))),
     }
 }

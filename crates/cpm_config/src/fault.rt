@@ -4,7 +4,7 @@ ghost use Rattle.cpm_config.specs.declared.fault.DocumentStop.TheVariants.{Fault
 ghost use Rattle.std.specs.Prelude.{◌≡◌};
 
 use crate::field::ConfigKey;
-use cpm_command_line::ShownWord;
+use cpm_shown::ShownWord;
 use std::alloc::{AllocError, AllocFailed};
 use std::fmt;
 use thiserror::Error;

@@ -4,7 +4,7 @@ ghost use Rattle.std.specs.Prelude.{◌≡◌, ◌==◌, ◌||◌, ◌&&◌, opt
 use crate::fault::{KeyFault, UnknownKey};
 use crate::field::Field;
 use crate::values::{SESSION_FIELDS, TOP_FIELDS, is_one_of, value_at};
-use cpm_command_line::shown;
+use cpm_shown::shown;
 use std::str;
 use toml::{Table, Value};
 

@@ -1,6 +1,6 @@
 -- What has become of the files of a disk, from its start to how it was left. All of it is own.
 use Rattle.std.specs.Prelude.{⊤, ◌≡◌, ◌⊎◌, ℕ, ◌<◌, true, if◌then◌else◌, List, [], ◌∷◌, Option, Some, None, Err, chars}
-use Rattle.cpm_command_line.specs.Shown.{shown_of}
+use Rattle.cpm_shown.specs.Shown.{shown_of}
 use Rattle.cpm_directory.specs.Directory.{entries_of}
 use Rattle.cpm_directory.specs.WellFormed.{IsChecked}
 use Rattle.cpm_directory.specs.declared.fault.DriveFault.{DriveFault}

@@ -3,7 +3,7 @@ use Rattle.std.specs.Prelude.{⊤, ◌≡◌, ℕ, ◌<◌, ◌-◌, ◌%◌, Bo
 use Rattle.std.specs.Prelude.{Option, Some, None, length, take, drop, replicate, slice_index, slice_index_or, codes, chars, decimal, Err}
 use Rattle.std.specs.List.{insert, list_all, position_or_len}
 use Rattle.std.specs.List.Sorted.{IsPermutation}
-use Rattle.cpm_command_line.specs.Shown.{shown_of}
+use Rattle.cpm_shown.specs.Shown.{shown_of}
 use Rattle.cpm_directory.specs.Directory.{entries_of}
 use Rattle.cpm_directory.specs.WellFormed.{IsChecked}
 use Rattle.cpm_geom.specs.Disk.{Disk}

@@ -1,7 +1,7 @@
 -- The files of a disk's list that a pattern names. All of it is own.
 use Rattle.std.specs.Prelude.{◌≡◌, ◌≢◌, ℕ, Bool, not, ◌&&◌, ◌==◌, List, [], Some, None, map, chars}
 use Rattle.std.specs.List.{filter}
-use Rattle.cpm_command_line.specs.Shown.{shown_of}
+use Rattle.cpm_shown.specs.Shown.{shown_of}
 use Rattle.cpm_volume.specs.Files.{has_wildcard, name_matches}
 use Rattle.cpm_image_files.specs.declared.listing.DiskFile.{DiskFile}
 use Rattle.cpm_disk_commands.specs.Names.{pattern_text}

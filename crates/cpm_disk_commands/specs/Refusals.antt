@@ -1,7 +1,7 @@
 -- What is told where nothing is done. All of it is own.
 use Rattle.std.specs.Prelude.{⊤, ◌≡◌, ℕ, Bool, true, ◌&&◌, ◌==◌, List, None, Err, length, chars}
 use Rattle.std.specs.List.{list_any}
-use Rattle.cpm_command_line.specs.Shown.{shown_of}
+use Rattle.cpm_shown.specs.Shown.{shown_of}
 use Rattle.cpm_directory.specs.Directory.{entries_of}
 use Rattle.cpm_directory.specs.WellFormed.{IsChecked}
 use Rattle.cpm_directory.specs.declared.fault.DriveFault.{DriveFault}

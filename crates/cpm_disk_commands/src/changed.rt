@@ -9,9 +9,9 @@ ghost use Rattle.cpm_disk_commands.specs.Folder.{spells};
 use crate::damage::{NamedFile, damage_of};
 use crate::error::DiskCommandError;
 use crate::host_names::{is_read_as, text_of_name};
-use cpm_command_line::shown;
 use cpm_geom::Image;
 use cpm_image_files::{DiskFile, FileName, ImageFilesError, get, list};
+use cpm_shown::shown;
 use std::alloc::{AllocError, Global};
 
 /// What has become of a file of a disk.

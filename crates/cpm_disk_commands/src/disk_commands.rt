@@ -13,10 +13,10 @@ ghost use Rattle.std.specs.Prelude.{length};
 
 use crate::damage::{NamedFile, damage_of};
 use crate::error::DiskCommandError;
-use cpm_command_line::shown;
 use cpm_directory::DriveFault;
 use cpm_geom::{Format, Image};
 use cpm_image_files::{FileName, ImageFilesError, from_text, get, put, remove, rename, to_text};
+use cpm_shown::shown;
 use std::alloc::Global;
 
 /// The image of these bytes, of the file of this name. Refused where no image has so many.

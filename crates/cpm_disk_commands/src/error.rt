@@ -3,9 +3,9 @@ ghost use Rattle.std.specs.Prelude.{◌≡◌};
 ghost use Rattle.cpm_disk_commands.specs.Refusals.{code_of_disk_command};
 
 use crate::damage::{Damage, NamedFile};
-use cpm_command_line::ShownWord;
 use cpm_image_files::FileRefusal;
 use cpm_refusals::RefusalCode;
+use cpm_shown::ShownWord;
 use std::io;
 use thiserror::Error;
 

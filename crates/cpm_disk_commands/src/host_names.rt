@@ -12,8 +12,8 @@ use crate::error::DiskCommandError;
 use crate::lines::{are_blank, is_blank_byte};
 use crate::names::name_of;
 use arrayvec::ArrayString;
-use cpm_command_line::shown;
 use cpm_image_files::FileName;
+use cpm_shown::shown;
 
 /// The name that a file of an image gets on the host; the image's name is that of its file. `NoHostName` where no file of the
 /// host can have it.

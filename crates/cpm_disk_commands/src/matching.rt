@@ -8,8 +8,8 @@ ghost use Rattle.cpm_disk_commands.specs.Refusals.{file_named};
 
 use crate::error::DiskCommandError;
 use crate::names::pattern_of;
-use cpm_command_line::shown;
 use cpm_image_files::{DiskFile, FileName};
+use cpm_shown::shown;
 use std::alloc::{AllocError, Global};
 
 /// The files of a user whose names match a pattern, in the order of a disk's list; the name is that of the image's file.

@@ -10,8 +10,8 @@ use crate::damage::NamedFile;
 use crate::error::DiskCommandError;
 use crate::host_names::is_same_name;
 use crate::names::name_of;
-use cpm_command_line::shown;
 use cpm_image_files::FileName;
+use cpm_shown::shown;
 
 /// What stands before and after the first `=`; none where there is none.
 pub fn split_pair(text: &str) -> Option<(&str, &str)>

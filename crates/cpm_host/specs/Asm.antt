@@ -2,7 +2,7 @@
 use Rattle.std.specs.Prelude.{⊤, ◌≡◌, ◌-◌, ◌==◌, ℕ, List, [], Err, slice_index_or}
 use Rattle.std.specs.List.{slice_split}
 use Rattle.cpm_asm.specs.Passes.{both_passes}
-use Rattle.cpm_command_line.specs.Shown.{characters_of, shown_of}
+use Rattle.cpm_shown.specs.Shown.{characters_of, shown_of}
 use Rattle.cpm_host.specs.declared.error.HostError.{HostError}
 use Rattle.cpm_host.specs.declared.error.HostError.TheVariants.{OutOfMemory, SourceRefused}
 

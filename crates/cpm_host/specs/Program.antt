@@ -4,7 +4,7 @@ use Rattle.std.specs.Prelude.{⊤, ◌≡◌, ◌<◌, ◌≤◌, ◌⊎◌, ℕ
 use Rattle.std.specs.Io.KnownBytes.{Appends}
 use Rattle.std.specs.declared.alloc.Global.{Global}
 use Rattle.cpm_batch.specs.declared.error.ReadError.TheVariants as read
-use Rattle.cpm_command_line.specs.Shown.{shown_of}
+use Rattle.cpm_shown.specs.Shown.{shown_of}
 use Rattle.cpm_drives.specs.Disks.{images_of}
 use Rattle.cpm_flags.specs.declared.regs.Cpu.{Cpu}
 use Rattle.cpm_geom.specs.Disk.{Disk, blank_disk}

@@ -1,6 +1,6 @@
 -- The codes of refusals, and what a refused command line becomes.
 use Rattle.std.specs.Prelude.{⊤, ◌≡◌, ℕ, List, chars}
-use Rattle.cpm_command_line.specs.Shown.{shown_of}
+use Rattle.cpm_shown.specs.Shown.{shown_of}
 use Rattle.cpm_command_line.specs.declared.fault.UsageError.{UsageError}
 use Rattle.cpm_command_line.specs.declared.fault.UsageError.TheVariants as usage
 use Rattle.cpm_host.specs.declared.error.HostError.{HostError}

@@ -2,7 +2,7 @@
 use Rattle.std.specs.Prelude.{⊤, ◌≡◌, ℕ, Bool, true, false, List, Option, Some, None, Err, nat_eq, chars}
 use Rattle.std.specs.Cmp.Lexicographic.{pointwise}
 use Rattle.cpm_batch.specs.Savings.{version_in}
-use Rattle.cpm_command_line.specs.Shown.{shown_of}
+use Rattle.cpm_shown.specs.Shown.{shown_of}
 use Rattle.cpm_geom.specs.Disk.{Disk}
 use Rattle.cpm_machine.specs.MachineState.{MachineState}
 use Rattle.cpm_machine.specs.Saving.{bytes_of_saving, restored, saving_with}

@@ -10,7 +10,7 @@ ghost use Rattle.cpm_host.specs.AsmListing.{source_listing};
 use crate::asm_listing::source_listing;
 use crate::error::HostError;
 use cpm_asm::{AsmError, AsmErrorKind, assemble, assemble_placed};
-use cpm_command_line::shown_line;
+use cpm_shown::shown_line;
 use memchr::memchr;
 use std::alloc::Global;
 

@@ -7,7 +7,7 @@ ghost use Rattle.cpm_host.specs.Refusals.{host_error_of_disk_command, host_error
 use cpm_asm::AsmErrorKind;
 use cpm_batch::SavingRefusal;
 use cpm_check::CheckError;
-use cpm_command_line::{ShownWord, UsageError, UsageRefusal};
+use cpm_command_line::{UsageError, UsageRefusal};
 use cpm_config::ConfigError;
 use cpm_debug::DebugError;
 use cpm_disk_commands::DiskCommandError;
@@ -15,6 +15,7 @@ use cpm_machine::OpenError;
 use cpm_play::LiveError;
 use cpm_refusals::RefusalCode;
 use cpm_run::RunError;
+use cpm_shown::ShownWord;
 use std::alloc::{AllocError, AllocFailed};
 use std::{fmt, io};
 use thiserror::Error;

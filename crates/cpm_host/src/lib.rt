@@ -20,8 +20,8 @@ pub use asm::{ProgramListing, run_asm, run_asm_listed};
 pub use cpm_batch::{ReadError, Replay, SavedMachine, SavingRefusal};
 pub use cpm_check::{CheckError, run_check};
 pub use cpm_command_line::{
-    DebugTask, DiskTask, Page, PlayTask, RunTask, ServeTask, ShownWord, Task, UsageError,
-    UsageFault, UsageRefusal, VERSION, asks_version, command, page_text, shown,
+    DebugTask, DiskTask, Page, PlayTask, RunTask, ServeTask, Task, UsageError, UsageFault,
+    UsageRefusal, VERSION, asks_version, command, page_text,
 };
 pub use cpm_config::{Config, ConfigError, Origin, SessionConfig};
 pub use cpm_debug::{DebugError, run_debug};
@@ -37,6 +37,7 @@ pub use cpm_run::{
 pub use cpm_script::{
     Cue, Key, LineFault, MOST_KEYS, ScriptError, key_line, read_keys, read_recording,
 };
+pub use cpm_shown::{ShownWord, shown};
 pub use cpm_store::{MemoryStore, Store, StoreError};
 pub use debug::debug_start;
 pub use error::{HostError, JournalRefusal};

@@ -16,7 +16,6 @@ use crate::error::HostError;
 use crate::saved::saved_if;
 use crate::start::{ProgramStart, machine_of};
 use cpm_batch::ReadError;
-use cpm_command_line::shown;
 use cpm_geom::Image;
 use cpm_machine::{Closed, Machine};
 use cpm_play::{CuedKeys, LivePlay, PlayEnd, Typist, Watcher, play_cues, play_live};
@@ -25,6 +24,7 @@ use cpm_script::laws::{
     cues_in_order, recordings_give_their_keys_again, recordings_in_order, scripts_are_recordings,
 };
 use cpm_script::{Cue, Key, ScriptError, read_cues, read_recording};
+use cpm_shown::shown;
 use std::alloc::{AllocError, Global};
 use std::io::Write;
 

@@ -8,9 +8,9 @@ ghost use Rattle.cpm_host.specs.Saved.{IsSavingRefusal, IsSavingTold, is_of_syst
 
 use crate::error::HostError;
 use cpm_batch::{SavedMachine, SavingRefusal, version_in};
-use cpm_command_line::shown;
 use cpm_geom::Image;
 use cpm_machine::{Machine, RestoreError, digest_of};
+use cpm_shown::shown;
 use std::alloc::{AllocError, Global};
 
 /// The machine that goes on over this system drive; `SavedElsewhere` over another one than it was saved.

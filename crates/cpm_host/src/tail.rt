@@ -5,8 +5,8 @@ ghost use Rattle.std.specs.List.{list_all};
 ghost use Rattle.cpm_host.specs.Tails.{fits_tail, is_typed, tail_from, tail_with_word, IsTailRefusal};
 
 use crate::error::HostError;
-use cpm_command_line::shown;
 use cpm_machine::{MOST_TAIL, Tail};
+use cpm_shown::shown;
 use std::alloc::{AllocError, Global};
 
 /// The tail that the words after a program's name make on a command line: each after a blank, in capitals. `TailRefused` has the first

@@ -7,7 +7,7 @@ use Rattle.cpm_batch.specs.Inputs.{Forks, IsReadRefusal, Opens, Restores, Sessio
 use Rattle.cpm_batch.specs.Reads.{StopsReading}
 use Rattle.cpm_batch.specs.declared.error.ReadError.{ReadError}
 use Rattle.cpm_batch.specs.declared.error.ReadError.TheVariants as reading
-use Rattle.cpm_command_line.specs.Shown.{shown_of}
+use Rattle.cpm_shown.specs.Shown.{shown_of}
 use Rattle.cpm_config.specs.declared.config.Config.{Config}
 use Rattle.cpm_config.specs.declared.config.SessionConfig.{SessionConfig}
 use Rattle.cpm_flags.specs.declared.regs.Cpu.{Cpu}

@@ -6,7 +6,7 @@ use Rattle.cpm_batch.specs.Inputs.{AreInputs, Forks, Opens, Restores, SessionInp
 use Rattle.cpm_batch.specs.Outputs.{SessionOutput, files_of_all}
 use Rattle.cpm_batch.specs.Reads.{AreRead}
 use Rattle.cpm_checkpoint.specs.CheckpointBytes.{checkpoint_value}
-use Rattle.cpm_command_line.specs.Shown.{shown_of}
+use Rattle.cpm_shown.specs.Shown.{shown_of}
 use Rattle.cpm_config.specs.Rules.{config_view, fault_or, forks_fault}
 use Rattle.cpm_config.specs.declared.config.Config.{Config}
 use Rattle.cpm_config.specs.declared.config.SessionConfig.{SessionConfig}

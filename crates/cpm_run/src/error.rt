@@ -4,11 +4,11 @@ ghost use Rattle.cpm_run.specs.declared.error.RunError.TheVariants.{OutOfMemory}
 ghost use Rattle.cpm_run.specs.Refusals.{code_of_run, run_error_of_live, run_error_of_reading};
 
 use cpm_batch::ReadError;
-use cpm_command_line::ShownWord;
 use cpm_config::ConfigError;
 use cpm_machine::OpenError;
 use cpm_play::LiveError;
 use cpm_refusals::RefusalCode;
+use cpm_shown::ShownWord;
 use std::alloc::{AllocError, AllocFailed};
 use std::{fmt, io};
 use thiserror::Error;

@@ -24,12 +24,12 @@ use crate::finish::finish_all;
 use crate::report::SessionReport;
 use crate::settled::SettledInput;
 use cpm_batch::{SavedMachine, SessionFiles, Start};
-use cpm_command_line::{ShownWord, shown};
 use cpm_config::{Config, SessionConfig};
 use cpm_geom::Image;
 use cpm_machine::{OpenError, Opening};
 use cpm_play::{Fork, PlayError, Player, ScriptedSlot, Watcher, play};
 use cpm_script::Key;
+use cpm_shown::{ShownWord, shown};
 use cpm_slots::{ForkError, Host, HostRestoreError, LEAST_FRAMES, MOST_FRAMES};
 use std::alloc::Global;
 

@@ -19,11 +19,11 @@ use crate::part::{Part, key_count, part_of, pending_keys, timed_keys, typing_at}
 use crate::settled::SettledInput;
 use crate::watcher::{RunStage, RunWatcher};
 use cpm_batch::Input;
-use cpm_command_line::shown;
 use cpm_config::Config;
 use cpm_geom::Image;
 use cpm_play::{CuedKeys, LivePlay, TypedPlay, play_cues};
 use cpm_script::{Key, MOST_KEYS};
+use cpm_shown::shown;
 use std::alloc::{AllocError, Global};
 use std::io;
 

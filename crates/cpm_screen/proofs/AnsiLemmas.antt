@@ -92,7 +92,7 @@ module _ (columns : ℕ) (lines : List (List ScreenCell)) (row column : ℕ) (lo
   unfolding ansi_after
   move_final m n = refl
 
-  moved_there : (r c : ℕ) → r < length lines → c < columns → r < 999 → c < 999
+  pub moved_there : (r c : ℕ) → r < length lines → c < columns → r < 999 → c < 999
       → ansi_after (move_bytes r c) (at_rest columns lines row column look) ≡ at_rest columns lines r c look
   unfolding move_bytes
   moved_there r c within inside low left =
@@ -131,14 +131,14 @@ module _ (columns : ℕ) (lines : List (List ScreenCell)) (row column : ℕ) (lo
   unfolding move_change
   move_changed r c within inside low left = change_by r c within inside low left ((row == r) && (column == c)) refl
 
-  erased_there : column < columns → ansi_after erase_bytes (at_rest columns lines row column PLAIN) ≡ at_rest columns (cells_erased row column columns lines) row column PLAIN
+  pub erased_there : column < columns → ansi_after erase_bytes (at_rest columns lines row column PLAIN) ≡ at_rest columns (cells_erased row column columns lines) row column PLAIN
   unfolding ansi_after
   erased_there inside =
       let e : nat_lt column columns ≡ true = grind (arith, nat_tests) in
       rw e refl
 
 module _ (columns : ℕ) (lines : List (List ScreenCell)) (row column : ℕ) where
-  look_by : (before : Attributes) (bold underline blink reverse : Bool)
+  pub look_by : (before : Attributes) (bold underline blink reverse : Bool)
       → ansi_after (look_bytes (record { bold = bold; underline = underline; blink = blink; reverse = reverse })) (at_rest columns lines row column before)
       ≡ at_rest columns lines row column (record { bold = bold; underline = underline; blink = blink; reverse = reverse })
   unfolding ansi_after look_bytes

@@ -12,3 +12,8 @@ pub mod Laws
 pub mod Ansi
 pub mod Painting
 pub mod Keys
+pub mod Outputs
+pub mod Pictures
+pub mod Painted
+pub mod Repainted
+pub mod PaintedOutputs

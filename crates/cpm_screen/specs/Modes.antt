@@ -68,7 +68,7 @@ with_origin on s = placed 0 0 (record s { cursor = record s.cursor { is_origin =
 unfoldable pub with_wrap : Bool → ScreenState → ScreenState
 with_wrap on s = record s { wrap = (if on then Later else Never) }
 
--- VT102 user guide, IRM
+-- VT102 user guide, IRM, and TeleVideo 950 operator's manual, Insert mode
 unfoldable pub with_inserts : Bool → ScreenState → ScreenState
 with_inserts on s = record s { inserts = on }
 

@@ -4,12 +4,14 @@ use Rattle.cpm_screen.specs.declared.cell.Attribute.TheVariants.{Bold, Underline
 use Rattle.cpm_screen.specs.declared.cell.Attributes.{Attributes}
 use Rattle.cpm_screen.specs.declared.action.Span.TheVariants.{ToEnd}
 use Rattle.cpm_screen.specs.declared.action.Sequence.{Sequence}
-use Rattle.cpm_screen.specs.declared.action.Sequence.TheVariants.{Text, Escape, Row, Column, Looks, Consumed, Control, Designation, Intermediate}
+use Rattle.cpm_screen.specs.declared.action.Sequence.TheVariants.{Text, Escape, Row, Column, Page, Looks, Consumed, ConsumedTo}
+use Rattle.cpm_screen.specs.declared.action.Sequence.TheVariants.{Control, Designation, Intermediate}
 use Rattle.cpm_screen.specs.declared.action.Sequence.TheVariants as sequence
 use Rattle.cpm_screen.specs.declared.action.Action.{Action}
 use Rattle.cpm_screen.specs.declared.action.Action.TheVariants.{Nothing, Up, Down, Left, Right, LineStart, LineFeed, ReverseLineFeed, NextLine, Home, Address}
 use Rattle.cpm_screen.specs.declared.action.Action.TheVariants.{Tab, FixedTab, SetTab, ClearTab, ClearTabs, Clear, EraseScreen, EraseLine, Look}
-use Rattle.cpm_screen.specs.declared.action.Action.TheVariants.{InsertLines, DeleteLines, InsertCharacters, DeleteCharacters, Switch}
+use Rattle.cpm_screen.specs.declared.action.Action.TheVariants.{InsertLines, DeleteLines, InsertCharacters, DeleteCharacters, Switch, Insertion}
+use Rattle.cpm_screen.specs.declared.action.Action.TheVariants.{SaveCursor, RestoreCursor}
 use Rattle.cpm_screen.specs.declared.action.Action.TheVariants as action
 use Rattle.cpm_screen.specs.declared.action.Receipt.{Receipt}
 
@@ -82,13 +84,14 @@ kaypro_escapes =
     []
 
 -- Kaypro user's guide, appendix on screen control: the attributes by their digits; own: half intensity is shown as bold, so that it is told
--- apart; the cursor, the status line and graphics, 4 to 7, show nothing
+-- apart; the cursor, video mode and the status line, 4, 5 and 7, show nothing; a cursor that is remembered has its attributes
 abbrev pub kaypro_attributes : Bool → List (ℕ × Receipt)
 kaypro_attributes on =
     (0x30, does (Switch Reverse on)) ∷  -- inverse video
     (0x31, does (Switch Bold on)) ∷  -- half intensity
     (0x32, does (Switch Blink on)) ∷  -- blinking
     (0x33, does (Switch Underline on)) ∷  -- underline
+    (0x36, does (if on then SaveCursor else RestoreCursor)) ∷  -- the cursor's place is remembered, or gone back to
     []
 
 -- TeleVideo 950 operator's manual, section 4, Control codes
@@ -107,7 +110,8 @@ televideo_controls =
     (0x1F, does NextLine) ∷  -- US, new line
     []
 
--- TeleVideo 950 operator's manual, section 4, Escape sequences; own: protected characters are as others, and half intensity is shown as bold
+-- TeleVideo 950 operator's manual, section 4, Escape sequences; own: protected characters are as others, half intensity is shown as bold,
+-- there is one page, and the user's line, duplex and what keys send show nothing
 abbrev pub televideo_escapes : List (ℕ × Receipt)
 televideo_escapes =
     (0x28, does (Switch Bold false)) ∷  -- ESC (, half intensity off
@@ -115,13 +119,16 @@ televideo_escapes =
     (0x2A, does Clear) ∷  -- ESC *, clear all to nulls
     (0x2B, does Clear) ∷  -- ESC +, clear all to spaces
     (0x2C, does Clear) ∷  -- ESC ,, clear all to half intensity spaces
+    (0x2D, reads Page) ∷  -- ESC -, cursor to page, row and column
     (0x2E, reads (Consumed 1)) ∷  -- ESC ., the form of the cursor
+    (0x30, reads (Consumed 2)) ∷  -- ESC 0, what an editing key sends
     (0x31, does SetTab) ∷  -- ESC 1, set a tab stop
     (0x32, does ClearTab) ∷  -- ESC 2, clear a tab stop
     (0x33, does ClearTabs) ∷  -- ESC 3, clear all tab stops
     (0x3A, does Clear) ∷  -- ESC :, clear unprotected to nulls
     (0x3B, does Clear) ∷  -- ESC ;, clear unprotected to spaces
     (0x3D, reads Row) ∷  -- ESC =, cursor to row and column
+    (0x44, reads (Consumed 1)) ∷  -- ESC D, half or full duplex
     (0x45, does (InsertLines 1)) ∷  -- ESC E, insert a line
     (0x47, reads Looks) ∷  -- ESC G, attributes
     (0x51, does (InsertCharacters 1)) ∷  -- ESC Q, insert a character
@@ -129,9 +136,14 @@ televideo_escapes =
     (0x54, does (EraseLine ToEnd)) ∷  -- ESC T, erase to the end of the line, with spaces
     (0x57, does (DeleteCharacters 1)) ∷  -- ESC W, delete a character
     (0x59, does (EraseScreen ToEnd)) ∷  -- ESC Y, erase to the end of the page, with spaces
+    (0x66, reads (ConsumedTo 0x0D)) ∷  -- ESC f, the user's line, up to CR
     (0x6A, does ReverseLineFeed) ∷  -- ESC j, reverse line feed
+    (0x71, does (Insertion true)) ∷  -- ESC q, insertion on
+    (0x72, does (Insertion false)) ∷  -- ESC r, insertion off
     (0x74, does (EraseLine ToEnd)) ∷  -- ESC t, erase to the end of the line, with nulls
+    (0x78, reads (Consumed 3)) ∷  -- ESC x, delimiters
     (0x79, does (EraseScreen ToEnd)) ∷  -- ESC y, erase to the end of the page, with nulls
+    (0x7C, reads (ConsumedTo 0x19)) ∷  -- ESC |, what a function key sends, up to ^Y
     []
 
 -- whether a byte has a bit, by the bit's value
@@ -172,6 +184,10 @@ vt52_escapes =
 unfoldable pub consumed_one : ℕ → Receipt
 consumed_one count = if nat_le count 1 then nothing_done else reads (Consumed (count - 1))
 
+-- own: a byte that is consumed, up to the last one
+unfoldable pub consumed_to : ℕ → ℕ → Receipt
+consumed_to last byte = if byte == last then nothing_done else reads (ConsumedTo last)
+
 -- what a byte means to each of these terminals, by the sequence that is being read
 unfoldable pub adm3a_receipt : Sequence → ℕ → Receipt
 adm3a_receipt Text byte = of_text adm3a_controls byte
@@ -194,8 +210,10 @@ televideo_receipt Text byte = of_text televideo_controls byte
 televideo_receipt Escape byte = receipt_in televideo_escapes nothing_done byte
 televideo_receipt Row byte = reads (Column byte)
 televideo_receipt (Column row) byte = does (Address row byte)
+televideo_receipt Page byte = reads Row
 televideo_receipt Looks byte = does (Look (televideo_look byte))
 televideo_receipt (Consumed count) byte = consumed_one count
+televideo_receipt (ConsumedTo last) byte = consumed_to last byte
 televideo_receipt _ byte = nothing_done
 
 unfoldable pub vt52_receipt : Sequence → ℕ → Receipt

@@ -8,7 +8,7 @@ use Rattle.cpm_screen.specs.declared.action.Action.{Action}
 use Rattle.cpm_screen.specs.declared.action.Action.TheVariants.{Nothing, Character, Up, Down, Left, Right, LineStart, LineFeed, ReverseLineFeed, NextLine}
 use Rattle.cpm_screen.specs.declared.action.Action.TheVariants.{Home, Place, Address, Tab, FixedTab, SetTab, ClearTab, ClearTabs, Clear, EraseScreen, EraseLine}
 use Rattle.cpm_screen.specs.declared.action.Action.TheVariants.{InsertLines, DeleteLines, InsertCharacters, DeleteCharacters, Look, Switch, Rendition}
-use Rattle.cpm_screen.specs.declared.action.Action.TheVariants.{Modes, Region, SaveCursor, RestoreCursor, Designate, Shift, Reset}
+use Rattle.cpm_screen.specs.declared.action.Action.TheVariants.{Modes, Insertion, Region, SaveCursor, RestoreCursor, Designate, Shift, Reset}
 use Rattle.cpm_screen.specs.Receipts.{adm3a_receipt, kaypro_receipt, televideo_receipt, vt52_receipt}
 use Rattle.cpm_screen.specs.Vt100.{vt100_receipt}
 use Rattle.cpm_screen.specs.State.{ScreenState}
@@ -16,7 +16,7 @@ use Rattle.cpm_screen.specs.Motions.{moved_to, moved_up, moved_down, moved_left,
 use Rattle.cpm_screen.specs.Motions.{placed, addressed, tabbed, tabbed_by_eight}
 use Rattle.cpm_screen.specs.Edits.{line_erased, screen_erased_by, cleared, lines_inserted, lines_deleted, characters_inserted, characters_deleted}
 use Rattle.cpm_screen.specs.Edits.{character_shown}
-use Rattle.cpm_screen.specs.Modes.{switched, rendered, given_numbers, looking, with_tab, without_tabs, with_region, with_modes, with_saved}
+use Rattle.cpm_screen.specs.Modes.{switched, rendered, given_numbers, looking, with_tab, without_tabs, with_region, with_modes, with_inserts, with_saved}
 use Rattle.cpm_screen.specs.Modes.{with_restored, with_set, with_shift, switched_on}
 
 -- what a byte means to a terminal
@@ -58,6 +58,7 @@ performed (Look attributes) s = looking attributes s
 performed (Switch attribute on) s = looking (switched attribute on s.cursor.attributes) s
 performed (Rendition p) s = looking (fold rendered s.cursor.attributes (given_numbers p)) s
 performed (Modes p on) s = with_modes p on s
+performed (Insertion on) s = with_inserts on s
 performed (Region first last) s = with_region first last s
 performed SaveCursor s = with_saved s
 performed RestoreCursor s = with_restored s

@@ -39,12 +39,16 @@ pub enum Sequence {
     Row,
     /// The column of a place comes next; the byte of its row.
     Column(u8),
+    /// The page of a place comes next, and then its row.
+    Page,
     /// The byte of a TeleVideo's attributes comes next.
     Looks,
     /// The number of a Kaypro's attribute comes next, which is turned on or off.
     Switch(bool),
     /// So many bytes more are consumed.
     Consumed(u8),
+    /// Bytes are consumed up to this one.
+    ConsumedTo(u8),
     /// The parameters of a control sequence.
     Control(Parameters),
     /// The character set of G0 or of G1 comes next.
@@ -100,6 +104,8 @@ pub enum Action {
     Rendition(Parameters),
     /// Modes on or off.
     Modes(Parameters, bool),
+    /// Whether a character moves those after it to the right.
+    Insertion(bool),
     /// The rows of the scrolling region, counted from 1; 0 stands for the first or the last.
     Region(u8, u8),
     SaveCursor,

@@ -173,7 +173,7 @@ impl TextScreen {
 
     /// Whether a character moves those after it to the right.
     #[tactic(auto, unfolding(crate::specs::Modes::with_inserts))]
-    fn set_inserts(&mut self, on: bool)
+    pub(crate) fn set_inserts(&mut self, on: bool)
         ensures value { self.new ≡ with_inserts on self.old }
         ensures size { SameSize self.old self.new }
     {

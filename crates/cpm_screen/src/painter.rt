@@ -19,7 +19,7 @@ pub(crate) struct Painter {
 }
 
 /// Whether two looks are one.
-fn same_look(one: Attributes, other: Attributes) -> bool
+pub(crate) fn same_look(one: Attributes, other: Attributes) -> bool
     ensures { result ≡ same_look one other }
 {
     one.bold == other.bold
@@ -47,7 +47,7 @@ fn write_digits(bytes: &mut Vec<u8>, number: usize) -> Result<(), AllocError>
 
 /// Writes a move to a row and a column, counted from 0.
 #[tactic(auto, unfolding(crate::specs::Painting::move_bytes))]
-fn write_move(bytes: &mut Vec<u8>, row: usize, column: usize) -> Result<(), AllocError>
+pub(crate) fn write_move(bytes: &mut Vec<u8>, row: usize, column: usize) -> Result<(), AllocError>
     requires row { row < 999 }
     requires column { column < 999 }
     ensures { IfOk result (λ _. bytes.new.items ≡ bytes.old.items ++ move_bytes row column) }
@@ -72,7 +72,7 @@ fn write_number_if(bytes: &mut Vec<u8>, on: bool, digit: u8) -> Result<(), Alloc
 
 /// Writes attributes.
 #[tactic(auto, unfolding(crate::specs::Painting::look_bytes))]
-fn write_look(bytes: &mut Vec<u8>, look: Attributes) -> Result<(), AllocError>
+pub(crate) fn write_look(bytes: &mut Vec<u8>, look: Attributes) -> Result<(), AllocError>
     ensures { IfOk result (λ _. bytes.new.items ≡ bytes.old.items ++ look_bytes look) }
 {
     bytes.extend_from_slice(&[0x1B, b'[', b'0'])?;

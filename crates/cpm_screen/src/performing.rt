@@ -64,6 +64,7 @@ impl TextScreen {
             Action::Switch(attribute, on) => self.switch(attribute, on),
             Action::Rendition(parameters) => self.render(&parameters),
             Action::Modes(parameters, on) => self.set_modes(&parameters, on),
+            Action::Insertion(on) => self.set_inserts(on),
             Action::Region(first, last) => self.set_region(first, last),
             Action::SaveCursor => self.save(),
             Action::RestoreCursor => self.restore(),

@@ -4,7 +4,7 @@ ghost use Rattle.std.specs.Prelude.{◌≡◌, true, false};
 ghost use Rattle.cpm_screen.specs.Receipts.{adm3a_controls, adm3a_escapes, adm3a_receipt, kaypro_controls, kaypro_escapes, kaypro_attributes, kaypro_receipt};
 ghost use Rattle.cpm_screen.specs.Receipts.{televideo_controls, televideo_escapes, televideo_look, televideo_receipt, vt52_controls, vt52_escapes};
 ghost use Rattle.cpm_screen.specs.Receipts.{vt52_receipt};
-ghost use Rattle.cpm_screen.specs.Receipts.{consumed_one, nothing_done, of_text, receipt_in};
+ghost use Rattle.cpm_screen.specs.Receipts.{consumed_one, consumed_to, nothing_done, of_text, receipt_in};
 
 use crate::action::{Action, Receipt, Sequence, Span, does, reads};
 use crate::cell::{Attribute, Attributes};
@@ -91,6 +91,8 @@ fn kaypro_attribute(on: bool, byte: u8) -> Receipt
         b'1' => does(Action::Switch(Attribute::Bold, on)),
         b'2' => does(Action::Switch(Attribute::Blink, on)),
         b'3' => does(Action::Switch(Attribute::Underline, on)),
+        b'6' if on => does(Action::SaveCursor),
+        b'6' => does(Action::RestoreCursor),
         _ => does(Action::Nothing),
     }
 }
@@ -104,6 +106,18 @@ fn consumed_one(count: u8) -> Receipt
         does(Action::Nothing)
     } else {
         reads(Sequence::Consumed(count - 1))
+    }
+}
+
+/// A byte that is consumed, up to the last one.
+#[tactic(auto, unfolding(crate::specs::Receipts::consumed_to))]
+fn consumed_to(last: u8, byte: u8) -> Receipt
+    ensures { result ≡ consumed_to last byte }
+{
+    if byte == last {
+        does(Action::Nothing)
+    } else {
+        reads(Sequence::ConsumedTo(last))
     }
 }
 
@@ -155,7 +169,9 @@ fn televideo_escape(byte: u8) -> Receipt
         b'(' => does(Action::Switch(Attribute::Bold, false)),
         b')' => does(Action::Switch(Attribute::Bold, true)),
         b'*' | b'+' | b',' | b':' | b';' => does(Action::Clear),
-        b'.' => reads(Sequence::Consumed(1)),
+        b'-' => reads(Sequence::Page),
+        b'.' | b'D' => reads(Sequence::Consumed(1)),
+        b'0' => reads(Sequence::Consumed(2)),
         b'1' => does(Action::SetTab),
         b'2' => does(Action::ClearTab),
         b'3' => does(Action::ClearTabs),
@@ -167,7 +183,12 @@ fn televideo_escape(byte: u8) -> Receipt
         b'T' | b't' => does(Action::EraseLine(Span::ToEnd)),
         b'W' => does(Action::DeleteCharacters(1)),
         b'Y' | b'y' => does(Action::EraseScreen(Span::ToEnd)),
+        b'f' => reads(Sequence::ConsumedTo(0x0D)),
         b'j' => does(Action::ReverseLineFeed),
+        b'q' => does(Action::Insertion(true)),
+        b'r' => does(Action::Insertion(false)),
+        b'x' => reads(Sequence::Consumed(3)),
+        b'|' => reads(Sequence::ConsumedTo(0x19)),
         _ => does(Action::Nothing),
     }
 }
@@ -199,8 +220,10 @@ pub(crate) fn televideo_receipt(sequence: Sequence, byte: u8) -> Receipt
         Sequence::Escape => televideo_escape(byte),
         Sequence::Row => reads(Sequence::Column(byte)),
         Sequence::Column(row) => does(Action::Address(row, byte)),
+        Sequence::Page => reads(Sequence::Row),
         Sequence::Looks => does(Action::Look(televideo_look(byte))),
         Sequence::Consumed(count) => consumed_one(count),
+        Sequence::ConsumedTo(last) => consumed_to(last, byte),
         _ => does(Action::Nothing),
     }
 }

@@ -47,7 +47,7 @@ impl ScreenRow {
     }
 
     /// Becomes equal to another row.
-    fn copy_from(&mut self, other: &ScreenRow)
+    pub(crate) fn copy_from(&mut self, other: &ScreenRow)
         ensures { self.new ≡ other.now }
     {
         *self.cells = *other.cells;
@@ -63,7 +63,7 @@ impl ScreenRow {
 
     /// Puts a cell in a column.
     #[inline(always)]
-    fn put(&mut self, column: usize, cell: ScreenCell)
+    pub(crate) fn put(&mut self, column: usize, cell: ScreenCell)
         requires { column < 132 }
         ensures { self.new ≡ with_cell column cell self.old }
     {
@@ -82,7 +82,7 @@ impl ScreenRow {
 
     /// Makes all cells blank.
     #[tactic(auto, unfolding(crate::specs::Rows::blank_row))]
-    fn clear(&mut self)
+    pub(crate) fn clear(&mut self)
         ensures { self.new ≡ blank_row }
     {
         self.cells.fill(BLANK);

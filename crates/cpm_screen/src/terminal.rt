@@ -1,7 +1,7 @@
 //! The terminals that a program may take the screen for.
 
 ghost use Rattle.std.specs.Prelude.{◌≡◌};
-ghost use Rattle.cpm_screen.specs.Cursors.{wrap_of};
+ghost use Rattle.cpm_screen.specs.Cursors.{terminal_named, wrap_of};
 
 /// A terminal by its manual.
 #[derive(Clone, Copy, Debug, PartialEq, Eq)]
@@ -30,6 +30,20 @@ pub enum Wrap {
 }
 
 impl TerminalKind {
+    /// The terminal of a name, if there is one.
+    pub fn named(name: &str) -> Option<TerminalKind>
+        ensures { result ≡ terminal_named name.now }
+    {
+        match name {
+            "adm3a" => Some(TerminalKind::Adm3a),
+            "kaypro" => Some(TerminalKind::Kaypro),
+            "televideo" => Some(TerminalKind::Televideo),
+            "vt52" => Some(TerminalKind::Vt52),
+            "vt100" => Some(TerminalKind::Vt100),
+            _ => None,
+        }
+    }
+
     /// What follows on a character in the last column of a terminal that was just turned on.
     #[tactic(auto, unfolding(crate::specs::Cursors::wrap_of))]
     pub(crate) fn wrap(self) -> Wrap

@@ -1,4 +1,4 @@
--- The shortest journal of a host is written, and done again.
+-- A journal of a host's savings is written, and done again.
 use Rattle.std.proofs.Common.{◌≡◌, ◌∙◌, ◌≤◌, ◌+◌, ◌==◌, ℕ, add-one, zero, suc, true, List, [], ◌∷◌, ◌++◌, length, map, take, Option, Some, None, refl, sym, ap, subst, arith, append_assoc, append-nil, cond}
 use Rattle.std.specs.Prelude.{Result, Ok, Err, IfSome, OnOk, option_and_then, option_map, slice_get}
 use Rattle.std.specs.Io.KnownBytes.{Appends}
@@ -12,14 +12,14 @@ use Rattle.cpm_slots.specs.Host.{AllBelow, Host, IsHost, IsOrdered, SlotState, q
 use Rattle.cpm_slots.specs.Remaking.{ArePartsOf, HostPart, NextNumber, SavedSlot, id_at_place}
 use Rattle.cpm_slots.proofs.IndexLaws.{first-other}
 use Rattle.cpm_slots.proofs.RemakingLaws.{IsNext, half, none-refused}
-use Rattle.cpm_journal.specs.Entries.{AreLinesOf, IsKeepable, KeptNumber, KeptSaving, entries_read}
+use Rattle.cpm_journal.specs.Entries.{AreLinesOf, IsKeepable, IsLineOf, KeptNumber, KeptSaving, entries_read}
 use Rattle.cpm_journal.specs.Heads.{head_json, value_fault}
 use Rattle.cpm_journal.specs.Laws.{ReadsBack}
 use Rattle.cpm_journal.specs.Lines.{lines_text}
 use Rattle.cpm_journal.proofs.EntryLaws.{heads-back, journals-back}
 use Rattle.cpm_serve.specs.Compact.{AreSlotsWritten, CompactJournalsRemake, IsCompact, IsEntryWritten, IsHeadWritten, IsSlotWritten, entry_of_part}
 use Rattle.cpm_serve.specs.Redone.{redone, redone_all, restored_unless}
-use Rattle.cpm_serve.specs.Resumed.{host_head}
+use Rattle.cpm_serve.specs.Resumed.{IsHeadTaken, host_head}
 
 -- ---- done again
 
@@ -56,19 +56,23 @@ parts-redone h (x ∷ xs) done at parts ordered below within few quotas last (re
 shallow : (h : Host) → depth (head_json (host_head h)) ≤ max_depth
 shallow h = omega arith
 
+-- the head of a host's journal is taken as that
+pub head-taken : (h : Host) (text behind line : List ℕ) → IsLineOf (head_json (host_head h)) line → text ≡ line ++ 0x0A ∷ behind → IsHeadTaken (host_head h) (Some behind) text
+head-taken h text behind line of whole = record {
+  first = line;
+  behind = behind;
+  free = of.one_line;
+  whole = whole;
+  left = refl;
+  head = ap (value_fault (host_head h)) (of.back (shallow h)) ∙ heads-back (host_head h);
+}
+
 pub compact-remakes : CompactJournalsRemake
 compact-remakes h text k last c =
     let back : ReadsBack (map entry_of_part c.parts) c.lines = journals-back (map entry_of_part c.parts) c.lines c.keepable c.of in
     record {
       behind = lines_text c.lines;
-      head = record {
-        first = c.first;
-        behind = lines_text c.lines;
-        free = c.head.one_line;
-        whole = c.added;
-        left = refl;
-        head = ap (value_fault (host_head h)) (c.head.back (shallow h)) ∙ heads-back (host_head h);
-      };
+      head = head-taken h text (lines_text c.lines) c.first c.head c.added;
       rest = record {
         entries = map entry_of_part c.parts;
         read = ap entries_read back.whole ∙ back.read;

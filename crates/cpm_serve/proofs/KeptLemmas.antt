@@ -1,31 +1,32 @@
 -- What a folder with a journal keeps.
 use Rattle.std.proofs.Common.{◌≡◌, ◌<◌, ℕ, suc, get_or, Bool, true, false, if◌then◌else◌, List, [], ◌∷◌, ◌++◌, Option, Some, None, refl, sym, subst, ap, append_assoc, append-nil}
-use Rattle.std.specs.Prelude.{⊤, OnOk, Result, Ok, Err}
+use Rattle.std.specs.Prelude.{⊤, IfErr, OnOk, Result, Ok, Err}
 use Rattle.std.specs.Io.KnownBytes.{Appends}
 use Rattle.std.specs.List.{AllByRecursion}
 use Rattle.std.specs.declared.alloc.AllocError.{AllocError}
 use Rattle.cpm_geom.specs.Disk.{Disk}
 use Rattle.cpm_machine.specs.MachineState.{MachineState}
-use Rattle.cpm_machine.specs.Saving.{bytes_of_saving, restored}
+use Rattle.cpm_machine.specs.Saving.{restored}
 use Rattle.cpm_machine.specs.declared.opening.OpenError.{OpenError}
 use Rattle.cpm_slots.specs.Drives.{open_fault}
 use Rattle.cpm_slots.specs.Host.{Host, saving_of, slot_at}
 use Rattle.cpm_slots.specs.Restoring.{IsSlotSaved}
 use Rattle.cpm_store.specs.Writes.{NamedBytes}
-use Rattle.cpm_journal.specs.Entries.{IsKeepable, IsLineAdded, IsLineOf, KeptSaving, entry_json}
+use Rattle.cpm_journal.specs.Entries.{IsKeepable, IsLineAdded, KeptSaving, entry_json}
 use Rattle.cpm_journal.specs.Lines.{lines_text}
 use Rattle.cpm_protocol.specs.Requests.{AskedFault, FourNames, WireAsked, Open, Resume, Key, Grant, Take, ListTake, Look, Peek, Fork, Save, Close, Turn, Put, Get, Files, request_asked}
 use Rattle.cpm_protocol.specs.declared.word.WireRefusal.{WireRefusal}
 use Rattle.cpm_serve.specs.Changes.{keep_accesses}
 use Rattle.cpm_serve.specs.DriveFiles.{DiskWork, disk_file_name, got_accesses, put_accesses, put_writes}
 use Rattle.cpm_serve.specs.Drives.{DrivesRead, disk_answered, disk_named, drives_read, name_count, named_drive_outputs, none_read, with_disk, with_drive_named, with_file_read, with_image_named}
-use Rattle.cpm_serve.specs.Folder.{AccessesLead, AsSaved, FolderAccess, FolderAnswer, HostChange, KeepsOpened, Failed, Given, Stored, hold_access, one_read, one_write, read_access, write_access, write_answer}
+use Rattle.cpm_serve.specs.Folder.{AccessesLead, AsSaved, FolderAccess, FolderAnswer, HostChange, KeepsOpened, Failed, Given, Stored, hold_access, keep_access, one_read, one_write, read_access, write_access, write_answer}
 use Rattle.cpm_serve.specs.Folder.{Gave, Unread, Held, Unheld, Wrote, Unwritten, Released, Kept, Unkept}
-use Rattle.cpm_serve.specs.KeptFolder.{AreChangesKept, IsChangeKept, IsKeptAccess, KeptLines, change_list, changes_of}
+use Rattle.cpm_serve.specs.KeptFolder.{AppendsFirst, AreChangesKept, IsChangeBegun, IsChangeKept, IsChangeTrue, IsChangeUnkept, IsKeptAccess, IsLineUnkept, KeptLines, change_entry, change_list, changes_of}
 use Rattle.cpm_serve.specs.Lines.{WireEvent, event_change, event_served, request_accesses}
 use Rattle.cpm_serve.specs.Served.{is_no_name}
 use Rattle.cpm_serve.specs.ServedWith.{accesses_if_fit, accesses_of, accesses_of_outputs, session_saving, slot_accesses}
 use Rattle.cpm_serve.specs.declared.folder.FolderError.{FolderError}
+use Rattle.cpm_serve.specs.declared.folder.FolderError.TheVariants as fault
 use Rattle.cpm_serve.specs.declared.kept.KeptFolder.{KeptFolder}
 use Rattle.cpm_serve.proofs.TalkLemmas.{appends_more}
 
@@ -37,42 +38,57 @@ all-bytes (x ∷ xs) h = (h 0, all-bytes xs (λ i. h (suc i)))
 
 -- ---- an opened session
 
--- the line of a saving was added
-saving-kept : (h : Host) (s : MachineState) (bytes line : List ℕ) (old new : Option (List ℕ)) → bytes ≡ bytes_of_saving (saving_of h s) → restored bytes ≡ Ok (saving_of h s) →
-    IsKeepable (KeptSaving bytes) → IsLineAdded (entry_json (KeptSaving bytes)) [] line → Appends old new line → IsChangeKept (AsSaved (saving_of h s)) old new
-saving-kept h s bytes line old new is back small k added = record {
-  line = k.line;
-  of = subst (λ bs. IsLineOf (entry_json (KeptSaving bs)) k.line) is k.of;
-  true = (subst (λ bs. IsKeepable (KeptSaving bs)) is small, subst (λ bs. restored bs ≡ Ok (saving_of h s)) is back);
-  added = subst (Appends old new) k.added added;
-}
+-- what was done of a line, which was made or not
+abbrev pub IsLineSaid : (outcome : Result ⊤ AllocError) (r : Result ⊤ FolderError) (old new : Option (List ℕ)) (line : List ℕ) → Type 0
+IsLineSaid outcome r old new line = OnOk r ((outcome ≡ Ok tt) × Appends old new line) × IfErr r (IsLineUnkept outcome old new line)
 
-state-kept : {F J : Type 0} (does : F → FolderAccess → F → Type 0) (contents : J → Option (List ℕ)) (from : KeptFolder F J) (journal : J) (h : Host) (s : MachineState) (bytes line : List ℕ)
-    (outcome : Result ⊤ AllocError) (r : Result ⊤ FolderError) → bytes ≡ bytes_of_saving (saving_of h s) → restored bytes ≡ Ok (saving_of h s) →
-    IsKeepable (KeptSaving bytes) → OnOk outcome (IsLineAdded (entry_json (KeptSaving bytes)) [] line) →
-    OnOk r ((outcome ≡ Ok tt) × Appends (contents from.journal) (contents journal) line) →
-    KeepsOpened (IsKeptAccess does contents) from (record { folder = from.folder; journal = journal }) h (Some s) (write_answer r)
-state-kept does contents from journal h s bytes line outcome (Ok done) is back small k w =
-    (refl, saving-kept h s bytes line (contents from.journal) (contents journal) is back small (subst (λ o. OnOk o (IsLineAdded (entry_json (KeptSaving bytes)) [] line)) w.0 k) w.1)
-state-kept does contents from journal h s bytes line outcome (Err e) is back small k w = refl
+made-line : {P : Type 0} (outcome : Result ⊤ AllocError) → outcome ≡ Ok tt → OnOk outcome P → P
+made-line {P} outcome is k = subst (λ (o : Result ⊤ AllocError). OnOk o P) is k
+
+begun-change : (change : HostChange) (line : List ℕ) (outcome : Result ⊤ AllocError) (old new : Option (List ℕ)) → IsChangeTrue change →
+    OnOk outcome (IsLineAdded (entry_json (change_entry change)) [] line) → (outcome ≡ Ok tt) × AppendsFirst old new line → IsChangeBegun change old new
+begun-change change line outcome old new sure k (is, first) =
+    let made = made-line outcome is k in
+    record { line = made.line; of = made.of; true = sure; added = subst (AppendsFirst old new) made.added first }
+
+unkept-change : (change : HostChange) (why : FolderError) (line : List ℕ) (outcome : Result ⊤ AllocError) (old new : Option (List ℕ)) → IsChangeTrue change →
+    OnOk outcome (IsLineAdded (entry_json (change_entry change)) [] line) → IsLineUnkept outcome old new line why → IsChangeUnkept change why old new
+unkept-change change fault.OutOfMemory line outcome old new sure k u = u
+unkept-change change fault.Absent line outcome old new sure k u = begun-change change line outcome old new sure k u
+unkept-change change fault.Busy line outcome old new sure k u = begun-change change line outcome old new sure k u
+unkept-change change fault.Fault line outcome old new sure k u = begun-change change line outcome old new sure k u
+
+-- a change was kept as its line was written
+pub change-said : {F J : Type 0} (does : F → FolderAccess → F → Type 0) (contents : J → Option (List ℕ)) (from : KeptFolder F J) (journal : J) (change : HostChange) (line : List ℕ)
+    (outcome : Result ⊤ AllocError) (r : Result ⊤ FolderError) → IsChangeTrue change → OnOk outcome (IsLineAdded (entry_json (change_entry change)) [] line) →
+    IsLineSaid outcome r (contents from.journal) (contents journal) line →
+    IsKeptAccess does contents from (keep_access change (write_answer r)) (record { folder = from.folder; journal = journal })
+change-said does contents from journal change line outcome (Ok done) sure k w =
+    let made = made-line outcome w.0.0 k in
+    (refl, record { line = made.line; of = made.of; true = sure; added = subst (Appends (contents from.journal) (contents journal)) made.added w.0.1 })
+change-said does contents from journal change line outcome (Err why) sure k w =
+    (refl, unkept-change change why line outcome (contents from.journal) (contents journal) sure k w.1)
 
 pub opened-kept : {F J : Type 0} (does : F → FolderAccess → F → Type 0) (contents : J → Option (List ℕ)) (from : KeptFolder F J) (journal : J) (h : Host) (id : ℕ) (bytes line : List ℕ)
     (outcome : Result ⊤ AllocError) (r : Result ⊤ FolderError) → IsSlotSaved h id bytes → IsKeepable (KeptSaving bytes) →
-    OnOk outcome (IsLineAdded (entry_json (KeptSaving bytes)) [] line) → OnOk r ((outcome ≡ Ok tt) × Appends (contents from.journal) (contents journal) line) →
+    OnOk outcome (IsLineAdded (entry_json (KeptSaving bytes)) [] line) → IsLineSaid outcome r (contents from.journal) (contents journal) line →
     KeepsOpened (IsKeptAccess does contents) from (record { folder = from.folder; journal = journal }) h (slot_at id h.slots) (write_answer r)
 opened-kept does contents from journal h id bytes line outcome r saved small k w =
+    let saving = saving_of h saved.state in
     subst (λ o. KeepsOpened (IsKeptAccess does contents) from (record { folder = from.folder; journal = journal }) h o (write_answer r)) (sym saved.there)
-    (state-kept does contents from journal h saved.state bytes line outcome r saved.saving.saved saved.saving.restores small k w)
+    (change-said does contents from journal (AsSaved saving) line outcome r
+    (subst (λ bs. IsKeepable (KeptSaving bs)) saved.saving.saved small, subst (λ bs. restored bs ≡ Ok saving) saved.saving.saved saved.saving.restores)
+    (subst (λ bs. OnOk outcome (IsLineAdded (entry_json (KeptSaving bs)) [] line)) saved.saving.saved k) w)
 
 -- ---- what is asked of the folder before a change is kept
 
 -- an access that is no keeping
-abbrev IsQuiet : FolderAccess → Type 0
+abbrev pub IsQuiet : FolderAccess → Type 0
 IsQuiet (Kept change) = ⊥
-IsQuiet (Unkept change) = ⊥
+IsQuiet (Unkept change why) = ⊥
 IsQuiet _ = ⊤
 
-abbrev AreQuiet : List FolderAccess → Type 0
+abbrev pub AreQuiet : List FolderAccess → Type 0
 AreQuiet [] = ⊤
 AreQuiet (a ∷ log) = IsQuiet a × AreQuiet log
 
@@ -177,12 +193,12 @@ quiet-request h answers made (Peek slot address length) = tt
 quiet-request h answers made (Fork slot) = tt
 quiet-request h answers made (Turn slot keys steps) = tt
 
-quiet-event : (e : WireEvent) (h : Host) (r : Result WireAsked AskedFault) → AreQuiet (request_accesses e h r)
+pub quiet-event : (e : WireEvent) (h : Host) (r : Result WireAsked AskedFault) → AreQuiet (request_accesses e h r)
 quiet-event e h (Ok r) = quiet-request h e.answers e.made r
 quiet-event e h (Err fault) = tt
 
 -- such an access leaves the journal
-quiet-step : {F J : Type 0} (does : F → FolderAccess → F → Type 0) (contents : J → Option (List ℕ)) (s : KeptFolder F J) (a : FolderAccess) (t : KeptFolder F J) → IsQuiet a →
+pub quiet-step : {F J : Type 0} (does : F → FolderAccess → F → Type 0) (contents : J → Option (List ℕ)) (s : KeptFolder F J) (a : FolderAccess) (t : KeptFolder F J) → IsQuiet a →
     IsKeptAccess does contents s a t → t.journal ≡ s.journal
 quiet-step does contents s (Gave name bytes) t q k = k.1
 quiet-step does contents s (Unread name e) t q k = k.1
@@ -192,28 +208,28 @@ quiet-step does contents s (Wrote files) t q k = k.1
 quiet-step does contents s (Unwritten files e) t q k = k.1
 quiet-step does contents s Released t q k = k.1
 quiet-step does contents s (Kept change) t q k = absurd q
-quiet-step does contents s (Unkept change) t q k = absurd q
+quiet-step does contents s (Unkept change why) t q k = absurd q
 
 -- ---- events
 
 -- the journal stays, or a change was kept
-abbrev IsKeptAsSaid : Option HostChange → (old new : Option (List ℕ)) → Type 0
+abbrev pub IsKeptAsSaid : Option HostChange → (old new : Option (List ℕ)) → Type 0
 IsKeptAsSaid None old new = new ≡ old
 IsKeptAsSaid (Some change) old new = IsChangeKept change old new
 
-keep-step : {F J : Type 0} (does : F → FolderAccess → F → Type 0) (contents : J → Option (List ℕ)) (from to : KeptFolder F J) (unkept : Bool) (o : Option HostChange) → unkept ≡ false →
+keep-step : {F J : Type 0} (does : F → FolderAccess → F → Type 0) (contents : J → Option (List ℕ)) (from to : KeptFolder F J) (unkept : Option FolderError) (o : Option HostChange) → unkept ≡ None →
     AccessesLead (IsKeptAccess does contents) from to (keep_accesses unkept o) → IsKeptAsSaid o (contents from.journal) (contents to.journal)
 keep-step does contents from to unkept None e k = ap (λ x. contents x.journal) (sym k)
-keep-step {F} {J} does contents from to true (Some change) e k = absurd cc
-keep-step {F} {J} does contents from to false (Some change) e k = subst (λ (x : KeptFolder F J). IsChangeKept change (contents from.journal) (contents x.journal)) k.2 k.1.1
+keep-step {F} {J} does contents from to (Some why) (Some change) e k = absurd cc
+keep-step {F} {J} does contents from to None (Some change) e k = subst (λ (x : KeptFolder F J). IsChangeKept change (contents from.journal) (contents x.journal)) k.2 k.1.1
 
-event-step : {F J : Type 0} (does : F → FolderAccess → F → Type 0) (contents : J → Option (List ℕ)) (from to : KeptFolder F J) (log : List FolderAccess) (unkept : Bool) (o : Option HostChange) →
-    unkept ≡ false → AreQuiet log → AccessesLead (IsKeptAccess does contents) from to (log ++ keep_accesses unkept o) → IsKeptAsSaid o (contents from.journal) (contents to.journal)
+pub event-step : {F J : Type 0} (does : F → FolderAccess → F → Type 0) (contents : J → Option (List ℕ)) (from to : KeptFolder F J) (log : List FolderAccess) (unkept : Option FolderError) (o : Option HostChange) →
+    unkept ≡ None → AreQuiet log → AccessesLead (IsKeptAccess does contents) from to (log ++ keep_accesses unkept o) → IsKeptAsSaid o (contents from.journal) (contents to.journal)
 event-step does contents from to [] unkept o e q k = keep-step does contents from to unkept o e k
 event-step {F} {J} does contents from to (a ∷ log) unkept o e q k =
     subst (λ (x : J). IsKeptAsSaid o (contents x) (contents to.journal)) (quiet-step does contents from a k.0 q.0 k.1) (event-step does contents k.0 to log unkept o e q.1 k.2)
 
-appends-none : (known : Option (List ℕ)) → Appends known known []
+pub appends-none : (known : Option (List ℕ)) → Appends known known []
 appends-none None = tt
 appends-none (Some xs) = sym (append-nil xs)
 

@@ -13,10 +13,14 @@ pub mod RefusedLemmas
 pub mod ReadLemmas
 pub mod OutputLemmas
 pub mod DiskLemmas
+pub mod WriteLemmas
 pub mod KeptLemmas
 pub mod ResumeLemmas
 pub mod KeepableLemmas
+pub mod HeardLemmas
+pub mod BegunLemmas
 pub mod ResumedLaws
 pub mod AgainLemmas
 pub mod RemakeLaws
 pub mod CompactLemmas
+pub mod GenerationLaws

@@ -1,5 +1,5 @@
 -- A line, by its value.
-use Rattle.std.proofs.Common.{◌≡◌, ◌≤◌, ◌||◌, ℕ, List, [], ◌∷◌, length, map, take, false, Option, Some, None, refl, sym, subst, ap, ◌∙◌}
+use Rattle.std.proofs.Common.{◌≡◌, ◌<◌, ◌≤◌, ◌||◌, ℕ, List, [], ◌∷◌, length, map, take, false, Option, Some, None, refl, sym, subst, ap, ◌∙◌}
 use Rattle.std.specs.Prelude.{IsUtf8, Result, Ok, Err}
 use Rattle.serde_json.specs.Data.{Data, Items}
 use Rattle.serde_json.specs.Read.{read}
@@ -12,7 +12,7 @@ use Rattle.cpm_protocol.specs.Replies.{Wrong, many_json, reply_json}
 use Rattle.cpm_protocol.specs.Requests.{AskedFault, AskedTag, IsLineRefusal, NumberTag, TextTag, LineAsked, Many, One, WireAsked, line_asked}
 use Rattle.cpm_protocol.specs.declared.fault.LineError.{LineError}
 use Rattle.cpm_protocol.specs.declared.fault.LineError.TheVariants as unread
-use Rattle.cpm_serve.specs.Lines.{Asks, Broken, Unread, IsLineCut, IsLineServed, WireEvent, event_reply, event_served, host_served, line_reply, most_line, only_reply, replies_served}
+use Rattle.cpm_serve.specs.Lines.{Asks, Broken, Long, Unread, IsLineCut, IsLineServed, WireEvent, event_reply, event_served, host_served, line_reply, most_line, only_reply, replies_served}
 use Rattle.cpm_serve.specs.Lines.{tag_shown, values_asked, values_of}
 use Rattle.cpm_serve.specs.Parts.{AreServed, AreServedUpTo, IsEventCut, IsEventServed, IsTextServed, IsValueCut, IsValueServed, unread_answer}
 
@@ -133,6 +133,9 @@ cut-line L line d old new few is k = record { heard = Asks d k.events; is = (few
 pub unread-served : (L : List WireEvent → Type 0) → L [] → (line : List ℕ) (error : LineError) (text : List ℕ) (old : Host) → length line ≤ most_line → IsLineRefusal line error → text ≡ compact_text (reply_json None (unread_answer error)) → IsLineServed L line old old text
 unread-served L none line (unread.NoJson at) text old few is e = record { heard = Broken at; is = (few, is); host = refl; reply = e; leads = none }
 unread-served L none line unread.OutOfMemory text old few is e = record { heard = Unread; is = (few, is); host = refl; reply = e; leads = none }
+
+pub long-cut : (L : List WireEvent → Type 0) → L [] → (line : List ℕ) (old : Host) → most_line < length line → IsLineCut L line old old
+long-cut L none line old many = record { heard = Long; is = many; count = 0; host = refl; leads = none }
 
 pub unread-cut : (L : List WireEvent → Type 0) → L [] → (line : List ℕ) (error : LineError) (old : Host) → length line ≤ most_line → IsLineRefusal line error → IsLineCut L line old old
 unread-cut L none line (unread.NoJson at) old few is = record { heard = Broken at; is = (few, is); count = 0; host = refl; leads = none }

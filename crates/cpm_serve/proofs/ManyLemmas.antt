@@ -1,5 +1,5 @@
 -- Requests, one after another.
-use Rattle.std.proofs.Common.{◌≡◌, ◌<◌, ◌+◌, ℕ, List, [], ◌∷◌, ◌++◌, length, map, take, drop, get_or, true, false, refl, sym, subst, ap, ap₂, ◌∙◌, add-one, append_assoc}
+use Rattle.std.proofs.Common.{◌≡◌, ◌<◌, ◌+◌, ℕ, List, [], ◌∷◌, ◌++◌, length, map, take, drop, get_or, false, None, inl, inr, refl, sym, subst, ap, ap₂, ◌∙◌, add-one, append_assoc}
 use Rattle.std.proofs.lemmas.List.{map-append, take-append-drop}
 use Rattle.std.proofs.Math.Seq.{take-append_seam, take-suc}
 use Rattle.std.specs.Prelude.{IfErr, IfOk, OnErr, Result, Ok, Err}
@@ -7,8 +7,9 @@ use Rattle.serde_json.specs.Data.{Data}
 use Rattle.cpm_slots.specs.Host.{Host}
 use Rattle.cpm_serve.specs.DriveFiles.{no_work}
 use Rattle.cpm_serve.specs.Folder.{FolderAccess}
-use Rattle.cpm_serve.specs.Lines.{AreKept, CutEventsLead, EventsLead, IsEndedBy, IsLastUnkept, KeptEventsLead, WireEvent, event_reply, event_served, host_served, replies_served}
-use Rattle.cpm_serve.specs.Parts.{AreServed, AreServedUpTo, IsEventCut, IsEventServed, event_of}
+use Rattle.cpm_serve.specs.Lines.{AreKept, CutEventsLead, EventsLead, IsEndedBy, IsEndedUnkept, IsLastUnkept, KeptEventsLead, WireEvent, event_reply, event_served, host_served, replies_served}
+use Rattle.cpm_serve.specs.Parts.{AreServed, AreServedUpTo, IsEventCut, IsEventServed, IsValueCut, event_of}
+use Rattle.cpm_serve.specs.declared.folder.FolderError.{FolderError}
 use Rattle.cpm_serve.specs.declared.folder.ServeError.{ServeError}
 use Rattle.cpm_serve.specs.declared.folder.ServeError.TheVariants as error
 
@@ -35,18 +36,23 @@ kept-append [] fs a b = b
 kept-append (e ∷ es) fs a b = (a.0, kept-append es fs a.1 b)
 
 -- it is not of one more
-last-append : (es : List WireEvent) (e : WireEvent) → AreKept es → e.unkept ≡ true → IsLastUnkept (es ++ e ∷ [])
-last-append [] e a is = is
-last-append (x ∷ []) e a is = (a.0, is)
-last-append (x ∷ y ∷ es) e a is = (a.0, last-append (y ∷ es) e a.1 is)
+pub last-append : (why : FolderError) (es fs : List WireEvent) → AreKept es → IsLastUnkept why fs → IsLastUnkept why (es ++ fs)
+last-append why [] fs a b = b
+last-append why (x ∷ []) [] a b = absurd b
+last-append why (x ∷ []) (f ∷ fs) a b = (a.0, b)
+last-append why (x ∷ y ∷ es) fs a b = (a.0, last-append why (y ∷ es) fs a.1 b)
+
+unkept-append : (by : ServeError) (es fs : List WireEvent) → AreKept es → IsEndedUnkept by fs → IsEndedUnkept by (es ++ fs)
+unkept-append by es fs a (why, is, b) = (why, is, last-append why es fs a b)
 
 ended-append : (by : ServeError) (es : List WireEvent) (e : WireEvent) → AreKept es → IsEndedBy by (e ∷ []) → IsEndedBy by (es ++ e ∷ [])
-ended-append error.OutOfMemory es e a b = kept-append es (e ∷ []) a b
-ended-append error.Unkept es e a b = last-append es e a b
+ended-append error.OutOfMemory es e a (inl b) = inl (kept-append es (e ∷ []) a b)
+ended-append error.OutOfMemory es e a (inr b) = inr (unkept-append error.OutOfMemory es (e ∷ []) a b)
+ended-append error.Unkept es e a b = unkept-append error.Unkept es (e ∷ []) a b
 
 -- events that no memory was refused to
 abbrev plain : List Data → List WireEvent
-plain ds = map (λ d. event_of d false [] no_work false) ds
+plain ds = map (λ d. event_of d false [] no_work None) ds
 
 plain-values : (ds : List Data) → map value_of (plain ds) ≡ ds
 plain-values [] = refl
@@ -111,6 +117,15 @@ all-values view xs i x within is =
     ∙ append_assoc (map view (take i xs)) (view x ∷ []) (map view (drop (i + 1) xs))
 
 -- ---- outcomes
+
+-- what was served to its end, where there is no memory for the reply
+pub lacked-event : {F : Type 0} (does : F → FolderAccess → F → Type 0) (from to : F) (d : Data) (old new : Host) → IsEventCut (KeptEventsLead does old from to) d old new →
+    IsEventCut (CutEventsLead error.OutOfMemory does old from to) d old new
+lacked-event does from to d old new k = record { event = k.event; value = k.value; host = k.host; leads = (k.leads.0, inl k.leads.1) }
+
+pub lacked-value : {F : Type 0} (does : F → FolderAccess → F → Type 0) (from to : F) (d : Data) (old new : Host) → IsValueCut (KeptEventsLead does old from to) d old new →
+    IsValueCut (CutEventsLead error.OutOfMemory does old from to) d old new
+lacked-value does from to d old new k = record { events = k.events; asked = k.asked; count = k.count; host = k.host; leads = (k.leads.0, inl k.leads.1) }
 
 -- what is so where memory is lacking, where nothing else is
 pub lacked-cut : {A : Type 0} (r : Result A ServeError) (P : ServeError → Type 0) → IfErr r (λ e. e ≡ error.OutOfMemory) → P error.OutOfMemory → IfErr r P

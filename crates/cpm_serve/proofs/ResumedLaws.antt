@@ -1,5 +1,5 @@
 -- What a served host has kept is done again as that host.
-use Rattle.std.proofs.Common.{◌≡◌, ◌≤◌, ◌-◌, ◌+◌, ℕ, List, [], ◌∷◌, ◌++◌, length, map, take, Option, Some, None, option_map, option_and_then, refl, sym, subst, ap, ◌∙◌, arith, append_assoc}
+use Rattle.std.proofs.Common.{◌≡◌, ◌≤◌, ◌-◌, ◌+◌, ℕ, zero, suc, List, [], ◌∷◌, ◌++◌, length, map, take, Option, Some, None, option_map, option_and_then, refl, sym, subst, ap, ◌∙◌, arith, append_assoc}
 use Rattle.std.proofs.lemmas.List.{append_cancel_left}
 use Rattle.std.proofs.Math.Seq.{take-append-add}
 use Rattle.std.specs.Io.KnownBytes.{Appends}
@@ -12,59 +12,17 @@ use Rattle.cpm_journal.proofs.LineLaws.{ended-line}
 use Rattle.cpm_serve.specs.Folder.{FolderAccess}
 use Rattle.cpm_serve.specs.KeptFolder.{AreChangesKept, IsKeptAccess, changes_of, change_entry}
 use Rattle.cpm_serve.specs.Laws.{events_in}
-use Rattle.cpm_serve.specs.Lines.{AreKept, AreLinesHeard, AreLinesServed, EventsLead, IsLineServed, KeptEventsLead, LineHeard, WireEvent, events_of, host_after_lines, host_served}
+use Rattle.cpm_serve.specs.Lines.{AreLinesServed, host_served}
 use Rattle.cpm_serve.specs.Redone.{redone_all}
-use Rattle.cpm_serve.specs.Resumed.{AreLinesRedone, WireCutOff, WireResumed}
+use Rattle.cpm_serve.specs.Resumed.{AreLinesRedone, IsServedInPart, WireCutOff, WireResumed}
 use Rattle.cpm_serve.specs.declared.kept.KeptFolder.{KeptFolder}
-use Rattle.cpm_serve.proofs.KeepableLemmas.{AreShallow, all-keepable, line-shallow}
+use Rattle.cpm_serve.proofs.BegunLemmas.{AreHeardBegun, ended-begun, heard-begun, shallow-take}
+use Rattle.cpm_serve.proofs.HeardLemmas.{AreHeard, heard-host, lines-heard}
+use Rattle.cpm_serve.proofs.KeepableLemmas.{all-keepable}
 use Rattle.cpm_serve.proofs.KeptLemmas.{kept-lines}
-use Rattle.cpm_serve.proofs.ManyLemmas.{leads-append}
 use Rattle.cpm_serve.proofs.RemakeLaws.{begun-journals-remake, journals-remake}
 use Rattle.cpm_serve.proofs.ResumeLemmas.{read-append, redone-append}
-use Rattle.cpm_serve.proofs.WireLaws.{AllBelow-events, lines-are-events}
-
--- ---- what lines ask
-
-kept-append : (es fs : List WireEvent) → AreKept es → AreKept fs → AreKept (es ++ fs)
-kept-append [] fs p q = q
-kept-append (e ∷ es) fs p q = (p.0, kept-append es fs p.1 q)
-
-shallow-append : (es fs : List WireEvent) → AreShallow es → AreShallow fs → AreShallow (es ++ fs)
-shallow-append [] fs p q = q
-shallow-append (e ∷ es) fs p q = (p.0, shallow-append es fs p.1 q)
-
--- lines that were served are so many events, whose changes are kept
-record AreHeard {F : Type 0} (does : F → FolderAccess → F → Type 0) (lines : List (List ℕ)) (old new : Host) (from to : F) : Type 0 where
-  heard : List LineHeard
-  are : AreLinesHeard lines heard
-  host : new ≡ host_after_lines old heard
-  leads : EventsLead does old from to (events_in heard)
-  kept : AreKept (events_in heard)
-  shallow : AreShallow (events_in heard)
-
-heard-one : {F : Type 0} (does : F → FolderAccess → F → Type 0) (line text : List ℕ) (lines : List (List ℕ)) (old h new : Host) (from mid to : F) →
-    IsLineServed (KeptEventsLead does old from mid) line old h text → AreHeard does lines h new mid to → AreHeard does (line ∷ lines) old new from to
-heard-one does line text lines old h new from mid to one k = record {
-  heard = one.heard ∷ k.heard;
-  are = (one.is, k.are);
-  host = k.host ∙ ap (λ (g : Host). host_after_lines g k.heard) one.host;
-  leads = leads-append does old from mid to (events_of one.heard) (events_in k.heard) one.leads.0
-      (subst (λ (g : Host). EventsLead does g mid to (events_in k.heard)) one.host k.leads);
-  kept = kept-append (events_of one.heard) (events_in k.heard) one.leads.1 k.kept;
-  shallow = shallow-append (events_of one.heard) (events_in k.heard) (line-shallow line one.heard one.is) k.shallow;
-}
-
-lines-heard : {F : Type 0} (does : F → FolderAccess → F → Type 0) (lines : List (List ℕ)) (old new : Host) (from to : F) (texts : List (List ℕ)) →
-    AreLinesServed does lines old new from to texts → AreHeard does lines old new from to
-lines-heard does [] old new from to [] e = record { heard = []; are = tt; host = e.0; leads = e.1; kept = tt; shallow = tt }
-lines-heard does [] old new from to (text ∷ texts) e = absurd e
-lines-heard does (line ∷ lines) old new from to [] e = absurd e
-lines-heard does (line ∷ lines) old new from to (text ∷ texts) e =
-    heard-one does line text lines old e.0 new from e.1 to e.2 (lines-heard does lines e.0 new e.1 to texts e.3)
-
-heard-host : {F : Type 0} (does : F → FolderAccess → F → Type 0) (lines : List (List ℕ)) (old new : Host) (from to : F) (k : AreHeard does lines old new from to) →
-    new ≡ host_served old (events_in k.heard)
-heard-host does lines old new from to k = k.host ∙ lines-are-events old k.heard
+use Rattle.cpm_serve.proofs.WireLaws.{AllBelow-events}
 
 -- ---- what stands in the journal
 
@@ -84,7 +42,7 @@ lines-before (e ∷ es) (line ∷ lines) x h =
 lines-before [] (line ∷ lines) x h = absurd h
 lines-before (e ∷ es) [] x h = absurd h
 
-some-same : (x y : List ℕ) → Some x ≡ Some y → x ≡ y
+pub some-same : (x y : List ℕ) → Some x ≡ Some y → x ≡ y
 some-same x y e = cc
 
 -- ---- the laws
@@ -135,36 +93,73 @@ cut-redone old mid between first others lines whole behind of read done read_beh
   left = refl;
 }
 
-taken-behind : (count : ℕ) (xs ys : List ℕ) → length xs ≤ count → take count (xs ++ ys) ≡ xs ++ take (count - length xs) ys
+pub taken-behind : (count : ℕ) (xs ys : List ℕ) → length xs ≤ count → take count (xs ++ ys) ≡ xs ++ take (count - length xs) ys
 taken-behind count xs ys h =
     let e : count ≡ length xs + (count - length xs) = omega arith in
     ap (λ n. take n (xs ++ ys)) e ∙ take-append-add xs ys (count - length xs)
 
+-- the first of the first
+taken-first : {A : Type 0} (m n : ℕ) (xs : List A) → (k : ℕ) × (k ≤ n) × (take m (take n xs) ≡ take k xs)
+taken-first zero n xs = (zero, omega arith, refl)
+taken-first (suc m) zero xs = (zero, omega arith, refl)
+taken-first (suc m) (suc n) [] = (zero, omega arith, refl)
+taken-first (suc m) (suc n) (x ∷ xs) = let (k, within, same) = taken-first m n xs in (suc k, omega (arith, within), ap (λ ys. x ∷ ys) same)
+
+-- what stands behind two stretches, the second of which is cut off, is so many bytes of its lines
+record IsCutAt (count : ℕ) (before after : List ℕ) (more : ℕ) : Type 0 where
+  rest : ℕ
+  whole : take count (before ++ take more after) ≡ before ++ take rest after
+
+cut-at : (count : ℕ) (before after : List ℕ) (more : ℕ) → length before ≤ count → IsCutAt count before after more
+cut-at count before after more enough =
+    let (k, within, same) = taken-first (count - length before) more after in
+    record { rest = k; whole = taken-behind count before (take more after) enough ∙ ap (λ bs. before ++ bs) same }
+
+-- of what lines ask the first was done again
+part-served : {F : Type 0} (does : F → FolderAccess → F → Type 0) (lines : List (List ℕ)) (old new : Host) (from to : F) (b : AreHeardBegun does lines old new from to) (m n : ℕ) →
+    IsServedInPart does lines old (host_served old (take m (take n (take b.asked (events_in b.heard))))) new from to
+part-served does lines old new from to b m n =
+    let events = events_in b.heard in
+    let (i, small, first) = taken-first n b.asked events in
+    let (j, smaller, second) = taken-first m i events in
+    record {
+      heard = b.heard;
+      are = b.are;
+      asked = b.asked;
+      leads = b.leads;
+      whole = b.whole;
+      count = j;
+      within = omega (arith, small, smaller);
+      part = ap (λ es. host_served old (take m es)) first ∙ ap (host_served old) second;
+    }
+
 pub wire-cut-off : {F J : Type 0} (does : F → FolderAccess → F → Type 0) (contents : J → Option (List ℕ)) → WireCutOff does contents
-wire-cut-off does contents first others old mid new from between to texts more text kept count served served_more below is is_kept enough =
+wire-cut-off does contents first others old mid new from between to texts text kept count served others_begun below is is_kept enough =
     let a = left-by does contents first old mid from between texts served in
-    let b = left-by does contents others mid new between to more served_more in
+    let b = heard-begun (IsKeptAccess does contents) others mid new between to others_begun in
+    let events = take b.asked (events_in b.heard) in
+    let (n, more) = ended-begun does contents mid between to events b.leads b.ended in
     let before = lines_text a.kept.lines in
-    let after = lines_text b.kept.lines in
+    let after = lines_text more.lines in
     let entries = map change_entry (changes_of old (events_in a.heard.heard)) in
-    let events = events_in b.heard.heard in
     let begun = appended (contents from.journal) (contents between.journal) text before is a.kept.added in
     let same : kept ≡ before = append_cancel_left text kept before (some-same (text ++ kept) (text ++ before) (sym is_kept ∙ begun)) in
     let left : length before ≤ count = subst (λ (bs : List ℕ). length bs ≤ count) same enough in
-    let rest = count - length before in
-    let cut = torn-journals-back (map change_entry (changes_of mid events)) b.kept.lines rest b.keepable b.kept.of in
+    let at : IsCutAt count before after more.count = cut-at count before after more.count left in
+    let keepable = all-keepable mid (take n events) (shallow-take n events (shallow-take b.asked (events_in b.heard) b.shallow)) more.sure in
+    let cut = torn-journals-back (map change_entry (changes_of mid (take n events))) more.lines at.rest keepable more.of in
     let middle : AllBelow mid.openings mid.slots =
     subst (λ (h : Host). AllBelow h.openings h.slots) (sym (heard-host (IsKeptAccess does contents) first old mid from between a.heard)) (AllBelow-events old (events_in a.heard.heard) below) in
-    let some = begun-journals-remake mid events cut.kept middle b.kept.true in
-    let whole = take count (before ++ after) in (
-      before ++ after,
-      appended (contents between.journal) (contents to.journal) (text ++ before) after begun b.kept.added ∙ ap Some (append_assoc text before after),
+    let some = begun-journals-remake mid (take n events) cut.kept middle more.sure in
+    let whole = take count (before ++ take more.count after) in (
+      before ++ take more.count after,
+      appended (contents between.journal) (contents to.journal) (text ++ before) (take more.count after) begun more.added ∙ ap Some (append_assoc text before (take more.count after)),
       record {
-        between = host_served mid (take some.0 events);
-        part = record { heard = b.heard.heard; are = b.heard.are; whole = b.heard.host; count = some.0; part = refl };
+        between = host_served mid (take some.0 (take n events));
+        part = part-served (IsKeptAccess does contents) others mid new between to b some.0 n;
         torn = length (line_torn [] whole);
-        redone = cut-redone old mid (host_served mid (take some.0 events)) entries (take cut.kept (map change_entry (changes_of mid events))) a.kept.lines whole (take rest after)
+        redone = cut-redone old mid (host_served mid (take some.0 (take n events))) entries (take cut.kept (map change_entry (changes_of mid (take n events)))) a.kept.lines whole (take at.rest after)
             a.kept.of (journals-back entries a.kept.lines a.keepable a.kept.of).read (left-redone does contents first old mid from between a below)
-            (ap entries_read cut.whole ∙ cut.read) some.1 (taken-behind count before after left);
+            (ap entries_read cut.whole ∙ cut.read) some.1 at.whole;
       },
     )

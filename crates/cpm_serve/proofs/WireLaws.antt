@@ -163,9 +163,20 @@ pub AllBelow-events : (h : Host) (events : List WireEvent) → AllBelow h.openin
 AllBelow-events h [] b = b
 AllBelow-events h (e ∷ es) b = AllBelow-events (event_served h e).host es (AllBelow-event h e b)
 
-system-served : (h : Host) (events : List WireEvent) → (host_served h events).system ≡ h.system
+pub system-served : (h : Host) (events : List WireEvent) → (host_served h events).system ≡ h.system
 system-served h [] = refl
 system-served h (e ∷ es) = system-served (event_served h e).host es ∙ event-system h e
+
+asks-frames : (id : ℕ) (asks : List Ask) (h : Host) → (after_asks id asks h).frames ≡ h.frames
+asks-frames id [] h = refl
+asks-frames id (x ∷ xs) h = asks-frames id xs (after_ask h id x)
+
+event-frames : (h : Host) (e : WireEvent) → (event_served h e).host.frames ≡ h.frames
+event-frames h e = event-is h e (request_asked e.value) (λ g. g.frames ≡ h.frames) refl (λ s. refl) (λ id asks. asks-frames id asks h)
+
+pub frames-served : (h : Host) (events : List WireEvent) → (host_served h events).frames ≡ h.frames
+frames-served h [] = refl
+frames-served h (e ∷ es) = frames-served (event_served h e).host es ∙ event-frames h e
 
 -- an opening that is replied a number is of known disks, and adds its slot
 opened-by_fault : (h : Host) (fault : Option OpenError) (s : MachineState) (id : ℕ) (behind : List WireEvent) → AllBelow h.openings h.slots → (added_if fault h s).reply ≡ Opened id →

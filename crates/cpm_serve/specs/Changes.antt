@@ -1,5 +1,5 @@
 -- What of a request that was done is kept in a journal. All of it is own: docs/JOURNAL.md.
-use Rattle.std.specs.Prelude.{◌||◌, ℕ, Bool, true, false, is_none, List, [], ◌∷◌, Option, Some, None, option_map, if◌then◌else◌}
+use Rattle.std.specs.Prelude.{⊤, ◌||◌, ℕ, Bool, true, false, is_none, List, [], ◌∷◌, Option, Some, None, option_map, Result, Ok, Err, if◌then◌else◌}
 use Rattle.serde_json.specs.Data.{Data}
 use Rattle.cpm_slots.specs.Host.{Host, saving_of, slot_at}
 use Rattle.cpm_protocol.specs.Replies.{Answered, Opened, Refused, Wrong}
@@ -7,6 +7,10 @@ use Rattle.cpm_protocol.specs.Requests.{FourNames, WireAsked, Key, Grant, Take, 
 use Rattle.cpm_serve.specs.Drives.{disk_named}
 use Rattle.cpm_serve.specs.Folder.{FolderAccess, HostChange, AsAsked, AsClosed, AsSaved, Kept, Unkept}
 use Rattle.cpm_serve.specs.Served.{Served}
+use Rattle.cpm_serve.specs.declared.folder.FolderError.{FolderError}
+use Rattle.cpm_serve.specs.declared.folder.FolderError.TheVariants as fault
+use Rattle.cpm_serve.specs.declared.folder.ServeError.{ServeError}
+use Rattle.cpm_serve.specs.declared.folder.ServeError.TheVariants as error
 
 -- whether a name is that of a file: a blank disk is in none
 abbrev pub is_in_file : Option (List ℕ) → Bool
@@ -43,7 +47,21 @@ is_refusal reply = false
 abbrev pub kept_change : Data → WireAsked → Served → Option HostChange
 kept_change d r x = if is_refusal x.reply then None else change_done d r x.host x.reply
 
--- how it is kept; `unkept` says that it can't be
-abbrev pub keep_accesses : (unkept : Bool) → Option HostChange → List FolderAccess
+-- how it is kept; `unkept` says why it can't be
+abbrev pub kept_unless : (unkept : Option FolderError) → HostChange → FolderAccess
+kept_unless None change = Kept change
+kept_unless (Some why) change = Unkept change why
+
+abbrev pub keep_accesses : (unkept : Option FolderError) → Option HostChange → List FolderAccess
 keep_accesses unkept None = []
-keep_accesses unkept (Some change) = (if unkept then Unkept change else Kept change) ∷ []
+keep_accesses unkept (Some change) = kept_unless unkept change ∷ []
+
+-- why a folder did not keep a change, as the code has it
+abbrev pub unkept_by : Result ⊤ FolderError → Option FolderError
+unkept_by (Ok done) = None
+unkept_by (Err why) = Some why
+
+-- a line whose change is not kept ends so
+abbrev pub unkept_error : FolderError → ServeError
+unkept_error fault.OutOfMemory = error.OutOfMemory
+unkept_error why = error.Unkept

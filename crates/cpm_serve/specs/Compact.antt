@@ -1,4 +1,4 @@
--- The shortest journal of a host. All of it is own: docs/JOURNAL.md.
+-- A journal of a host's savings. All of it is own: docs/JOURNAL.md.
 use Rattle.std.specs.Prelude.{◌≡◌, ◌≤◌, ℕ, List, [], ◌∷◌, ◌++◌, map, Option, Some}
 use Rattle.std.specs.Io.KnownBytes.{Appends}
 use Rattle.std.specs.List.{AllByRecursion}

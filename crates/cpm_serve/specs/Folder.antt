@@ -34,7 +34,7 @@ pub data FolderAccess : Type 0 where
   Unwritten : (files : List NamedBytes) (fault : FolderError) → FolderAccess
   Released : FolderAccess
   Kept : (change : HostChange) → FolderAccess
-  Unkept : (change : HostChange) → FolderAccess
+  Unkept : (change : HostChange) (fault : FolderError) → FolderAccess
 
 -- ---- accesses by their answers; an answer to another question counts as a fault
 
@@ -54,9 +54,9 @@ write_access files Stored = Wrote files
 write_access files (Failed e) = Unwritten files e
 
 abbrev pub keep_access : HostChange → FolderAnswer → FolderAccess
-keep_access change (Given bytes) = Unkept change
+keep_access change (Given bytes) = Unkept change error.Fault
 keep_access change Stored = Kept change
-keep_access change (Failed e) = Unkept change
+keep_access change (Failed e) = Unkept change e
 
 -- a session is kept where it is open
 abbrev pub KeepsOpened : {F : Type 0} → (F → FolderAccess → F → Type 0) → (from to : F) → Host → Option MachineState → FolderAnswer → Type 0

@@ -1,5 +1,6 @@
 -- A folder with a journal. All of it is own: docs/JOURNAL.md.
-use Rattle.std.specs.Prelude.{⊤, ◌≡◌, ℕ, List, [], ◌∷◌, ◌++◌, map, Option, Some, None, Ok}
+use Rattle.std.specs.Prelude.{⊤, ◌≡◌, ℕ, List, [], ◌∷◌, ◌++◌, map, take, Option, Some, None, Result, Ok}
+use Rattle.std.specs.declared.alloc.AllocError.{AllocError}
 use Rattle.std.specs.Io.KnownBytes.{Appends}
 use Rattle.cpm_machine.specs.Saving.{bytes_of_saving, restored}
 use Rattle.cpm_slots.specs.Host.{Host}
@@ -7,6 +8,8 @@ use Rattle.cpm_journal.specs.Entries.{AreLinesOf, IsKeepable, IsLineOf, KeptEntr
 use Rattle.cpm_journal.specs.Lines.{lines_text}
 use Rattle.cpm_serve.specs.Folder.{FolderAccess, HostChange, AsAsked, AsClosed, AsSaved, Kept, Unkept}
 use Rattle.cpm_serve.specs.Lines.{AreKept, EventsLead, WireEvent, event_change, event_served}
+use Rattle.cpm_serve.specs.declared.folder.FolderError.{FolderError}
+use Rattle.cpm_serve.specs.declared.folder.FolderError.TheVariants as error
 use Rattle.cpm_serve.specs.declared.kept.KeptFolder.{KeptFolder}
 
 -- the entry of a change
@@ -27,11 +30,33 @@ pub record IsChangeKept (change : HostChange) (old new : Option (List ℕ)) : Ty
   pub true : IsChangeTrue change
   pub added : Appends old new (line ++ 0x0A ∷ [])
 
+-- some first bytes were added: none of them, or all
+pub record AppendsFirst (old new : Option (List ℕ)) (bytes : List ℕ) : Type 0 where
+  pub count : ℕ
+  pub added : Appends old new (take count bytes)
+
+-- a change was not kept, since its line was not written to its end: a beginning of it was added, which may be nothing or all of it
+pub record IsChangeBegun (change : HostChange) (old new : Option (List ℕ)) : Type 0 where
+  pub line : List ℕ
+  pub of : IsLineOf (entry_json (change_entry change)) line
+  pub true : IsChangeTrue change
+  pub added : AppendsFirst old new (line ++ 0x0A ∷ [])
+
+-- or there was no memory for its line: nothing was added
+abbrev pub IsChangeUnkept : HostChange → FolderError → (old new : Option (List ℕ)) → Type 0
+IsChangeUnkept change error.OutOfMemory old new = new ≡ old
+IsChangeUnkept change why old new = IsChangeBegun change old new
+
 -- an access to a folder with a journal: a change goes into that, and all else to the folder
 abbrev pub IsKeptAccess : {F J : Type 0} → (F → FolderAccess → F → Type 0) → (J → Option (List ℕ)) → KeptFolder F J → FolderAccess → KeptFolder F J → Type 0
 IsKeptAccess does contents s (Kept change) t = (t.folder ≡ s.folder) × IsChangeKept change (contents s.journal) (contents t.journal)
-IsKeptAccess does contents s (Unkept change) t = t.folder ≡ s.folder
+IsKeptAccess does contents s (Unkept change why) t = (t.folder ≡ s.folder) × IsChangeUnkept change why (contents s.journal) (contents t.journal)
 IsKeptAccess does contents s a t = does s.folder a t.folder × (t.journal ≡ s.journal)
+
+-- why the code did not keep a line, which was made or not: there was no memory for it, and nothing was added; or it was made, and a beginning of it was added
+abbrev pub IsLineUnkept : Result ⊤ AllocError → (old new : Option (List ℕ)) → (line : List ℕ) → FolderError → Type 0
+IsLineUnkept outcome old new line error.OutOfMemory = new ≡ old
+IsLineUnkept outcome old new line why = (outcome ≡ Ok tt) × AppendsFirst old new line
 
 -- ---- of many events
 

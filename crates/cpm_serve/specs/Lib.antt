@@ -19,3 +19,4 @@ pub mod KeptFolder
 pub mod Redone
 pub mod Resumed
 pub mod Compact
+pub mod Generations

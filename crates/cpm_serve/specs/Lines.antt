@@ -1,5 +1,5 @@
 -- What a line does to a host, and the text of its reply. All of it is own: docs/PROTOCOL.md.
-use Rattle.std.specs.Prelude.{⊤, ◌≡◌, ◌<◌, ◌≤◌, IsUtf8, ℕ, Bool, true, false, List, [], ◌∷◌, ◌++◌, length, map, take, Option, Some, None, Result, Ok, Err}
+use Rattle.std.specs.Prelude.{⊤, ◌≡◌, ◌⊎◌, ◌<◌, ◌≤◌, IsUtf8, ℕ, Bool, true, List, [], ◌∷◌, ◌++◌, length, map, take, Option, Some, None, Result, Ok, Err}
 use Rattle.serde_json.specs.Data.{Data, null, Items, no_items, item}
 use Rattle.serde_json.specs.Read.{read}
 use Rattle.serde_json.specs.View.{items_of}
@@ -9,23 +9,24 @@ use Rattle.cpm_protocol.specs.Requests.{AskedFault, AskedTag, LineAsked, One, Ma
 use Rattle.cpm_protocol.specs.declared.fault.FieldFault.{FieldFault}
 use Rattle.cpm_protocol.specs.declared.word.WireRefusal.TheVariants as refusal
 use Rattle.cpm_slots.specs.Host.{Host}
-use Rattle.cpm_serve.specs.Changes.{kept_change, keep_accesses}
+use Rattle.cpm_serve.specs.Changes.{kept_change, keep_accesses, unkept_error}
 use Rattle.cpm_serve.specs.DriveFiles.{DiskWork}
 use Rattle.cpm_serve.specs.Folder.{AccessesLead, AreNoFolderWrites, FolderAccess, FolderAnswer, HostChange}
 use Rattle.cpm_serve.specs.Served.{Served, outcome}
+use Rattle.cpm_serve.specs.declared.folder.FolderError.{FolderError}
 use Rattle.cpm_serve.specs.declared.folder.ServeError.{ServeError}
 use Rattle.cpm_serve.specs.declared.folder.ServeError.TheVariants as error
 use Rattle.cpm_serve.specs.ServedWith.{IsDiskWork, accesses_of, served_with_if}
 
 -- ---- a value
 
--- the value of a request, whether memory was refused to it, what the folder answered, what the work on a disk made, and whether it could not be kept
+-- the value of a request, whether memory was refused to it, what the folder answered, what the work on a disk made, and why it could not be kept
 pub record WireEvent : Type 0 where
   pub value : Data
   pub lacked : Bool
   pub answers : List FolderAnswer
   pub made : DiskWork
-  pub unkept : Bool
+  pub unkept : Option FolderError
 
 -- a tag that can't be read doesn't come back
 abbrev pub tag_kept : Result (Option AskedTag) FieldFault → Option AskedTag
@@ -91,18 +92,22 @@ EventsLead {F} does h from to (e ∷ es) =
 -- all that they changed is kept
 abbrev pub AreKept : List WireEvent → Type 0
 AreKept [] = ⊤
-AreKept (e ∷ es) = (e.unkept ≡ false) × AreKept es
+AreKept (e ∷ es) = (e.unkept ≡ None) × AreKept es
 
--- the last of them could not be kept, and all before it are
-abbrev pub IsLastUnkept : List WireEvent → Type 0
-IsLastUnkept [] = ⊥
-IsLastUnkept (e ∷ []) = e.unkept ≡ true
-IsLastUnkept (e ∷ es) = (e.unkept ≡ false) × IsLastUnkept es
+-- the last of them could not be kept, for this reason, and all before it are
+abbrev pub IsLastUnkept : FolderError → List WireEvent → Type 0
+IsLastUnkept why [] = ⊥
+IsLastUnkept why (e ∷ []) = e.unkept ≡ Some why
+IsLastUnkept why (e ∷ es) = (e.unkept ≡ None) × IsLastUnkept why es
 
--- where the serving of a line ended early: there was no memory for a reply, or a change could not be kept
+-- where the serving of a line ended early so, since a change could not be kept
+abbrev pub IsEndedUnkept : ServeError → List WireEvent → Type 0
+IsEndedUnkept e es = (why : FolderError) × (e ≡ unkept_error why) × IsLastUnkept why es
+
+-- or there was no memory for a reply
 abbrev pub IsEndedBy : ServeError → List WireEvent → Type 0
-IsEndedBy error.OutOfMemory es = AreKept es
-IsEndedBy error.Unkept es = IsLastUnkept es
+IsEndedBy error.OutOfMemory es = AreKept es ⊎ IsEndedUnkept error.OutOfMemory es
+IsEndedBy error.Unkept es = IsEndedUnkept error.Unkept es
 
 -- the folder was led by events, and all that they changed is kept
 abbrev pub KeptEventsLead : {F : Type 0} → (F → FolderAccess → F → Type 0) → Host → (from to : F) → List WireEvent → Type 0

@@ -1,5 +1,5 @@
 -- What is promised of the requests of a line. All of it is own.
-use Rattle.std.specs.Prelude.{◌≡◌, ⊤, ℕ, Bool, true, List, [], ◌∷◌, map, take}
+use Rattle.std.specs.Prelude.{◌≡◌, ⊤, ℕ, Bool, true, List, [], ◌∷◌, map, take, Option}
 use Rattle.std.specs.List.{list_all}
 use Rattle.serde_json.specs.Data.{Data}
 use Rattle.cpm_protocol.specs.Bytes.{is_byte_character}
@@ -12,6 +12,7 @@ use Rattle.cpm_protocol.specs.Requests.{WireAsked, Key, Put, Turn, line_asked}
 use Rattle.cpm_slots.specs.Host.{Host}
 use Rattle.cpm_serve.specs.DriveFiles.{DiskWork}
 use Rattle.cpm_serve.specs.Folder.{FolderAnswer}
+use Rattle.cpm_serve.specs.declared.folder.FolderError.{FolderError}
 use Rattle.cpm_serve.specs.Lines.{WireEvent, event_reply, event_served, host_served, line_reply, replies_served, values_asked}
 
 -- the keys of a request are bytes, and so is a file's text
@@ -21,7 +22,7 @@ HasByteKeys (Turn slot keys steps) = list_all is_byte_character keys ≡ true
 HasByteKeys (Put drive name text) = list_all is_byte_character text ≡ true
 HasByteKeys _ = ⊤
 
-abbrev pub event_of : Data → Bool → List FolderAnswer → DiskWork → (unkept : Bool) → WireEvent
+abbrev pub event_of : Data → Bool → List FolderAnswer → DiskWork → (unkept : Option FolderError) → WireEvent
 event_of d lacked answers made unkept = record { value = d; lacked = lacked; answers = answers; made = made; unkept = unkept }
 
 -- In what follows `Leads` says how the folder was led by events.

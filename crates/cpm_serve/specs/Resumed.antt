@@ -10,9 +10,10 @@ use Rattle.cpm_journal.specs.declared.head.JournalHead.{JournalHead}
 use Rattle.cpm_serve.specs.Folder.{FolderAccess}
 use Rattle.cpm_serve.specs.KeptFolder.{IsKeptAccess}
 use Rattle.cpm_serve.specs.Laws.{events_in}
-use Rattle.cpm_serve.specs.Lines.{AreLinesHeard, AreLinesServed, LineHeard, host_after_lines, host_served}
+use Rattle.cpm_serve.specs.Lines.{AreLinesHeard, AreLinesServed, CutEventsLead, EventsLead, IsLineCut, LineHeard, host_served}
 use Rattle.cpm_serve.specs.declared.kept.KeptFolder.{KeptFolder}
 use Rattle.cpm_serve.specs.Redone.{IsUndone, redone, redone_all}
+use Rattle.cpm_serve.specs.declared.folder.ServeError.{ServeError}
 use Rattle.cpm_serve.specs.declared.resume.JournalFault.{JournalFault}
 use Rattle.cpm_serve.specs.declared.resume.JournalFault.TheVariants as fault
 
@@ -94,27 +95,49 @@ WireResumed {F} {J} does contents =
     AreLinesServed (IsKeptAccess does contents) lines old new from to texts → AllBelow old.openings old.slots → contents from.journal ≡ Some text →
     (behind : List ℕ) × (contents to.journal ≡ Some (text ++ behind)) × AreLinesRedone behind old new 0
 
--- a host between: it is served the first of what these lines ask, and the new one all of it
-pub record IsServedInPart (lines : List (List ℕ)) (old between new : Host) : Type 0 where
+-- no line was begun; or one was, and ended early
+abbrev pub IsLinesEnd : {F : Type 0} → (F → FolderAccess → F → Type 0) → (begun : List (List ℕ)) → (mid new : Host) → (between to : F) → Type 0
+IsLinesEnd {F} does [] mid new between to = (new ≡ mid) × (between ≡ to)
+IsLinesEnd {F} does (line ∷ []) mid new between to = (e : ServeError) × IsLineCut (CutEventsLead e does mid between to) line mid new
+IsLinesEnd {F} does _ mid new between to = ⊥
+
+-- Lines were served, and the last perhaps not to its end, as a talk that ended early leaves it.
+pub record AreLinesBegun {F : Type 0} (does : F → FolderAccess → F → Type 0) (lines : List (List ℕ)) (old new : Host) (from to : F) : Type 0 where
+  pub front : List (List ℕ)
+  pub begun : List (List ℕ)
+  pub are : lines ≡ front ++ begun
+  pub texts : List (List ℕ)
+  pub mid : Host
+  pub between : F
+  pub served : AreLinesServed does front old mid from between texts
+  pub end : IsLinesEnd does begun mid new between to
+
+-- Of what lines ask, as they were heard, so many requests were done, in order; they led the folder. A host between is served the first of these.
+pub record IsServedInPart {F : Type 0} (does : F → FolderAccess → F → Type 0) (lines : List (List ℕ)) (old between new : Host) (from to : F) : Type 0 where
   pub heard : List LineHeard
   pub are : AreLinesHeard lines heard
-  pub whole : new ≡ host_after_lines old heard
+  pub asked : ℕ
+  pub leads : EventsLead does old from to (take asked (events_in heard))
+  pub whole : new ≡ host_served old (take asked (events_in heard))
   pub count : ℕ
+  pub within : count ≤ asked
   pub part : between ≡ host_served old (take count (events_in heard))
 
 -- The journal, cut off, is done again as a host between.
-pub record IsResumedInPart (text : List ℕ) (lines : List (List ℕ)) (old mid new : Host) : Type 0 where
+pub record IsResumedInPart {F : Type 0} (does : F → FolderAccess → F → Type 0) (text : List ℕ) (lines : List (List ℕ)) (old mid new : Host)
+    (from to : F) : Type 0 where
   pub between : Host
-  pub part : IsServedInPart lines mid between new
+  pub part : IsServedInPart does lines mid between new from to
   pub torn : ℕ
   pub redone : AreLinesRedone text old between torn
 
--- Lines were served, and then others. Cut off anywhere behind what the first changed, the journal is done again as the host after all of the first and the
--- first of what the others ask.
+-- Lines were served, and then others, the last perhaps not to its end: there was no memory for it, or the journal could not be written. Cut off anywhere
+-- behind what the first changed, the journal is done again as the host after all of the first and the first of what the others ask.
 abbrev pub WireCutOff : {F J : Type 0} → (F → FolderAccess → F → Type 0) → (J → Option (List ℕ)) → Type 0
 WireCutOff {F} {J} does contents =
-    (first others : List (List ℕ)) (old mid new : Host) (from between to : KeptFolder F J) (texts more : List (List ℕ)) (text kept : List ℕ) (count : ℕ) →
+    (first others : List (List ℕ)) (old mid new : Host) (from between to : KeptFolder F J) (texts : List (List ℕ)) (text kept : List ℕ) (count : ℕ) →
     AreLinesServed (IsKeptAccess does contents) first old mid from between texts →
-    AreLinesServed (IsKeptAccess does contents) others mid new between to more →
+    AreLinesBegun (IsKeptAccess does contents) others mid new between to →
     AllBelow old.openings old.slots → contents from.journal ≡ Some text → contents between.journal ≡ Some (text ++ kept) → length kept ≤ count →
-    (behind : List ℕ) × (contents to.journal ≡ Some (text ++ behind)) × IsResumedInPart (take count behind) others old mid new
+    (behind : List ℕ) × (contents to.journal ≡ Some (text ++ behind))
+    × IsResumedInPart (IsKeptAccess does contents) (take count behind) others old mid new between to

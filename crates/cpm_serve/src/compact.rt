@@ -1,4 +1,4 @@
-//! The shortest journal of a host.
+//! A journal of a host's savings.
 ghost use Rattle.std.specs.Prelude.{◌≡◌, IfSome, OnOk};
 ghost use Rattle.cpm_slots.specs.Host.{slot_at};
 ghost use Rattle.cpm_journal.specs.Entries.{KeptNumber, KeptSaving};
@@ -69,7 +69,7 @@ fn write_slots<W: Write>(host: &mut Host, alloc: Global, out: &mut W) -> io::Res
     Ok(())
 }
 
-/// Writes the shortest journal of a host: done again, it makes the host with its sessions and the number of its next opening. It fails where it can't be
+/// Writes a journal of a host's savings: done again, it makes the host with its sessions and the number of its next opening. It fails where it can't be
 /// written, or if out of memory.
 pub fn write_journal<W: Write>(server: &mut Server, alloc: Global, out: &mut W) -> io::Result<()>
     ensures made { OnOk result (IsCompact server.old.host.host (W.contents out.old) (W.contents out.new)) }

@@ -33,10 +33,10 @@ pub enum FolderError {
 /// Why a line is not served to its end.
 #[derive(Clone, Copy, Debug, PartialEq, Eq, Drop, Error)]
 pub enum ServeError {
-    /// There is no memory for its reply.
+    /// There is no memory for its reply, or to keep what it changed.
     #[error("out of memory")]
     OutOfMemory,
-    /// What it changed can't be kept.
+    /// The journal in which what it changed is kept can't be written.
     #[error("the journal can't be written")]
     Unkept,
 }

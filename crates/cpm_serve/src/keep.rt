@@ -1,10 +1,10 @@
 //! What of a request that was done is kept in a journal.
-ghost use Rattle.std.specs.Prelude.{◌≡◌, is_err};
+ghost use Rattle.std.specs.Prelude.{◌≡◌};
 ghost use Rattle.serde_json.specs.Data.{Data};
 ghost use Rattle.serde_json.specs.View.{view};
 ghost use Rattle.cpm_slots.specs.Host.{Host as HostValue};
 ghost use Rattle.cpm_protocol.specs.Requests.{drive_names_of, request_seen, text_if};
-ghost use Rattle.cpm_serve.specs.Changes.{change_done, kept_change, has_file_name, is_in_file, is_refusal, keep_accesses, opened_change};
+ghost use Rattle.cpm_serve.specs.Changes.{change_done, kept_change, has_file_name, is_in_file, is_refusal, keep_accesses, opened_change, unkept_by};
 ghost use Rattle.cpm_serve.specs.Folder.{AccessesLead};
 ghost use Rattle.cpm_serve.specs.Keeping.{change_seen};
 ghost use Rattle.cpm_serve.specs.Owned.{owned_answer};
@@ -95,7 +95,7 @@ pub(crate) fn keep<F: Folder>(
     reply: &OwnedReply,
 ) -> Result<(), FolderError>
     ensures kept { AccessesLead F.does folder.old folder.new
-        (keep_accesses (is_err result) (kept_change (view value.now) (request_seen request.entry) (outcome host.old.host (owned_answer reply.now)))) }
+        (keep_accesses (unkept_by result) (kept_change (view value.now) (request_seen request.entry) (outcome host.old.host (owned_answer reply.now)))) }
     ensures unchanged { host.new ≡ host.old }
 {
     if is_refusal(reply) {

@@ -1,8 +1,8 @@
 //! A folder with a journal.
-ghost use Rattle.cpm_serve.specs.KeptFolder.{IsKeptAccess};
+ghost use Rattle.cpm_serve.specs.KeptFolder.{AppendsFirst, IsKeptAccess, IsLineUnkept};
 ghost use Rattle.cpm_journal.specs.Entries.{IsKeepable, IsLineAdded, KeptSaving, entry_json};
 ghost use Rattle.std.specs.Io.KnownBytes.{Appends};
-ghost use Rattle.std.specs.Prelude.{◌≡◌, Ok, OnOk};
+ghost use Rattle.std.specs.Prelude.{◌≡◌, IfErr, Ok, OnErr, OnOk};
 
 use crate::folder::{Folder, FolderError};
 use cpm_journal::{append_close, append_request, append_restore};
@@ -10,7 +10,8 @@ use cpm_slots::{Host, SaveError, SlotId};
 use cpm_store::Output;
 use serde_json::Value;
 use std::alloc::{AllocError, Global};
-use std::io::Write;
+use std::io;
+use std::io::{ErrorKind, Write};
 
 /// A folder, and a journal in which each change of the host is kept before its reply is written. `docs/JOURNAL.md` is the form of the journal.
 #[derive(Drop)]
@@ -19,21 +20,42 @@ pub struct KeptFolder<F, J> {
     pub journal: J,
 }
 
-/// Writes a line that was made, and flushes it.
-fn write_line<J: Write>(
+/// Writes a line, and flushes it. Where that fails it has written a beginning of the line, which may be nothing or all of it. (`write_all` doesn't say so.)
+fn write_line<J: Write>(journal: &mut J, line: &[u8]) -> io::Result<()>
+    ensures whole { OnOk result (Appends (J.contents journal.old) (J.contents journal.new) line.now) }
+    ensures begun { OnErr result (AppendsFirst (J.contents journal.old) (J.contents journal.new) line.now) }
+{
+    let mut rest = line;
+    for _write in 0..u64::MAX {
+        if rest.is_empty() {
+            return journal.flush();
+        }
+        match journal.write(rest) {
+            Ok(0) => return Err(io::Error::from(ErrorKind::WriteZero)),
+            Ok(count) => rest = &rest[count..],
+            Err(error) if error.kind() == ErrorKind::Interrupted => {}
+            Err(error) => return Err(error),
+        }
+    }
+    Err(io::Error::from(ErrorKind::Other))
+}
+
+/// Keeps a line that was made, if there was memory for it.
+fn keep_line<J: Write>(
     journal: &mut J,
     line: &Vec<u8>,
     outcome: Result<(), AllocError>,
 ) -> Result<(), FolderError>
-    ensures { OnOk result ((outcome ≡ Ok tt) × Appends (J.contents journal.old) (J.contents journal.new) line.now.items) }
+    ensures kept { OnOk result ((outcome ≡ Ok tt) × Appends (J.contents journal.old) (J.contents journal.new) line.now.items) }
+    ensures unkept { IfErr result (IsLineUnkept outcome (J.contents journal.old) (J.contents journal.new) line.now.items) }
 {
     if outcome.is_err() {
         return Err(FolderError::OutOfMemory);
     }
-    if journal.write_all(line).is_err() || journal.flush().is_err() {
-        return Err(FolderError::Fault);
+    match write_line(journal, line) {
+        Ok(()) => Ok(()),
+        Err(_) => Err(FolderError::Fault),
     }
-    Ok(())
 }
 
 /// Appends the line of a saving. What it has are bytes, so it can be kept.
@@ -70,13 +92,13 @@ impl<F: Folder, J: Write> Folder for KeptFolder<F, J> {
     fn keep(&mut self, alloc: Global, request: &Value) -> Result<(), FolderError> {
         let mut line = Vec::new(alloc);
         let outcome = append_request(&mut line, alloc, request);
-        write_line(&mut self.journal, &line, outcome)
+        keep_line(&mut self.journal, &line, outcome)
     }
 
     fn keep_closed(&mut self, alloc: Global, slot: u64) -> Result<(), FolderError> {
         let mut line = Vec::new(alloc);
         let outcome = append_close(&mut line, alloc, slot);
-        write_line(&mut self.journal, &line, outcome)
+        keep_line(&mut self.journal, &line, outcome)
     }
 
     fn keep_opened(
@@ -92,6 +114,6 @@ impl<F: Folder, J: Write> Folder for KeptFolder<F, J> {
         };
         let mut line = Vec::new(alloc);
         let outcome = append_saving(&mut line, alloc, &saving);
-        write_line(&mut self.journal, &line, outcome)
+        keep_line(&mut self.journal, &line, outcome)
     }
 }

@@ -1,6 +1,7 @@
 //! The laws of the wire, as contracts.
 ghost use Rattle.cpm_serve.specs.Laws.{LinesAreEvents, RefusedRequests, Transcripts, TurnsAreParts, TwoTranscripts, WireAlone, WireIsolation};
 ghost use Rattle.cpm_serve.specs.Compact.{CompactJournalsRemake};
+ghost use Rattle.cpm_serve.specs.Generations.{GenerationsRemake};
 ghost use Rattle.cpm_serve.specs.KeptFolder.{KeptLines};
 ghost use Rattle.cpm_serve.specs.Laws.{WrongLines, WrongRequests};
 ghost use Rattle.cpm_serve.specs.Redone.{BegunJournalsRemake, JournalsRemake};
@@ -75,12 +76,19 @@ pub fn wire_resumed<F: Folder, J: Write>()
     ensures { WireResumed F.does J.contents }
 {}
 
-/// One that is cut off anywhere is done again as the host after all lines whose entries are whole in it, and the first of what the others ask.
+/// One that is cut off anywhere is done again as the host after all lines whose entries are whole in it, and the first of what the others ask, of which the
+/// last perhaps ended early.
 pub fn wire_cut_off<F: Folder, J: Write>()
     ensures { WireCutOff F.does J.contents }
 {}
 
-/// The shortest journal of a host, done again, makes the host.
+/// A journal of a host's savings, done again, makes the host.
 pub fn compact_journals_remake()
     ensures { CompactJournalsRemake }
+{}
+
+/// Whatever a journal has been through, over any number of services, it is done again as the host after all lines that were replied to, and the first of what
+/// the others asked.
+pub fn generations_remake<F: Folder, J: Write>()
+    ensures { GenerationsRemake F.does J.contents }
 {}

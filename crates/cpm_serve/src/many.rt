@@ -2,6 +2,7 @@
 ghost use Rattle.std.specs.Prelude.{◌≡◌, ◌++◌, ◌∷◌, [], IfErr, IfOk, Ok, OnOk, map, option_map};
 ghost use Rattle.serde_json.specs.View.{view};
 ghost use Rattle.cpm_protocol.specs.Requests.{request_asked, request_seen, tag_of_code};
+ghost use Rattle.cpm_serve.specs.Changes.{unkept_error};
 ghost use Rattle.cpm_serve.specs.Owned.{owned_answer};
 ghost use Rattle.cpm_serve.specs.Folder.{AccessesLead};
 ghost use Rattle.cpm_serve.specs.Lines.{CutEventsLead, KeptEventsLead, tag_shown};
@@ -10,7 +11,7 @@ ghost use Rattle.cpm_serve.specs.ServedWith.{IsRequestServedWith};
 
 use crate::close::{close, save};
 use crate::disk::{get_file, list_files, put_file};
-use crate::folder::{Folder, ServeError};
+use crate::folder::{Folder, FolderError, ServeError};
 use crate::grant::grant;
 use crate::keep::keep;
 use crate::open::{fork, open, resume};
@@ -77,6 +78,16 @@ pub(crate) fn made(outcome: Result<Value, AllocError>) -> Result<Value, ServeErr
     }
 }
 
+/// How a line ends whose change is not kept.
+fn unkept(error: FolderError) -> ServeError
+    ensures { result ≡ unkept_error error }
+{
+    match error {
+        FolderError::OutOfMemory => ServeError::OutOfMemory,
+        FolderError::Absent | FolderError::Busy | FolderError::Fault => ServeError::Unkept,
+    }
+}
+
 /// Does a request, and keeps what it changed.
 fn perform_kept<F: Folder>(
     host: &mut Host,
@@ -94,7 +105,7 @@ fn perform_kept<F: Folder>(
     let reply = perform(host, alloc, folder, request);
     match keep(host, alloc, folder, request, value, &reply) {
         Ok(()) => Ok(reply),
-        Err(_) => Err(ServeError::Unkept),
+        Err(error) => Err(unkept(error)),
     }
 }
 

@@ -149,12 +149,17 @@ fn hold(
         Attempt::Held(all) => Ok(HeldFiles { all }),
         Attempt::Busy(name) => Err(CommandRefusal::from(HostError::FileUnwritable {
             name,
-            reason: io::Error::new(
-                ErrorKind::ResourceBusy,
-                "it is held by another command; try again when that has ended",
-            ),
+            reason: held_elsewhere(),
         })),
     }
+}
+
+/// The reason where another command holds a file.
+pub fn held_elsewhere() -> io::Error {
+    io::Error::new(
+        ErrorKind::ResourceBusy,
+        "it is held by another command; try again when that has ended",
+    )
 }
 
 /// Holds the images and the saved machines that a plan reads and writes. Others that hold one are waited for, if that is asked.
@@ -311,11 +316,20 @@ fn held_at(rt: &impl LockableFiles, name: &str) -> Result<FileAttempt, AllocErro
 fn locked(rt: &impl LockableFiles, name: &str) -> io::Result<Option<(Mark, File)>> {
     let target = target_of(rt, name)?;
     let file = opened(rt, target.as_path())?;
+    locked_at(rt, file, target.as_path())
+}
+
+/// The same, of a file that was opened by this path.
+pub fn locked_at(
+    rt: &impl LockableFiles,
+    file: File,
+    path: Path<'_>,
+) -> io::Result<Option<(Mark, File)>> {
     if is_locked_elsewhere(&file) {
         return Ok(None);
     }
     let mark = Mark::of(&file.metadata()?);
-    let there = fs::metadata(rt, target.as_path())?;
+    let there = fs::metadata(rt, path)?;
     if there.dev() == mark.device && there.ino() == mark.node {
         Ok(Some((mark, file)))
     } else {
@@ -324,7 +338,7 @@ fn locked(rt: &impl LockableFiles, name: &str) -> io::Result<Option<(Mark, File)
 }
 
 /// Whether another command has the lock of a file; else this one has it from now on, where the system can lock it. A signal that comes meanwhile is no answer.
-pub fn is_locked_elsewhere(file: &File) -> bool {
+fn is_locked_elsewhere(file: &File) -> bool {
     for _attempt in 0..MOST_LOCK_PAUSES {
         match file.try_lock() {
             Err(TryLockError::WouldBlock) => return true,

@@ -1,8 +1,9 @@
 //! The journal of a served host, as a file.
+ghost use Rattle.cpmhost.specs.Journals.{IsJournalRefusal};
 
 use crate::beside::is_missing;
 use crate::files::{unreadable, unwritable};
-use crate::held::{LockableFiles, is_locked_elsewhere};
+use crate::held::{LockableFiles, held_elsewhere, locked_at};
 use crate::output::{Outputs, PERMISSIONS, target_of};
 use cpm_host::{HostError, JournalRefusal};
 use cpm_journal::{EntryFault, HeadFault, append_head};
@@ -18,26 +19,43 @@ use std::{fs, io};
 #[derive(Drop)]
 pub struct JournalFile {
     file: Option<File>,
+    /// Why it was not written, where that failed last.
+    fault: Option<io::Error>,
 }
 
 impl JournalFile {
     /// None.
     pub fn none() -> JournalFile {
-        JournalFile { file: None }
+        JournalFile {
+            file: None,
+            fault: None,
+        }
     }
 
     /// Whether there is one.
     pub fn is_there(&self) -> bool {
         self.file.is_some()
     }
+
+    /// Why it can't be written.
+    pub fn fault(&self) -> io::Error {
+        match self.fault {
+            Some(reason) => reason,
+            None => io::Error::from(ErrorKind::WriteZero),
+        }
+    }
 }
 
 impl Write for JournalFile {
     fn write(&mut self, buf: &[u8]) -> io::Result<usize> {
-        match &mut self.file {
-            Some(file) => file.write(buf),
-            None => Ok(buf.len()),
+        let Some(file) = &mut self.file else {
+            return Ok(buf.len());
+        };
+        let written = file.write(buf);
+        if let Err(reason) = &written {
+            self.fault = Some(*reason);
         }
+        written
     }
 
     fn flush(&mut self) -> io::Result<()> {
@@ -46,7 +64,9 @@ impl Write for JournalFile {
 }
 
 /// Why a journal is not gone on with.
-fn journal_refusal(name: &str, error: JournalError) -> HostError {
+fn journal_refusal(name: &str, error: JournalError) -> HostError
+    ensures { IsJournalRefusal name.now error.line error.fault result }
+{
     let refusal = match error.fault {
         JournalFault::Unreadable(reason) => return unreadable(name, reason),
         JournalFault::Head(HeadFault::OutOfMemory)
@@ -127,14 +147,10 @@ fn check_plain(rt: &impl LockableFiles, name: &str) -> io::Result<()> {
 /// The file of a name, open to be read and written, and locked. None where another command has it.
 fn try_locked(rt: &impl LockableFiles, name: &str) -> io::Result<Option<File>> {
     let file = OpenOptions::new().read(true).write(true).open(rt, name)?;
-    if is_locked_elsewhere(&file) {
-        return Ok(None);
+    match locked_at(rt, file, Path::new(name))? {
+        Some((_, file)) => Ok(Some(file)),
+        None => Ok(None),
     }
-    // (another command may have put a file in the place of this one meanwhile)
-    if !is_same(&file.metadata()?, &fs::metadata(rt, name)?) {
-        return Ok(None);
-    }
-    Ok(Some(file))
 }
 
 /// The same. It is refused where another command has it.
@@ -144,10 +160,7 @@ fn locked(rt: &impl LockableFiles, name: &str) -> Result<File, HostError> {
     }
     let reason = match try_locked(rt, name) {
         Ok(Some(file)) => return Ok(file),
-        Ok(None) => io::Error::new(
-            ErrorKind::ResourceBusy,
-            "it is held by another command; try again when that has ended",
-        ),
+        Ok(None) => held_elsewhere(),
         Err(reason) => reason,
     };
     Err(unwritable(name, reason))
@@ -157,7 +170,10 @@ fn locked(rt: &impl LockableFiles, name: &str) -> Result<File, HostError> {
 fn ended_at(mut file: File, length: u64) -> io::Result<JournalFile> {
     file.set_len(length)?;
     file.seek(SeekFrom::Start(length))?;
-    Ok(JournalFile { file: Some(file) })
+    Ok(JournalFile {
+        file: Some(file),
+        fault: None,
+    })
 }
 
 /// A file without so many bytes at its end.

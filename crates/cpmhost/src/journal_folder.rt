@@ -1,6 +1,7 @@
 //! The folder of a service with its journal, or with none.
-ghost use Rattle.std.specs.Prelude.{⊤};
+ghost use Rattle.std.specs.Prelude.{⊤, ◌≡◌, IsOk, None};
 
+use crate::files::unwritable;
 use crate::held::LockableFiles;
 use crate::journal::{JournalFile, check_apart, journal_of_savings, new_journal, resumed_journal};
 use crate::output::Outputs;
@@ -41,7 +42,9 @@ impl<'a, R: LockableFiles> JournalFolder<'a, R> {
         &self,
         task: &ServeTask<'_>,
         server: &mut Server,
-    ) -> Result<JournalFile, HostError> {
+    ) -> Result<JournalFile, HostError>
+        ensures plain { task.now.journal ≡ None → task.now.resume ≡ None → IsOk result × (server.new ≡ server.old) }
+    {
         let (rt, outputs) = (self.rt, self.outputs);
         match (task.journal, task.resume) {
             (Some(name), _) => {
@@ -109,8 +112,8 @@ impl<R: LockableFiles> Folder for JournalFolder<'_, R> {
 }
 
 impl<R: LockableFiles> ServedFolder for JournalFolder<'_, R> {
-    // Nothing can be said of what the file of a journal holds.
-    ghost begins = { λ _ _ _ _ _ _. ⊤ };
+    // Nothing can be said of what the file of a journal holds. Where none is named, the host that is served is the new one, and nothing is refused.
+    ghost begins = { λ _ task made resumed e _. task.journal ≡ None → task.resume ≡ None → (resumed ≡ made) × (e ≡ None) };
 
     fn begin(
         &mut self,
@@ -120,5 +123,12 @@ impl<R: LockableFiles> ServedFolder for JournalFolder<'_, R> {
     ) -> Result<(), HostError> {
         self.kept.journal = self.journal_of(task, server)?;
         Ok(())
+    }
+
+    fn unkept(&self, task: &ServeTask<'_>) -> HostError {
+        match task.journal.or(task.resume) {
+            Some(name) => unwritable(name, self.kept.journal.fault()),
+            None => HostError::JournalUnwritable,
+        }
     }
 }

@@ -10,8 +10,6 @@ mod disks;
 #[cfg(test)]
 mod entries;
 #[cfg(test)]
-mod journal;
-#[cfg(test)]
 mod machines;
 #[cfg(test)]
 mod protocol;
@@ -19,8 +17,6 @@ mod protocol;
 mod runs;
 #[cfg(test)]
 mod same;
-#[cfg(test)]
-mod serve;
 #[cfg(test)]
 mod serve_files;
 #[cfg(test)]

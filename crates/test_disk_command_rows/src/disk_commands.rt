@@ -311,7 +311,7 @@ impl DiskCommands {
         let reason = reason_of(reason.text)?;
         let file = self.file(alloc, *name)?;
         Err(NotDone::Refused(DiskCommandError::Refused {
-            image: cpm_command_line::shown(image.text),
+            image: cpm_shown::shown(image.text),
             file: named(&file),
             reason,
         }))

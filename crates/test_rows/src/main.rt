@@ -21,7 +21,7 @@ use test_listing_rows::{Listings, Sources};
 use test_machine_rows::{Hosts, Machines, RestoredSlots, SavedMachines};
 use test_memory_rows::{Instructions, Memories};
 use test_run_rows::{Programs, Runs};
-use test_text_rows::{CommandLines, Configurations, Scripts};
+use test_text_rows::{CommandLines, Configurations, Screens, Scripts};
 
 /// A file of rows, of which the first line was read.
 #[derive(Clone, Copy)]
@@ -79,6 +79,7 @@ impl RowFile<'_> {
             "scripts" => self.run::<Scripts>(told),
             "configurations" => self.run::<Configurations>(told),
             "command-lines" => self.run::<CommandLines>(told),
+            "screens" => self.run::<Screens>(told),
             "stores" => self.run::<Stores>(told),
             "batches" => self.run::<Batches>(told),
             "disk-commands" => self.run::<DiskCommands>(told),

@@ -1,8 +1,10 @@
-//! Scenes of rows on the texts that a person writes for the host: key scripts, configurations and command lines.
+//! Scenes of rows on texts: those that a person writes for the host, as key scripts, configurations and command lines, and those of a screen.
 #![tactic(auto)]
 
 mod command_lines;
 mod configurations;
+mod screen_keys;
+mod screens;
 mod scripts;
 mod sessions;
 mod tasks;
@@ -10,6 +12,7 @@ mod tasks;
 pub use command_lines::CommandLines;
 pub use configurations::Configurations;
 use cpm_flags::Cpu;
+pub use screens::Screens;
 pub use scripts::Scripts;
 use std::alloc::{AllocError, Global};
 use test_language::RowFault;

@@ -1,6 +1,6 @@
 use Rattle.std.proofs.Common.{◌∙◌, ◌∷◌, ◌+◌, Some, ap, chars, drop, map, string_bytes, sym}
 use Rattle.std.proofs.lemmas.List.{drop_all, drop_more}
-use Rattle.cpm_command_line.specs.Shown.{shown_of}
+use Rattle.cpm_shown.specs.Shown.{shown_of}
 use Rattle.cpm_commands.specs.Drives.{IsNameTold, left_out_line}
 use Rattle.cpm_commands.proofs.DriveLemmas.{told_all, told_more}
 use Rattle.cpm_commands.proofs.drives.tell_names.Goals as goal

@@ -5,7 +5,7 @@ use Rattle.cpm_commands.proofs.serve.serve_requests.Goals as goal
 
 pub returns-clause-refusal : goal.returns-clause-refusal
 returns-clause-refusal g c =
-    CutOff _ _ c.in-Err.error c.ended_early.ensures c.in_ok-host.ensures.begun
+    CutOff _ _ c.in-Err.error c.unkept.result c.unkept.ensures.named c.ended_early.ensures c.in_ok-host.ensures.begun
     (c.begin.new.self, c.begin.new.server.host.host, c.in_ok-begin.ensures.begun, c.in-Err.ensures.partly)
 
 pub returns-in_err-begin-clause-refusal : goal.returns-in_err-begin-clause-refusal

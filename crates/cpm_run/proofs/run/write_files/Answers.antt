@@ -1,6 +1,6 @@
 use Rattle.std.proofs.Common.{◌∙◌, ap, sym}
 use Rattle.std.specs.Prelude.{chars}
-use Rattle.cpm_command_line.specs.Shown.{shown_of}
+use Rattle.cpm_shown.specs.Shown.{shown_of}
 use Rattle.cpm_store.specs.declared.writes.Output.{Output}
 use Rattle.cpm_run.proofs.RunLemmas.{output_at}
 use Rattle.cpm_run.proofs.run.write_files.Goals as goal

@@ -2,10 +2,11 @@ use Rattle.std.proofs.Common.{subst, sym}
 use Rattle.serde_json.specs.View.{view}
 use Rattle.cpm_protocol.specs.Requests.{request_seen}
 use Rattle.cpm_slots.specs.HostWithStore.{HostWithStore}
+use Rattle.cpm_serve.specs.Changes.{unkept_error}
 use Rattle.cpm_serve.specs.Lines.{CutEventsLead, KeptEventsLead}
 use Rattle.cpm_serve.specs.Owned.{owned_answer}
 use Rattle.cpm_serve.specs.Parts.{IsEventCut, IsEventDone}
-use Rattle.cpm_serve.specs.declared.folder.ServeError.TheVariants as error
+use Rattle.cpm_serve.specs.declared.folder.ServeError.{ServeError}
 use Rattle.cpm_serve.proofs.EventLemmas.{event-done, event-unkept}
 use Rattle.cpm_serve.proofs.many.perform_kept.Goals as goal
 
@@ -24,5 +25,8 @@ returns-in-Err-clause-unkept g c =
     let old = c.args.host.now.host in
     let done = c.perform-reply.new in
     let a = owned_answer c.perform-reply.result in
-    subst (λ (h : HostWithStore). IsEventCut (CutEventsLead error.Unkept g.F.Folder.does old c.args.folder.now c.keep.new.folder) d old h.host) (sym c.in-Err.ensures.unchanged)
-    (event-unkept g.F.Folder.does d (request_seen c.args.request) old done.host.host c.args.folder.now done.folder c.keep.new.folder a (sym c.requires.asked) c.perform-reply.ensures c.in-Err.ensures.kept)
+    let new = c.keep.new in
+    subst (λ (e : ServeError). IsEventCut (CutEventsLead e g.F.Folder.does old c.args.folder.now new.folder) d old new.host.host) (sym c.unkept.ensures)
+    (subst (λ (h : HostWithStore). IsEventCut (CutEventsLead (unkept_error c.in-Err.error) g.F.Folder.does old c.args.folder.now new.folder) d old h.host) (sym c.in-Err.ensures.unchanged)
+    (event-unkept g.F.Folder.does d (request_seen c.args.request) old done.host.host c.args.folder.now done.folder new.folder a c.in-Err.error (sym c.requires.asked) c.perform-reply.ensures
+    c.in-Err.ensures.kept))

@@ -8,7 +8,7 @@ use Rattle.cpm_serve.specs.Owned.{owned_answer}
 use Rattle.cpm_serve.specs.Parts.{IsEventCut, IsEventServed}
 use Rattle.cpm_serve.proofs.ByteKeys.{byte-keys}
 use Rattle.cpm_serve.proofs.EventLemmas.{event-served, event-wrong}
-use Rattle.cpm_serve.proofs.ManyLemmas.{cut-served, lacked-cut, made-as}
+use Rattle.cpm_serve.proofs.ManyLemmas.{cut-served, lacked-cut, lacked-event, made-as}
 use Rattle.cpm_serve.proofs.many.serve_value.Goals as goal
 
 pub perform_kept-requires-clause-bytes : goal.perform_kept-requires-clause-bytes
@@ -35,7 +35,8 @@ returns-in_ok-reply-in-Ok-clause-cut g c =
     let leads = KeptEventsLead g.F.Folder.does h c.args.folder.now c.perform_kept.new.folder in
     let reply = reply_json (tag_shown d) a in
     lacked-cut c.made.result (λ e. IsEventCut (CutEventsLead e g.F.Folder.does h c.args.folder.now c.perform_kept.new.folder) d h new) c.made.ensures.lacked
-    (cut-served leads d reply h new (event-served leads d h new a reply c.in_ok-reply-in-Ok.ensures.done refl))
+    (lacked-event g.F.Folder.does c.args.folder.now c.perform_kept.new.folder d h new
+    (cut-served leads d reply h new (event-served leads d h new a reply c.in_ok-reply-in-Ok.ensures.done refl)))
 
 pub returns-in-Err-clause-served : goal.returns-in-Err-clause-served
 returns-in-Err-clause-served g c =
@@ -56,4 +57,5 @@ returns-in-Err-clause-cut g c =
     let reply = reply_json (tag_shown d) (Wrong fault) in
     let leads = KeptEventsLead g.F.Folder.does h c.args.folder.now c.args.folder.now in
     lacked-cut c.made-in-Err.result (λ e. IsEventCut (CutEventsLead e g.F.Folder.does h c.args.folder.now c.args.folder.now) d h h) c.made-in-Err.ensures.lacked
-    (cut-served leads d reply h h (event-wrong g.F.Folder.does d fault h c.args.folder.now reply c.in-Err.ensures refl))
+    (lacked-event g.F.Folder.does c.args.folder.now c.args.folder.now d h h
+    (cut-served leads d reply h h (event-wrong g.F.Folder.does d fault h c.args.folder.now reply c.in-Err.ensures refl)))

@@ -5,7 +5,7 @@ use Rattle.serde_json.specs.View.{view}
 use Rattle.cpm_serve.specs.Lines.{KeptEventsLead}
 use Rattle.cpm_serve.specs.Parts.{AreServed}
 use Rattle.cpm_serve.specs.declared.folder.ServeError.TheVariants as error
-use Rattle.cpm_serve.proofs.ManyLemmas.{all-values, cut-at, cut-served, served-more, up-to}
+use Rattle.cpm_serve.proofs.ManyLemmas.{all-values, cut-at, cut-served, lacked-event, served-more, up-to}
 use Rattle.cpm_serve.proofs.many.serve_values.Goals as goal
 
 pub loop-value-preserved : goal.loop-value-preserved
@@ -40,5 +40,6 @@ returns-in_err-pushed-clause-cut g c =
     rw (p.1, p.2, c.in_err-pushed.ensures.lacked)
     (cut-at g.F.Folder.does error.OutOfMemory c.args.folder.now c.loop-value.folder c.serve_value.new.folder (map view (take i values)) (map view values) (view x) (map view (drop (i + 1) values))
     (map view c.loop-value.replies.items) c.args.host.now.host c.loop-value.host.host c.serve_value.new.host.host c.loop-value.invariant
-    (cut-served (KeptEventsLead g.F.Folder.does c.loop-value.host.host c.loop-value.folder c.serve_value.new.folder) (view x) (view c.in_ok-reply.reply) c.loop-value.host.host c.serve_value.new.host.host c.in_ok-reply.ensures.served)
+    (lacked-event g.F.Folder.does c.loop-value.folder c.serve_value.new.folder (view x) c.loop-value.host.host c.serve_value.new.host.host
+    (cut-served (KeptEventsLead g.F.Folder.does c.loop-value.host.host c.loop-value.folder c.serve_value.new.folder) (view x) (view c.in_ok-reply.reply) c.loop-value.host.host c.serve_value.new.host.host c.in_ok-reply.ensures.served))
     (all-values view values i x c.loop-value-test.true c.value-item.is))

@@ -6,7 +6,7 @@ use Rattle.cpm_protocol.specs.Requests.{Many, One, fault_seen, line_asked, reque
 use Rattle.cpm_serve.specs.Lines.{CutEventsLead, KeptEventsLead}
 use Rattle.cpm_serve.specs.Parts.{IsValueCut, IsValueServed}
 use Rattle.cpm_serve.proofs.LineLemmas.{asked_as, many-cut, many-kept, many-served, one-cut, one-served, wrong-cut, wrong-served}
-use Rattle.cpm_serve.proofs.ManyLemmas.{lacked-cut, made-as}
+use Rattle.cpm_serve.proofs.ManyLemmas.{lacked-cut, lacked-value, made-as}
 use Rattle.cpm_serve.proofs.server.serve_line.Goals as goal
 
 pub returns-in-Ok-One-clause-served : goal.returns-in-Ok-One-clause-served
@@ -58,7 +58,8 @@ returns-in_ok-replies-in-Ok-Many-clause-cut g c =
     let leads = KeptEventsLead g.F.Folder.does h c.args.folder.now c.serve_values.new.folder in
     let e : asked_as (Many (items_view c.in-Ok-Many.values.now)) ≡ line_asked d = rw c.in-Ok-Many.field-0-is at c.in-Ok-Many.ensures in
     lacked-cut c.made.result (λ x. IsValueCut (CutEventsLead x g.F.Folder.does h c.args.folder.now c.serve_values.new.folder) d h new) c.made.ensures.lacked
-    (many-kept leads d c.in-Ok-Many.values.now c.in_ok-replies-in-Ok-Many.replies.items h new e c.in_ok-replies-in-Ok-Many.ensures.served)
+    (lacked-value g.F.Folder.does c.args.folder.now c.serve_values.new.folder d h new
+    (many-kept leads d c.in-Ok-Many.values.now c.in_ok-replies-in-Ok-Many.replies.items h new e c.in_ok-replies-in-Ok-Many.ensures.served))
 
 pub returns-in-Err-clause-served : goal.returns-in-Err-clause-served
 returns-in-Err-clause-served g c =
@@ -77,4 +78,4 @@ returns-in-Err-clause-cut g c =
     let h = c.args.host.now.host in
     let leads = KeptEventsLead g.F.Folder.does h c.args.folder.now c.args.folder.now in
     lacked-cut c.made-in-Err.result (λ x. IsValueCut (CutEventsLead x g.F.Folder.does h c.args.folder.now c.args.folder.now) d h h) c.made-in-Err.ensures.lacked
-    (wrong-cut leads (refl, tt) d (fault_seen c.in-Err.fault) h c.in-Err.ensures)
+    (lacked-value g.F.Folder.does c.args.folder.now c.args.folder.now d h h (wrong-cut leads (refl, tt) d (fault_seen c.in-Err.fault) h c.in-Err.ensures))

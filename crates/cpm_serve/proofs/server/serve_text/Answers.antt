@@ -4,7 +4,7 @@ use Rattle.serde_json.specs.View.{view}
 use Rattle.cpm_serve.specs.Lines.{CutEventsLead, KeptEventsLead}
 use Rattle.cpm_serve.specs.Parts.{IsTextServed, IsValueCut}
 use Rattle.cpm_serve.proofs.LineLemmas.{kept-value, served-text}
-use Rattle.cpm_serve.proofs.ManyLemmas.{lacked-cut, made-as}
+use Rattle.cpm_serve.proofs.ManyLemmas.{lacked-cut, lacked-value, made-as}
 use Rattle.cpm_serve.proofs.server.serve_text.Goals as goal
 
 pub returns-clause-served : goal.returns-clause-served
@@ -25,4 +25,4 @@ returns-clause-cut g c =
     let new = c.serve_line.new.host.host in
     let leads = KeptEventsLead g.F.Folder.does h c.args.folder.now c.serve_line.new.folder in
     lacked-cut c.text_made.result (λ e. IsValueCut (CutEventsLead e g.F.Folder.does h c.args.folder.now c.serve_line.new.folder) d h new) c.text_made.ensures.lacked
-    (kept-value leads d (view c.in_ok-reply.reply) h new c.in_ok-reply.ensures.served)
+    (lacked-value g.F.Folder.does c.args.folder.now c.serve_line.new.folder d h new (kept-value leads d (view c.in_ok-reply.reply) h new c.in_ok-reply.ensures.served))

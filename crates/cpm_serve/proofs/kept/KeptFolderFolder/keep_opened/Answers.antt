@@ -8,9 +8,9 @@ pub returns-clause-did : goal.returns-clause-did
 returns-clause-did g c =
     let line = c.append_saving-outcome.new.line.items in
     let outcome = c.append_saving-outcome.result in
-    opened-kept g.F.Folder.does g.J.Write.contents c.args.self.now c.write_line.new.journal c.args.host.now.host c.args.slot.0 c.in-Ok.saving.items line outcome c.write_line.result
+    opened-kept g.F.Folder.does g.J.Write.contents c.args.self.now c.keep_line.new.journal c.args.host.now.host c.args.slot.0 c.in-Ok.saving.items line outcome c.keep_line.result
     c.in-Ok.ensures.saved
     (subst (λ (bs : List ℕ). IsKeepable (KeptSaving bs)) c.deref.ensures.value c.append_saving-outcome.ensures.keepable)
     (subst (λ (bs : List ℕ). OnOk outcome (IsLineAdded (entry_json (KeptSaving bs)) [] line)) c.deref.ensures.value
     (subst (λ (begun : List ℕ). OnOk outcome (IsLineAdded (entry_json (KeptSaving c.deref.result.now)) begun line)) c.new-line.ensures.items c.append_saving-outcome.ensures.added))
-    c.write_line.ensures
+    (c.keep_line.ensures.kept, c.keep_line.ensures.unkept)
