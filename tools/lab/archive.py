@@ -11,6 +11,7 @@ from typing import Any
 
 from lives import Life
 from room import Room
+from savings import bytes_of
 from scripts import script_of
 from session import Session
 
@@ -57,7 +58,7 @@ def told_of(life: Life, steps: int) -> dict[str, Any]:
 
 def add_life(out: Zip, work: Path, name: str, told: dict[str, Any], files: dict[str, bytes]) -> None:
     entries = [json.loads(line) for line in files["record"].splitlines()]
-    out.add(f"savings/{told['saving']}", (work / told["saving"]).read_bytes())
+    out.add(f"savings/{told['saving']}", bytes_of(work / told["saving"]))
     out.add(f"{name}/console", files["console"])
     out.add(f"{name}/list", files["list"])
     out.add(f"{name}/keys", script_of(entries).encode())

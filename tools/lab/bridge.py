@@ -6,7 +6,6 @@ import json
 import mmap
 import os
 import re
-import shutil
 import time
 from contextlib import asynccontextmanager
 from pathlib import Path
@@ -14,6 +13,7 @@ from typing import Any, AsyncIterator, Optional
 
 from paths import Folder
 from refusals import LabRefused
+from savings import pack, unpack
 
 from cpmhost import AsyncHost
 from cpmhost.faults import HostGone, NoSuchSlot, Refused
@@ -56,6 +56,8 @@ class Bridge:
         self.slots: set[int] = set()
         self.highest = -1
         self.steps = 0
+        # when it began here, and how many bytes its journal had once all of its sessions were there
+        self.begun_at, self.begun_size = time.monotonic(), 0
         self.revivals = 0
         self.one_at_a_time = asyncio.Lock()
         # who has the files that drives are copied to, and the numbers of files that pass through
@@ -133,23 +135,37 @@ class Bridge:
         raise LabRefused("HostGone", "the host ends at this request again and again: see what it said, and start the lab again")
 
     async def open_from(self, saving: Path) -> int:
-        """Opens a session from a saving."""
+        """Opens a session from a saving that is kept."""
         passing = self.folder.scratch / f"open-{self.number}-{next(self.passing)}.sav"
-        shutil.copyfile(saving, passing)
         try:
-            reply = await self.ask({"do": "open", "from": passing.name})
+            await asyncio.to_thread(unpack, saving, passing)
+            return await self.open_file(passing)
         finally:
-            passing.unlink()
+            passing.unlink(missing_ok=True)
+
+    async def open_file(self, passing: Path) -> int:
+        """Opens a session from a saving in the scratch folder."""
+        reply = await self.ask({"do": "open", "from": passing.name})
         return self.claim(int(reply["slot"]))
 
-    async def save(self, slot: int, saving: Path) -> None:
-        """Saves a session. (The host writes to memory, so that nobody waits for a device.)"""
+    @asynccontextmanager
+    async def saved(self, slot: int) -> AsyncIterator[Path]:
+        """A file of the scratch folder with a session as it stands. (The host writes to memory, so that nobody waits for a device.)"""
         passing = self.folder.scratch / f"save-{self.number}-{next(self.passing)}.sav"
         try:
             await self.ask({"do": "save", "slot": slot, "file": passing.name})
-            shutil.copyfile(passing, saving)
+            yield passing
         finally:
             passing.unlink(missing_ok=True)
+
+    async def save(self, slot: int, saving: Path) -> int:
+        """Keeps a session as it stands, and says how many bytes that takes."""
+        async with self.saved(slot) as passing:
+            return await asyncio.to_thread(pack, passing, saving)
+
+    def size(self) -> int:
+        """How many bytes its journal has."""
+        return self.journal.stat().st_size if self.journal.exists() else 0
 
     def claim(self, slot: int) -> int:
         self.slots.add(slot)

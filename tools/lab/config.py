@@ -44,11 +44,15 @@ class Limits:
     list: int = 4 << 20
     paste: int = 16384
     resets: int = 200
+    kept: int = 64 << 20
     windows: int = 4
     connections: int = 1024
     redone: int = 40_000_000
 
-    MOST = {"steps": 1 << 53, "console": 1 << 30, "list": 1 << 28, "paste": 1 << 16, "resets": 10_000, "windows": 64, "connections": 65536, "redone": 1 << 40}
+    MOST = {
+        "steps": 1 << 53, "console": 1 << 30, "list": 1 << 28, "paste": 1 << 16, "resets": 10_000, "kept": 1 << 40, "windows": 64, "connections": 65536,
+        "redone": 1 << 40,
+    }  # fmt: skip
 
 
 @dataclass(frozen=True)

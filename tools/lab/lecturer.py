@@ -121,7 +121,9 @@ async def do(room: Room, asked: dict[str, Any]) -> dict[str, Any]:
     match asked:
         case {"do": "stop" | "go" as what, "ids": ids, **rest} if not rest:
             return await each(chosen(room, ids), lambda it: room.stop(it, what == "stop"))
-        case {"do": "save", "ids": ids, "label": str(label), **rest} if not rest and len(label) <= MOST_LABEL and label.isprintable():
+        case {"do": "save", "ids": ids, "label": str(label), **rest} if not rest:
+            if len(label) > MOST_LABEL or not label.isprintable():
+                raise LabRefused("BadLabel", f"the name of a saving has up to {MOST_LABEL} characters, and none that can't be seen: type it anew")
             return await each(chosen(room, ids), lambda it: room.save(it, label.strip() or "a saving"))
         case {"do": "back", "ids": ids, "saving": (str() | None) as saving, **rest} if not rest:
             return await each(chosen(room, ids), lambda it: room.set_back(it, saving))

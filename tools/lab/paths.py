@@ -31,8 +31,10 @@ class Folder:
             raise WrongConfiguration(f"can't make the folder {top}: {fault}: give another by 'folder'") from fault
         try:
             fcntl.flock(self.held, fcntl.LOCK_EX | (0 if waits else fcntl.LOCK_NB))
-        except OSError as fault:
+        except BlockingIOError as fault:
             raise WrongConfiguration(f"{top} is held by another lab that runs: end that one, or give another 'folder'") from fault
+        except OSError as fault:
+            raise WrongConfiguration(f"can't lock {top}/held: {fault}: see to the device or the server that has it, or give another 'folder'") from fault
         self.token = secrets.token_hex(16).encode()
         os.ftruncate(self.held, 0)
         os.pwrite(self.held, self.token, 0)

@@ -9,10 +9,11 @@ from dataclasses import dataclass
 from pathlib import Path
 from typing import Any, AsyncIterator, Iterable, Optional
 
-from bridge import MOST_SESSIONS, Bridge, cut_off
+from bridge import Bridge, cut_off
 from config import Lab
 from lives import Lengths, Life
 from log import Log
+from moving import has_room
 from paths import Folder, slug
 from refusals import LabRefused
 from scheduler import Scheduler
@@ -22,9 +23,6 @@ from start import Beginning, key_of, make_beginning, system_drive
 
 from cpmhost.faults import CpmhostError
 
-# a host moves to a new journal once its own has this many bytes, or the steps of `redone`; not sooner than behind these seconds, and with such a pause behind
-# each session, in which keys that came meanwhile have their turns
-MOST_BYTES_KEPT, LEAST_KEPT, BETWEEN_MOVES = 400 << 20, 2.0, 0.01
 LOOK_AGAIN, MOST_SAVINGS = 0.25, 200
 
 
@@ -45,7 +43,6 @@ class Room:
         self.bridges: dict[int, Bridge] = {}
         self.schedulers: dict[int, Scheduler] = {}
         self.tasks: dict[int, "asyncio.Task[None]"] = {}
-        self.begun_at: dict[int, float] = {}
         self.sessions: dict[str, Session] = {}
         self.savings: list[dict[str, Any]] = []
         self.next_file = self.next_host = 1
@@ -140,7 +137,6 @@ class Room:
     def have(self, bridge: Bridge) -> None:
         self.bridges[bridge.number] = bridge
         scheduler = self.schedulers[bridge.number] = Scheduler(bridge, self.turn)
-        self.begun_at[bridge.number] = time.monotonic()
         task = self.tasks[bridge.number] = asyncio.create_task(scheduler.run())
         task.add_done_callback(self.ended)
 
@@ -158,41 +154,9 @@ class Room:
 
     async def host_with_room(self) -> Bridge:
         for bridge in self.bridges.values():
-            if len(bridge.slots) < MOST_SESSIONS:
+            if has_room(bridge):
                 return bridge
         return await self.new_host()
-
-    async def watch_hosts(self) -> None:
-        """Moves the sessions of a host whose journal would take long to be done again to a new one."""
-        while True:
-            await asyncio.sleep(1)
-            if self.log.is_long:
-                await self.log.begin_beside(self.state())
-            for bridge in list(self.bridges.values()):
-                is_long = bridge.steps > self.lab.limits.redone or bridge.journal.stat().st_size > MOST_BYTES_KEPT
-                if is_long and time.monotonic() > self.begun_at[bridge.number] + LEAST_KEPT:
-                    await self.move(bridge)
-
-    async def move(self, old: Bridge) -> None:
-        """Moves each session in its turn, while the others go on."""
-        new = await self.new_host()
-        for session in list(self.sessions.values()):
-            if session.bridge is old:
-                async with self.alone(session):
-                    saving = self.folder.scratch / f"move-{old.number}.sav"
-                    await old.save(session.slot, saving)
-                    slot = await new.open_from(saving)
-                    before, session.bridge, session.slot = session.slot, new, slot
-                    self.schedulers[old.number].drop(session)
-                    self.keep(session)
-                    await old.close_slot(before)
-                await asyncio.sleep(BETWEEN_MOVES)
-        self.schedulers[old.number].end()
-        await self.tasks.pop(old.number)
-        del self.bridges[old.number], self.schedulers[old.number], self.begun_at[old.number]
-        await old.close()
-        await self.log.begin_beside(self.state())
-        old.journal.unlink(missing_ok=True)
 
     # ---- turns
 
@@ -291,9 +255,11 @@ class Room:
         self.sessions[session.id] = session
         self.keep(session)
 
-    async def renew(self, session: Session, saving: str, machine: Machine, shown: bytes, how: str, is_own: bool = False) -> None:
-        """A new life of a session, which goes on from a saving. (It is had alone.)"""
-        slot = await session.bridge.open_from(self.work(saving))
+    async def renew(
+        self, session: Session, saving: str, machine: Machine, shown: bytes, how: str, is_own: bool = False, opened: Optional[int] = None
+    ) -> None:
+        """A new life of a session, which goes on from a saving, or in a slot that stands where the saving does. (It is had alone.)"""
+        slot = await session.bridge.open_from(self.work(saving)) if opened is None else opened
         before, session.slot, steps = session.slot, slot, session.steps
         session.forget_keys()
         session.spend(is_own)

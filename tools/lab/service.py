@@ -12,6 +12,7 @@ from typing import Any
 
 from aiohttp import web
 
+import moving
 from config import Lab
 from guard import Door
 from links import Links, table
@@ -22,12 +23,15 @@ from web_app import Site
 
 # how often it is looked whose the folder is, in seconds
 MOST_FILES, LOOK_EACH = 65536, 1.0
+MOST_UNREAD = 128 << 10
 
 
 def bound(lab: Lab) -> socket.socket:
     family = socket.AF_INET6 if ":" in lab.address else socket.AF_INET
     it = socket.socket(family, socket.SOCK_STREAM)
     it.setsockopt(socket.SOL_SOCKET, socket.SO_REUSEADDR, 1)
+    # (each connection has it from here: how much the system keeps for a page that reads nothing)
+    it.setsockopt(socket.SOL_SOCKET, socket.SO_SNDBUF, MOST_UNREAD)
     try:
         it.bind((lab.address, lab.port))
     except OSError as fault:
@@ -72,7 +76,7 @@ async def serve(lab: Lab, stands_by: bool = False, shows_links: bool = True) -> 
         server = await asyncio.get_running_loop().create_server(site.door, sock=listening, backlog=1024)
         if not os.environ.get("LAB_AGAIN"):
             print(table(lab, links) if shows_links else f"{lab.name} is at {lab.address_of_pages()}", flush=True)
-        beside: list["asyncio.Task[Any]"] = [asyncio.create_task(it) for it in (is_told_to_end.wait(), site.door.sweep(), room.watch_hosts(), watch_folder(folder))]
+        beside: list["asyncio.Task[Any]"] = [asyncio.create_task(it) for it in (is_told_to_end.wait(), site.door.sweep(), moving.watch(room), watch_folder(folder))]
         await asyncio.wait([room.fault, *beside], return_when=asyncio.FIRST_COMPLETED)
         server.close()
         for it in (room.fault, *beside):

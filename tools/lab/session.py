@@ -1,7 +1,6 @@
 """A student's session: where it is, what it may do, what waits to be typed, and who looks at it."""
 
 import asyncio
-import json
 import time
 from collections import OrderedDict, deque
 from dataclasses import asdict, dataclass, field
@@ -10,6 +9,7 @@ from typing import TYPE_CHECKING, Any, Callable, Deque
 
 from config import Lab
 from lives import FAR_ANEW, SHOWN_ANEW, Life
+from outgoing import Parts
 from refusals import LabRefused
 from scripts import Cue
 
@@ -68,6 +68,8 @@ class Seat:
     before_console: int = 0
     before_list: int = 0
     resets: int = 0
+    # how many bytes are kept of these
+    kept: int = 0
     leave: bool = False
     end: str = "Running"
     script: list[Cue] = field(default_factory=list)
@@ -155,7 +157,7 @@ class Session:
             seat.before_steps, seat.resets = self.spent, seat.resets + 1
             seat.before_console, seat.before_list = seat.before_console + lengths.console, seat.before_list + lengths.list
         else:
-            seat.before_steps = seat.before_console = seat.before_list = seat.resets = 0
+            seat.before_steps = seat.before_console = seat.before_list = seat.resets = seat.kept = 0
             seat.shares = 1
 
     # ---- keys
@@ -237,20 +239,11 @@ class Session:
         """The last of what it has shown, for a screen that begins with it."""
         return self.life.last(self.lab.terminal, most, far)
 
-    def printed(self) -> bytes:
-        """What it has sent to the printer in all its lives: paper stays printed."""
-        before = [self.folder / str(number) / "list" for number in range(1, self.life.number)]
-        return b"".join(it.read_bytes() for it in before if it.exists()) + self.life.whole("list")
-
-    def life_of(self, number: int) -> dict[str, Any]:
-        """What a life has shown, and when: [milliseconds, steps, length of the console, keys] for each turn."""
-        if number == self.life.number:
-            files = {name: self.life.whole(name) for name in ("console", "record")}
-        else:
-            files = {name: (self.folder / str(number) / name).read_bytes() for name in ("console", "record")}
-        prologue = self.folder / str(number) / "prologue"
-        times = [[it["ms"], it["n"], it["c"], it.get("keys", "")] for it in map(json.loads, files["record"].splitlines())]
-        return {"console": files["console"], "prologue": prologue.read_bytes() if prologue.exists() else b"", "times": times}
+    def printed(self) -> Parts:
+        """Where that stands which it has sent to the printer in all its lives: paper stays printed."""
+        life = self.life
+        before = [self.folder / str(number) / "list" for number in range(1, life.number)]
+        return Parts([*((it, 0, it.stat().st_size) for it in before if it.exists()), (life.folder / "list", 0, life.lengths.list)])
 
     # ---- what is told of it
 

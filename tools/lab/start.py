@@ -12,6 +12,7 @@ from config import BLANKS, Lab
 from lives import FAR_ANEW
 from paths import Folder, whole_file
 from refusals import WrongConfiguration
+from savings import pack
 from session import Machine
 
 from cpmhost import AsyncHost
@@ -99,10 +100,10 @@ async def make_beginning(lab: Lab, folder: Folder, system: Optional[Path]) -> Be
         raise WrongConfiguration(f"{why}, and correct 'system' or the variable CPMHOST") from fault
     data = (scratch / "start.sav").read_bytes()
     saving = f"start-{digest(data)[:16]}.sav"
-    whole_file(folder.work / saving, data)
+    pack(scratch / "start.sav", folder.work / saving)
     # (what a screen shows that begins with it)
     whole_file(folder.work / f"{saving}.screen", shown[-FAR_ANEW:])
-    return Beginning(saving, machine_of(lab.program, folder.work / saving), key_of(lab))
+    return Beginning(saving, machine_of(lab.program, scratch / "start.sav"), key_of(lab))
 
 
 def machine_of(program: str, saving: Path) -> Machine:

@@ -6,7 +6,6 @@ import json
 import re
 from pathlib import Path
 from typing import Any, AsyncIterator, Awaitable, Callable, Iterator, Optional
-from urllib.parse import quote
 
 from aiohttp import WSMsgType, web
 
@@ -17,22 +16,23 @@ from drives import Drives
 from guard import Door, Rate, add_headers, check_origin, refusal
 from lecturer import LecturerSocket, do
 from links import LECTURER, Links
+from outgoing import JSON, Parts, attachment, object_of, pieces_of_files, send, send_bytes, send_json
 from refusals import LabRefused
+from replaying import life_told
 from room import Room
 from session import Session
-from viewer import Viewer, text
+from viewer import Viewer
 
-from cpmhost.faults import CpmhostError, Refused
+from cpmhost.faults import CpmhostError, Refused, WrongLine
 
 PAGES = Path(__file__).resolve().parent / "page"
 KINDS = {".js": "text/javascript", ".css": "text/css", ".html": "text/html", ".svg": "image/svg+xml"}
 # the longest message of a page, and the longest body of a request but for a file that is stored
 MOST_MESSAGE, MOST_BODY = 64 << 10, 256 << 10
-MOST_REPLAYED = 8 << 20
 # a page's messages at once and in a second, how many may be refused, and how many requests of a link are under way
 MESSAGES, MOST_REFUSALS, MOST_REQUESTS = (200, 100.0), 50, 4
 PAGE_NAME = re.compile(r"[0-9a-f]{16}")
-STATUSES = {"NoLink": 404, "OtherOrigin": 403, "WrongMessage": 400, "TooLong": 413}
+STATUSES = {"NoLink": 404, "OtherOrigin": 403, "WrongMessage": 400, "BadName": 400, "BadLabel": 400, "TooLong": 413}
 Handler = Callable[[web.Request], Awaitable[web.StreamResponse]]
 
 
@@ -65,6 +65,8 @@ class Site:
         return [
             ("/static/{name}", "GET", self.static),
             (student, "GET", self.student_page),
+            ("/s/{secret}", "GET", self.with_slash),
+            ("/l/{secret}", "GET", self.with_slash),
             (f"{student}socket", "GET", self.student_socket),
             (f"{student}files", "GET", self.files),
             (f"{student}file", "GET", self.file),
@@ -96,6 +98,8 @@ class Site:
             return refusal(request, STATUSES.get(fault.word, 409), fault.word, fault.why)
         except Refused as fault:
             return refusal(request, 409, fault.word, fault.why)
+        except WrongLine as fault:
+            return refusal(request, 400, "WrongRequest", f"the host takes no such request ({fault})")
         except CpmhostError as fault:
             return refusal(request, 503, "HostGone", f"{fault}: try again in a moment")
         except web.HTTPRequestEntityTooLarge:
@@ -140,7 +144,7 @@ class Site:
 
     @contextlib.contextmanager
     def asking(self, session: Session) -> Iterator[None]:
-        """Counts the requests of a link that take a host's time."""
+        """Counts the requests of a link that take a host's time, until all of the answer is sent."""
         with self.counted(f"{session.id} asks", MOST_REQUESTS) as is_let_in:
             if not is_let_in:
                 raise LabRefused("TooManyRequests", f"{MOST_REQUESTS} requests of this link are under way: wait for them")
@@ -148,25 +152,33 @@ class Site:
 
     # ---- pages
 
-    def served(self, name: str) -> web.Response:
+    async def served(self, request: web.Request, name: str) -> web.StreamResponse:
         kind, body = self.statics[name]
-        return web.Response(body=body, content_type=kind, charset="utf-8")
+        return await send_bytes(request, {"Content-Type": f"{kind}; charset=utf-8"}, body)
 
-    async def static(self, request: web.Request) -> web.Response:
+    async def static(self, request: web.Request) -> web.StreamResponse:
         name = request.match_info["name"]
         if name not in self.statics or name.endswith(".html"):
             raise web.HTTPNotFound()
-        response = self.served(name)
-        response.headers["Cache-Control"] = "no-cache"
-        return response
+        kind, body = self.statics[name]
+        return await send_bytes(request, {"Content-Type": f"{kind}; charset=utf-8", "Cache-Control": "no-cache"}, body)
 
-    async def student_page(self, request: web.Request) -> web.Response:
+    async def student_page(self, request: web.Request) -> web.StreamResponse:
         self.student(request)
-        return self.served("student.html")
+        return await self.served(request, "student.html")
 
-    async def lecturer_page(self, request: web.Request) -> web.Response:
+    async def lecturer_page(self, request: web.Request) -> web.StreamResponse:
         self.lecturer(request)
-        return self.served("lecturer.html")
+        return await self.served(request, "lecturer.html")
+
+    async def with_slash(self, request: web.Request) -> web.StreamResponse:
+        """A link without its last slash leads to the one with it."""
+        secret = request.match_info["secret"]
+        if request.path == f"{self.lab.prefix}/l/{secret}":
+            self.lecturer(request)
+        else:
+            self.student(request)
+        return web.Response(status=308, headers={"Location": f"{secret}/"})
 
     # ---- a student
 
@@ -217,36 +229,38 @@ class Site:
             return {"type": "refused", "refused": fault.word, "why": fault.why, "wanted": session.wanted_of(page), **refused_keys}
         return None
 
-    async def files(self, request: web.Request) -> web.Response:
+    async def files(self, request: web.Request) -> web.StreamResponse:
         session = self.student(request)
         drive = request.query.get("drive", "A")
         with self.asking(session):
-            return web.json_response({"drive": drive, "names": await self.drives.files(session, drive)})
+            return await send_json(request, {"drive": drive, "names": await self.drives.files(session, drive)})
 
-    async def file(self, request: web.Request) -> web.Response:
+    async def file(self, request: web.Request) -> web.StreamResponse:
         session = self.student(request)
         name = request.query.get("name", "")
         with self.asking(session):
-            return download(name, await self.drives.file(session, request.query.get("drive", "A"), name))
+            return await send_bytes(request, attachment(name), await self.drives.file(session, request.query.get("drive", "A"), name))
 
-    async def store(self, request: web.Request) -> web.Response:
+    async def store(self, request: web.Request) -> web.StreamResponse:
         session = self.student(request)
         name = request.query.get("name", "")
         with self.asking(session):
             await self.drives.store(session, request.query.get("drive", "A"), name, await request.read())
-        return web.json_response({"stored": name})
+            return await send_json(request, {"stored": name})
 
-    async def reset(self, request: web.Request) -> web.Response:
+    async def reset(self, request: web.Request) -> web.StreamResponse:
         session = self.student(request)
         with self.asking(session):
             await self.drives.reset(session)
-        return web.json_response({"reset": session.name})
+            return await send_json(request, {"reset": session.name})
 
-    async def printout(self, request: web.Request) -> web.Response:
+    async def printout(self, request: web.Request) -> web.StreamResponse:
         session = self.student(request)
-        if "save" in request.query:
-            return download("PRINTOUT.TXT", session.printed())
-        return web.json_response({"text": text(session.printed()[-MOST_BODY:])})
+        with self.asking(session):
+            parts = await asyncio.to_thread(session.printed)
+            if "save" in request.query:
+                return await send(request, attachment("PRINTOUT.TXT"), pieces_of_files(parts), parts.length)
+            return await send(request, JSON, object_of({"text": parts.last(MOST_BODY)}))
 
     # ---- the lecturer
 
@@ -259,24 +273,21 @@ class Site:
 
     async def do(self, request: web.Request) -> web.Response:
         self.lecturer(request)
-        return web.json_response(await do(self.room, message_of(await request.text())))
+        return web.json_response(await do(self.room, message_of(await request.read())))
 
-    async def savings(self, request: web.Request) -> web.Response:
+    async def savings(self, request: web.Request) -> web.StreamResponse:
         self.lecturer(request)
-        return web.json_response({"savings": self.room.savings})
+        return await send_json(request, {"savings": self.room.savings})
 
-    async def replay(self, request: web.Request) -> web.Response:
+    async def replay(self, request: web.Request) -> web.StreamResponse:
         """What a session showed in a life, and when."""
         self.lecturer(request)
         session = self.room.sessions.get(request.query.get("id", ""))
         number = request.query.get("life", "")
-        if session is None or not re.fullmatch(r"[0-9]{1,6}", number or "0") or int(number or 1) > session.life.number:
+        if session is None or not re.fullmatch(r"[1-9][0-9]{0,5}", number or "1") or int(number or 1) > session.life.number:
             raise LabRefused("NoSession", "the class has no such session, or no such life of it")
-        told = session.life_of(int(number or session.life.number))
-        if len(told["console"]) > MOST_REPLAYED:
-            raise LabRefused("TooLong", f"the life has shown {len(told['console']):,} bytes, and {MOST_REPLAYED:,} are replayed here: it is in the archive")
-        named = {"name": session.name, "lives": session.life.number, "life": int(number or session.life.number)}
-        return web.json_response({**named, **{name: text(told[name]) for name in ("console", "prologue")}, "times": told["times"]})
+        told = await asyncio.to_thread(life_told(session, int(number or session.life.number)))
+        return await send(request, JSON, object_of(told))
 
     async def archive(self, request: web.Request) -> web.StreamResponse:
         self.lecturer(request)
@@ -285,33 +296,18 @@ class Site:
         async with self.collecting:
             path = await collect(self.room)
             try:
-                response = web.StreamResponse(headers={**attachment(f"{self.lab.name}.zip"), "Content-Type": "application/zip"})
-                response.content_length = path.stat().st_size
-                await response.prepare(request)
-                with open(path, "rb") as file:
-                    while part := file.read(1 << 18):
-                        await response.write(part)
-                await response.write_eof()
+                parts = Parts([(path, 0, path.stat().st_size)])
+                return await send(request, attachment(f"{self.lab.name}.zip", "application/zip"), pieces_of_files(parts), parts.length)
             finally:
                 path.unlink(missing_ok=True)
-        return response
 
 
-def message_of(data: str) -> dict[str, Any]:
+def message_of(data: str | bytes) -> dict[str, Any]:
     try:
+        # (what is no UTF-8 is a ValueError too)
         found = json.loads(data)
     except (ValueError, RecursionError):
         found = None
     if not isinstance(found, dict):
         raise LabRefused("WrongMessage", "what came is no object of JSON: load the page again")
     return found
-
-
-def attachment(name: str) -> dict[str, str]:
-    """A name for what is loaded: letters, digits and a few others; the whole name stands in the form that any character may have."""
-    plain = re.sub(r"[^A-Za-z0-9._ -]", "_", name).strip(". ") or "FILE"
-    return {"Content-Disposition": f"attachment; filename=\"{plain}\"; filename*=UTF-8''{quote(plain)}"}
-
-
-def download(name: str, data: bytes) -> web.Response:
-    return web.Response(body=data, content_type="application/octet-stream", headers=attachment(name))
