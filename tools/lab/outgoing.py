@@ -11,7 +11,7 @@ from urllib.parse import quote
 from aiohttp import web
 
 # how long a piece is, and how long a page may take for it, in seconds
-PIECE, TAKEN_WITHIN = 64 << 10, 20.0
+PIECE, TAKEN_WITHIN = 64 << 10, 15.0
 JSON = {"Content-Type": "application/json; charset=utf-8"}
 # a part of a file: from where to where
 Part = tuple[Path, int, int]
