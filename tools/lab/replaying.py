@@ -37,7 +37,8 @@ def kept(folder: Path, lengths: Optional[Lengths], steps: Optional[int]) -> dict
     """The console, what stood before it, and for each turn [milliseconds, steps before it, length of the console before it, keys]."""
     console, record = ((folder / name).stat().st_size if lengths is None else getattr(lengths, name) for name in ("console", "record"))
     if console + record > MOST_REPLAYED:
-        raise LabRefused("TooLong", f"what it has shown and its record have {console + record:,} bytes, and {MOST_REPLAYED:,} are replayed: the archive has them")
+        why = f"what it has shown and its record have {console + record:,} bytes, and {MOST_REPLAYED:,} are replayed: the archive has them"
+        raise LabRefused("TooLong", why)
     with open(folder / "record", "rb") as file:
         lines = file.read(record).splitlines()
     times = [[it["ms"], it["n"], it["c"], it.get("keys", "")] for it in map(json.loads, lines)]

@@ -76,7 +76,8 @@ async def serve(lab: Lab, stands_by: bool = False, shows_links: bool = True) -> 
         server = await asyncio.get_running_loop().create_server(site.door, sock=listening, backlog=1024)
         if not os.environ.get("LAB_AGAIN"):
             print(table(lab, links) if shows_links else f"{lab.name} is at {lab.address_of_pages()}", flush=True)
-        beside: list["asyncio.Task[Any]"] = [asyncio.create_task(it) for it in (is_told_to_end.wait(), site.door.sweep(), moving.watch(room), watch_folder(folder))]
+        works = is_told_to_end.wait(), site.door.sweep(), moving.watch(room), watch_folder(folder)
+        beside: list["asyncio.Task[Any]"] = [asyncio.create_task(it) for it in works]
         await asyncio.wait([room.fault, *beside], return_when=asyncio.FIRST_COMPLETED)
         server.close()
         for it in (room.fault, *beside):

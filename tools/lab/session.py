@@ -22,7 +22,7 @@ BURST = 0.1
 ENDS = {
     "Halted": "The processor was halted, which ended the session.",
     "Illegal": "The program reached a byte that is no instruction of the {cpu}, which ended the session.",
-    "Quota": "The program wrote to more memory than its quota of {quota} pages, which ended the session.",
+    "Quota": "The program wrote to more memory than the session may, which is {memory} KiB, and that ended it.",
     "CountEnd": "The count of steps can't rise any more, which ended the session.",
     "Exited": "The program returned to the system, which ended the session.",
 }
@@ -251,7 +251,7 @@ class Session:
         """Why it doesn't go on, in plain words; nothing where it does."""
         seat, limits = self.seat, self.lab.limits
         if seat.end != "Running":
-            return ENDS.get(seat.end, "The session ended: {end}.").format(cpu=seat.machine.cpu.upper(), quota=seat.machine.quota, end=seat.end)
+            return ENDS.get(seat.end, "The session ended: {end}.").format(cpu=seat.machine.cpu.upper(), memory=seat.machine.quota // 4, end=seat.end)
         if seat.over:
             return OVERS[seat.over].format(most=self.most_steps, console=limits.console * seat.shares, list=limits.list * seat.shares)
         return "Your lecturer has stopped the session for now." if seat.stopped else ""

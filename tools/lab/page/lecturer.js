@@ -1,7 +1,7 @@
 // The lecturer's page.
 
 import { LabTerminal, SmallScreen } from "./terminal.js";
-import { Link, asked, at, number, tell } from "./link.js";
+import { Link, asked, at, closed, memory, number, question, tell } from "./link.js";
 import { replay } from "./replay.js";
 
 const WORDS = { waits: "waiting", works: "working", stopped: "stopped", over: "used up", ended: "ended" };
@@ -30,6 +30,7 @@ class Tile {
         this.box.onchange = showChosen;
         this.badge = made("span", "badge");
         label.append(this.box, made("span", "", name));
+        label.title = name;
         top.append(label, this.badge);
         const screen = made("button", "screen");
         screen.type = "button";
@@ -52,8 +53,9 @@ class Tile {
         this.badge.title = state.why;
         const share = Math.floor(100 * state.steps / state.most);
         this.steps.textContent = `${share}% · ${number(state.steps)} step${state.steps === 1 ? "" : "s"}`;
+        this.pages.title = "memory that is written";
         this.steps.title = `${number(state.steps)} of ${number(state.most)} steps, ${number(state.console)} bytes shown, ${number(state.list)} printed`;
-        this.pages.textContent = `${state.pages}/${state.quota} pages${state.script ? ` · ${state.script} lines to type` : ""}`;
+        this.pages.textContent = `${memory(state.pages, state.quota)}${state.script ? ` · ${state.script} lines to type` : ""}`;
     }
 }
 
@@ -75,10 +77,11 @@ const showCounts = () => {
 };
 
 // How wide small screens are at least: as many as there are, so that a class is seen at once, unless it was chosen.
-const WIDTHS = [120, 170, 240, 300, 400, 560];
+const WIDTHS = [120, 160, 240, 300, 400, 560];
 const resize = by => {
-    const now = Number(localStorage.getItem("tile")) || (tiles.size > 12 ? 170 : 300);
-    const place = Math.min(WIDTHS.length - 1, Math.max(0, WIDTHS.indexOf(now) + by));
+    const now = Number(localStorage.getItem("tile")) || (tiles.size > 12 ? 160 : 300);
+    const nearest = WIDTHS.findLastIndex(width => width <= now);
+    const place = Math.min(WIDTHS.length - 1, Math.max(0, nearest + by));
     if (by) localStorage.setItem("tile", String(WIDTHS[place]));
     at("screens").style.setProperty("--tile", `${WIDTHS[place]}px`);
 };
@@ -106,13 +109,14 @@ const begin = message => {
     if (watched) link.send({ type: "watch", id: watched });
 };
 
+const times = count => count === 1 ? "once" : `${number(count)} times`;
 const showShoulder = state => {
     at("shoulder-badge").textContent = WORDS[state.is];
     at("shoulder-badge").className = `badge ${state.is}`;
     at("shoulder-why").textContent = state.why.replace("Your lecturer has", "You have").replace("Your lecturer can", "You can");
     at("shoulder-why").hidden = !state.why;
-    at("shoulder-used").textContent = `${number(state.steps)} of ${number(state.most)} steps, ${state.pages} of ${state.quota} pages of memory, `
-        + `${number(state.console)} bytes shown, ${number(state.list)} printed, life ${state.life}`;
+    at("shoulder-used").textContent = `${number(state.steps)} of ${number(state.most)} steps, ${memory(state.pages, state.quota)} of memory, `
+        + `${number(state.console)} bytes shown, ${number(state.list)} printed, begun anew ${times(state.life - 1)}`;
     at("types").disabled = !state.leave;
     at("no-leave").hidden = state.leave;
     if (!state.leave) at("types").checked = false;
@@ -150,10 +154,10 @@ const look = id => {
     shoulder.focus();
     window.shoulder = shoulder;
 };
-at("shoulder").onclose = () => {
+closed(at("shoulder"), () => {
     watched = "";
     link.send({ type: "watch", id: "" });
-};
+});
 at("types").onchange = () => shoulder.focus();
 
 // ---- what is done
@@ -166,7 +170,7 @@ const post = async what => {
 const run = what => post(what).catch(wrong);
 
 // Asks for what a doing needs: a name, a choice, a script.
-const ask = ({ title, text, yes, label = null, choice = null, choiceName = "", script = false }) => new Promise(done => {
+const ask = ({ title, text, yes, label = null, choice = null, choiceName = "", script = false }) => question(at("ask"), () => {
     at("ask-title").textContent = title;
     at("ask-text").textContent = text;
     at("ask-yes").textContent = yes;
@@ -176,13 +180,7 @@ const ask = ({ title, text, yes, label = null, choice = null, choiceName = "", s
     at("ask-choice-name").textContent = choiceName;
     at("ask-choice").replaceChildren(...(choice || []).map(([name, value]) => new Option(name, value)));
     at("ask-script-row").hidden = !script;
-    at("ask").returnValue = "no";
-    at("ask").onclose = () => {
-        const given = { label: at("ask-label").value, choice: at("ask-choice").value, script: at("ask-script").value };
-        done(at("ask").returnValue === "yes" ? given : null);
-    };
-    at("ask").showModal();
-});
+}, () => ({ label: at("ask-label").value, choice: at("ask-choice").value, script: at("ask-script").value }));
 
 const who = ids => ids === "all" ? `all ${tiles.size}` : ids.map(id => tiles.get(id).name).join(", ");
 const those = () => chosen().length ? chosen() : "all";

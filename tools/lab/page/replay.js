@@ -1,19 +1,20 @@
 // A session's life once more, at any speed.
 
 import { LabTerminal } from "./terminal.js";
-import { asked, at, number } from "./link.js";
+import { asked, at, closed, number } from "./link.js";
 
 const LONGEST_PAUSE = 2000, SLOWEST = 0.01, FASTEST = 100000;
 let terminal = null, life = null, timer = 0;
 
-// The moments of a life: when, up to where the console is shown, and the count of steps. Pauses are shortened if that is wanted.
-const moments = ({ times, console: shown }, isShort) => {
+// The moments of a life: when, up to where the console is shown, and the count of steps at which it had shown that. Pauses are shortened if that is wanted.
+const moments = ({ times, console: shown, steps: whole }, isShort) => {
     const found = [];
     let now = 0, last = times.length ? times[0][0] : 0;
-    times.forEach(([ms, steps], place) => {
+    times.forEach(([ms], place) => {
         now += isShort ? Math.min(ms - last, LONGEST_PAUSE) : ms - last;
         last = ms;
-        found.push({ at: now, end: place + 1 < times.length ? times[place + 1][2] : shown.length, steps });
+        const [, steps, end] = times[place + 1] || [0, whole, shown.length];
+        found.push({ at: now, end, steps });
     });
     return found;
 };
@@ -65,7 +66,7 @@ const tick = () => {
 const load = async (id, number_) => {
     const told = await asked(`replay?id=${encodeURIComponent(id)}${number_ ? `&life=${number_}` : ""}`);
     at("replay-name").textContent = `Replay: ${told.name}`;
-    at("replay-life").replaceChildren(...Array.from({ length: told.lives }, (_, place) => new Option(String(place + 1), String(place + 1))));
+    at("replay-life").replaceChildren(...told.hows.map((how, place) => new Option(`${place + 1}: ${how}`, String(place + 1))));
     at("replay-life").value = String(told.life);
     life = new Player(told);
     life.time = performance.now();
@@ -83,10 +84,10 @@ export const replay = async (id, kind) => {
     timer = setInterval(tick, 40);
 };
 
-at("replay").onclose = () => {
+closed(at("replay"), () => {
     clearInterval(timer);
     life = null;
-};
+});
 at("replay-play").onclick = () => {
     if (!life) return;
     if (life.now >= life.length) {

@@ -2,7 +2,7 @@
 
 import { LabTerminal } from "./terminal.js";
 import { sent } from "./terminals.js";
-import { Link, asked, at, number, tell } from "./link.js";
+import { Link, asked, at, memory, number, question, tell } from "./link.js";
 
 const SENT_AT_ONCE = 256, MOST_AHEAD = 2048;
 const WORDS = { waits: "waits for a key", works: "works", stopped: "stopped", over: "stopped", ended: "ended" };
@@ -78,7 +78,7 @@ const showState = now => {
     at("badge").className = `badge ${now.is}`;
     at("steps").textContent = `You are at step ${number(now.steps)} of ${number(now.most)}.`;
     at("share").value = now.steps / now.most;
-    at("pages").textContent = `${now.pages} of ${now.quota} pages of memory are written (${now.cpu.toUpperCase()}).`;
+    at("pages").textContent = `${memory(now.pages, now.quota)} of memory are written (${now.cpu.toUpperCase()}).`;
     at("ended").textContent = now.why;
     at("ended").hidden = !now.why;
     at("looked").hidden = !now.looked;
@@ -177,10 +177,8 @@ at("leave").onchange = () => {
     terminal.focus();
 };
 
-at("reset").onclick = () => at("ask-reset").showModal();
-at("ask-reset").onclose = async () => {
-    const isWanted = at("ask-reset").returnValue === "yes";
-    at("ask-reset").returnValue = "no";
+at("reset").onclick = async () => {
+    const isWanted = await question(at("ask-reset"));
     terminal.focus();
     if (isWanted) await asked("reset", { method: "POST" }).catch(wrong);
 };
@@ -197,9 +195,14 @@ const listFiles = async () => {
         item.append(anchor);
         return item;
     }));
-    at("files-told").textContent = names.length ? "A click loads a file from the disk." : "The disk has no files of user 0.";
+    at("files-told").textContent = names.length ? "A click downloads a file of the disk." : "The disk has no files of user 0.";
 };
-at("list").onclick = () => listFiles().catch(wrong);
+// What is typed behind a click goes to the terminal; a phone would show its keyboard for that.
+const typeOn = () => { if (!matchMedia("(pointer: coarse)").matches) terminal.focus(); };
+at("list").onclick = () => {
+    typeOn();
+    listFiles().catch(wrong);
+};
 at("drive").onchange = () => listFiles().catch(wrong);
 at("store").onchange = async () => {
     const file = at("store").files[0];
@@ -217,5 +220,8 @@ const printout = async () => {
     at("paper").textContent = text ? text.replace(/\r/g, "") : "Nothing was printed yet.";
     at("paper").hidden = false;
 };
-at("printout").onclick = () => printout().catch(wrong);
+at("printout").onclick = () => {
+    typeOn();
+    printout().catch(wrong);
+};
 at("print").onclick = () => printout().then(() => window.print()).catch(wrong);

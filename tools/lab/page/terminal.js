@@ -48,6 +48,27 @@ const cell = size => {
     return Math.floor(ruler.measureText("W").width * devicePixelRatio) / devicePixelRatio;
 };
 
+// How many rows of a font's letters are above the place where a text begins that is drawn from its top on.
+const SAMPLE = "lfbdhkt|[]{}()/@$QWj", ABOVE = 8, rises = new Map();
+const rise = font => {
+    if (!rises.has(font)) {
+        const canvas = document.createElement("canvas"), pen = canvas.getContext("2d", { willReadFrequently: true });
+        [canvas.width, canvas.height] = [2048, ABOVE];
+        pen.font = font;
+        pen.textBaseline = "top";
+        draw.call(pen, SAMPLE, 0, ABOVE);
+        const inked = pen.getImageData(0, 0, canvas.width, ABOVE).data.findIndex(value => value > 0);
+        rises.set(font, inked < 0 ? 0 : ABOVE - Math.floor(inked / (4 * canvas.width)));
+    }
+    return rises.get(font);
+};
+
+// xterm.js draws each letter from its top on, and cuts off what is above that: so all are drawn as much lower. Their lines have room for it.
+const draw = CanvasRenderingContext2D.prototype.fillText;
+CanvasRenderingContext2D.prototype.fillText = function fillText(text, x, y, ...more) {
+    draw.call(this, text, x, this.textBaseline === "top" ? y + rise(this.font) : y, ...more);
+};
+
 const THEME = { background: "#101418", foreground: "#d7e0d7", cursor: "#7ee787" };
 
 // A terminal in a place of the page.
@@ -122,7 +143,7 @@ export class LabTerminal {
         size = Math.min(MOST, Math.max(LEAST, size));
         if (size === this.size()) return;
         this.terminal.setOption("fontSize", size);
-        // (xterm.js cuts off the tops of small letters in lines that are as high as these are)
+        // (small letters are read more easily with some room between lines)
         this.terminal.setOption("lineHeight", size < SMALL ? 1.2 : 1);
     }
 }
