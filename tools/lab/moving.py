@@ -11,7 +11,7 @@ if TYPE_CHECKING:
 
 # a host moves once its journal has this many bytes, or the steps of `redone`; not sooner than behind these seconds, and with such a pause behind each session,
 # in which keys that came meanwhile have their turns. It gets no more sessions once it has the second number of bytes
-MOST_BYTES_KEPT, MOST_BYTES_BEGUN, LEAST_KEPT, BETWEEN_MOVES = 96 << 20, 48 << 20, 2.0, 0.01
+MOST_BYTES_KEPT, MOST_BYTES_BEGUN, MORE_BYTES, LEAST_KEPT, BETWEEN_MOVES = 96 << 20, 48 << 20, 48 << 20, 2.0, 0.01
 LOOK_EACH, WAIT_EACH = 0.25, 0.05
 
 
@@ -22,7 +22,7 @@ def has_room(bridge: Bridge) -> bool:
 
 def is_full(bridge: Bridge) -> bool:
     """Whether a journal has too many bytes. (What it began with is there again behind a move.)"""
-    return bridge.size() > max(MOST_BYTES_KEPT, 2 * bridge.begun_size)
+    return bridge.size() > max(MOST_BYTES_KEPT, bridge.begun_size + MORE_BYTES)
 
 
 async def until_room(room: "Room", bridge: Bridge) -> None:
