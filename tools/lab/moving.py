@@ -9,20 +9,23 @@ from bridge import MOST_SESSIONS, Bridge
 if TYPE_CHECKING:
     from room import Room
 
-# a host moves once its journal has this many bytes, or the steps of `redone`; not sooner than behind these seconds, and with such a pause behind each session,
-# in which keys that came meanwhile have their turns. It gets no more sessions once it has the second number of bytes
-MOST_BYTES_KEPT, MOST_BYTES_BEGUN, MORE_BYTES, LEAST_KEPT, BETWEEN_MOVES = 96 << 20, 48 << 20, 48 << 20, 2.0, 0.01
+# a host takes no more sessions once its journal has the first number of bytes, and moves once that has the second one, but as many more as the third says than
+# it began with
+MOST_BEGUN, MOST_KEPT, LEAST_ADDED = 48 << 20, 96 << 20, 48 << 20
+# or it moves once it has the steps of `redone`, not sooner than behind these seconds; with such a pause behind each session, in which keys that came meanwhile
+# have their turns
+LEAST_TIME, BETWEEN_MOVES = 2.0, 0.01
 LOOK_EACH, WAIT_EACH = 0.25, 0.05
 
 
 def has_room(bridge: Bridge) -> bool:
     """Whether a host takes one more session."""
-    return len(bridge.slots) < MOST_SESSIONS and bridge.size() < MOST_BYTES_BEGUN
+    return len(bridge.slots) < MOST_SESSIONS and bridge.size() < MOST_BEGUN
 
 
 def is_full(bridge: Bridge) -> bool:
     """Whether a journal has too many bytes. (What it began with is there again behind a move.)"""
-    return bridge.size() > max(MOST_BYTES_KEPT, bridge.begun_size + MORE_BYTES)
+    return bridge.size() > max(MOST_KEPT, bridge.begun_size + LEAST_ADDED)
 
 
 async def until_room(room: "Room", bridge: Bridge) -> None:
@@ -38,7 +41,7 @@ async def watch(room: "Room") -> None:
         if room.log.is_long:
             await room.log.begin_beside(room.state())
         for bridge in list(room.bridges.values()):
-            is_old = time.monotonic() > bridge.begun_at + LEAST_KEPT
+            is_old = time.monotonic() > bridge.begun_at + LEAST_TIME
             if is_full(bridge) or bridge.steps > room.lab.limits.redone and is_old:
                 await move(room, bridge)
 
@@ -49,7 +52,8 @@ async def move(room: "Room", old: Bridge) -> None:
     for session in list(room.sessions.values()):
         if session.bridge is old:
             if not has_room(new):
-                new.begun_size, new = new.size(), await room.new_host()
+                new.begun_size = new.size()
+                new = await room.new_host()
             async with room.alone(session):
                 async with old.saved(session.slot) as saving:
                     slot = await new.open_file(saving)

@@ -5,7 +5,7 @@ import json
 import re
 from contextlib import aclosing
 from pathlib import Path
-from typing import Any, AsyncIterator, Optional
+from typing import Any, AsyncGenerator, Optional
 from urllib.parse import quote
 
 from aiohttp import web
@@ -33,18 +33,16 @@ class Parts(list[Part]):
         return found
 
 
-async def send(request: web.Request, headers: dict[str, str], pieces: AsyncIterator[bytes], length: Optional[int] = None) -> web.StreamResponse:
+async def send(request: web.Request, headers: dict[str, str], pieces: AsyncGenerator[bytes, None], length: Optional[int] = None) -> web.StreamResponse:
     """Sends a body, and returns once the system has taken it all. Who takes none of it for long is cut off."""
     response = web.StreamResponse(headers=headers)
     response.content_length = length
-    if length is None:
-        response.enable_chunked_encoding()
     try:
         if request.transport is not None:
             # (so that each piece is waited for until nothing of it is left here)
             request.transport.set_write_buffer_limits(high=0)
         await response.prepare(request)
-        async with aclosing(pieces) as those:  # type: ignore[type-var]
+        async with aclosing(pieces) as those:
             async for piece in those:
                 await asyncio.wait_for(write(request, response, piece), TAKEN_WITHIN)
         await asyncio.wait_for(response.write_eof(), TAKEN_WITHIN)
@@ -57,7 +55,7 @@ async def send(request: web.Request, headers: dict[str, str], pieces: AsyncItera
 
 async def write(request: web.Request, response: web.StreamResponse, piece: bytes) -> None:
     await response.write(piece)
-    await request.writer.drain()  # type: ignore[attr-defined]
+    await request.writer.drain()
 
 
 def cut_off(request: web.Request) -> None:
@@ -65,12 +63,12 @@ def cut_off(request: web.Request) -> None:
         request.transport.abort()
 
 
-async def pieces_of(data: bytes) -> AsyncIterator[bytes]:
+async def pieces_of(data: bytes) -> AsyncGenerator[bytes, None]:
     for begin in range(0, len(data), PIECE):
         yield data[begin : begin + PIECE]
 
 
-async def pieces_of_files(parts: Parts) -> AsyncIterator[bytes]:
+async def pieces_of_files(parts: Parts) -> AsyncGenerator[bytes, None]:
     """Parts of files, which are read beside the event loop."""
     for path, begin, end in parts:
         while begin < end and (piece := await asyncio.to_thread(read, path, begin, min(begin + PIECE, end))):
@@ -92,7 +90,7 @@ async def send_json(request: web.Request, value: Any) -> web.StreamResponse:
     return await send_bytes(request, JSON, json.dumps(value).encode())
 
 
-async def object_of(members: dict[str, Any]) -> AsyncIterator[bytes]:
+async def object_of(members: dict[str, Any]) -> AsyncGenerator[bytes, None]:
     """An object of JSON, of which a member that is a list of parts of files is their text: it is never whole in memory."""
     before = b"{"
     for name, value in members.items():

@@ -13,7 +13,7 @@ from bridge import Bridge, cut_off
 from config import Lab
 from lives import Lengths, Life
 from log import Log
-from moving import has_room
+from moving import has_room, until_room
 from paths import Folder, slug
 from refusals import LabRefused
 from scheduler import Scheduler
@@ -58,7 +58,7 @@ class Room:
         """Opens the class anew, or goes on where it stood."""
         self.fault = asyncio.get_running_loop().create_future()
         self.system = system_drive(self.lab, self.folder)
-        for left in self.folder.top.glob("archive-*.zip"):
+        for left in (*self.folder.top.glob("archive-*.zip"), *self.folder.work.glob("*.new")):
             left.unlink()
         state = self.log.read()
         is_same = state and state["start"]["key"] == key_of(self.lab)
@@ -302,6 +302,7 @@ class Room:
                 raise LabRefused("NoSaving", "the class has no such saving")
             saving, machine, how = found["file"], Machine.of(found["machine"]), f"the saving {found['label']!r} of {found['name']}"
             shown = self.work(f"{file}.screen").read_bytes()
+        await until_room(self, session.bridge)
         async with self.alone(session):
             await self.renew(session, saving, machine, shown, how)
 
@@ -313,6 +314,7 @@ class Room:
             return Fork(name, of.seat.machine, of.last_shown(), f"a fork of {of.name}")
 
     async def become(self, session: Session, fork: Fork) -> None:
+        await until_room(self, session.bridge)
         async with self.alone(session):
             await self.renew(session, fork.saving, fork.machine, fork.shown, fork.how)
 
