@@ -11,7 +11,7 @@ if TYPE_CHECKING:
 
 # a host takes no more sessions once its journal has the first number of bytes, and moves once that has the second one, but as many more as the third says than
 # it began with
-MOST_BEGUN, MOST_KEPT, LEAST_ADDED = 48 << 20, 96 << 20, 48 << 20
+MOST_BEGUN, MOST_KEPT, LEAST_ADDED = 40 << 20, 64 << 20, 24 << 20
 # or it moves once it has the steps of `redone`, not sooner than behind these seconds; with such a pause behind each session, in which keys that came meanwhile
 # have their turns
 LEAST_TIME, BETWEEN_MOVES = 2.0, 0.01
