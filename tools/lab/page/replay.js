@@ -3,7 +3,7 @@
 import { LabTerminal } from "./terminal.js";
 import { asked, at, closed, number } from "./link.js";
 
-const LONGEST_PAUSE = 2000, SLOWEST = 0.01, FASTEST = 100000;
+const LONGEST_PAUSE = 2000, SLOWEST = 0.01, FASTEST = 100000, FAR = 1 << 18;
 let terminal = null, life = null, timer = 0;
 
 // The moments of a life: when, up to where the console is shown, and the count of steps at which it had shown that. Pauses are shortened if that is wanted.
@@ -40,9 +40,16 @@ class Player {
         this.now = now;
         while (this.next < this.moments.length && this.moments[this.next].at <= now) this.next++;
         const end = this.next ? this.moments[this.next - 1].end : 0;
-        if (end > this.shown) terminal.write(this.told.console.slice(this.shown, end));
+        if (end > this.shown + FAR) terminal.anew(this.lastOf(end));
+        else if (end > this.shown) terminal.write(this.told.console.slice(this.shown, end));
         this.shown = end;
         this.tell();
+    }
+
+    // The last of what was shown up to a place, from the next line on, for a screen that begins with it: a page that is late gets as much.
+    lastOf(end) {
+        const line = this.told.console.indexOf("\n", end - FAR) + 1;
+        return this.told.console.slice(line > 0 && line < end ? line : end - FAR, end);
     }
 
     tell() {
