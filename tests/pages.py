@@ -151,7 +151,7 @@ class Person:
 
 
 # what can be pressed and isn't seen whole
-OUTSIDE = """[...document.querySelectorAll('button, a, select, input, h1, h2, p, .badge')].filter(it => {
+OUTSIDE = """[...document.querySelectorAll('button, a, select, input, h1, h2, .badge')].filter(it => {
     const place = it.getBoundingClientRect();
     return place.width && !it.closest('.terminal') && (place.left < -1 || place.right > innerWidth + 1);
 }).map(it => it.id || it.textContent.slice(0, 20))"""

@@ -9,7 +9,6 @@ import re
 import shutil
 import signal
 import socket
-import ssl
 import subprocess
 import sys
 import time
@@ -18,7 +17,6 @@ from lib import CPMHOST, ROOT, check, did, read, run, skip, until, write, wrong
 
 try:
     import aiohttp
-    import aiohttp.abc
     import tomllib  # noqa: F401 (which tells Python 3.11)
 except ImportError:
     aiohttp = None
@@ -213,33 +211,6 @@ class Page:
         begin = len(self.shown)
         await self.type(line)
         await self.sees(f"{line!r} shows {seen!r}", lambda: seen in self.shown[begin:])
-
-
-class Secure(Page):
-    """A page that comes in by TLS, and trusts a certificate."""
-
-    def __init__(self, *words, trusted, addresses=None, **more):
-        super().__init__(*words, **more)
-        self.trusted, self.addresses = trusted, addresses
-
-    async def __aenter__(self):
-        self.session = aiohttp.ClientSession(connector=secure(self.trusted, self.addresses))
-        await self.connect()
-        return self
-
-
-def secure(trusted, addresses=None):
-    """Connections by TLS, to names of which it is known where they are."""
-
-    class Known(aiohttp.abc.AbstractResolver):
-        async def resolve(self, host, port=0, family=socket.AF_INET):
-            return [{"hostname": host, "host": addresses[host], "port": port, "family": socket.AF_INET, "proto": 0, "flags": 0}]
-
-        async def close(self):
-            pass
-
-    resolver = {"resolver": Known()} if addresses else {}
-    return aiohttp.TCPConnector(ssl=ssl.create_default_context(cafile=trusted), **resolver)
 
 
 class Lecturer(Page):
