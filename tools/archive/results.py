@@ -136,7 +136,7 @@ def session_of(folder, name, session, report, sessions, lines, known):
     note = next((it[len(session["name"]) + 1 :] for it in lines if it.startswith(said)), "")
     data = endings.last_bytes(path)[0]
     screen = endings.screen(data)
-    running = count, size, data, screen, bool(report[5]), stops_idle(folder, name), "from" in session
+    running = count, size, data, bool(report[5]), stops_idle(folder, name), "from" in session
     ending = endings.ending_of(report[2], note, running)
     told = "; ".join(it for it in (ending.told, endings.told_of_files(files)) if it)
     row = name, session["name"], origin["cpu"], report[2], count, size, console, images, note, ending.kind, told, files
