@@ -7,7 +7,7 @@ import tomllib
 from typing import NamedTuple
 
 import endings
-from archive import NAME, Refusal, digest, named, shown, text
+from archive import NAME, Refusal, digest, further, named, shown, text
 
 REPORT = re.compile(r"(\S+) ([A-Z][A-Za-z]+) (\d+) (\d+)( waiting)?")
 STOPS_IDLE = "# --stop-idle"
@@ -53,11 +53,17 @@ def plain(name):
     return name
 
 
-def drive_image(folder, result, name):
-    """The image that a drive had, which lies where a run may read."""
+@functools.lru_cache(maxsize=2)
+def readable(folder):
+    """The folders that each configuration may read, but for its own."""
+    return [os.path.realpath(os.path.join(folder, it)) for it in ("images", "keys", "savings", *further(folder))]
+
+
+def input_file(folder, result, name):
+    """A file that a configuration names, which lies where a run may read."""
     found = os.path.realpath(os.path.normpath(os.path.join(result, name)))
-    if not any(found.startswith(f"{os.path.realpath(it)}/") for it in (f"{folder}/images", f"{folder}/keys", result)):
-        raise Refusal(f"the drive '{shown(name)}' is not in the archive's images")
+    if not any(found.startswith(f"{it}/") for it in (*readable(folder), os.path.realpath(result))):
+        raise Refusal(f"the file '{shown(name)}' is not in the folders that the archive's configurations may read")
     return found
 
 
@@ -65,7 +71,7 @@ def changed_images(folder, result, session, drives, known):
     """The digests of the images that aren't as they were, and the changes of their files."""
     found, files = {}, {}
     for name, drive in zip(session.get("out", []), drives):
-        before = drive_image(folder, result, drive)
+        before = input_file(folder, result, drive)
         if before not in known:
             known[before] = digest(before)
         after = digest(result, plain(name))
