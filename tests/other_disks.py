@@ -113,11 +113,11 @@ def imd(image, tracks, sectors, size, first=None):
     return bytes(data)
 
 
-def odd_names(room):
-    """A small disk of ten files, of which six have small letters, and four names that `disk put` refuses: the first entries of its directory, which
-    a cut disk of the Kaypro 4 would have too."""
+def odd_names(room, form="ibm-3740", length=256256):
+    """A disk of ten files, of which six have small letters, and four names that `disk put` refuses: on a small disk the first entries of its directory,
+    which a cut disk of the Kaypro 4 would have too."""
     names = [f"A_{number}.COM" for number in range(4)] + [f"B{number}.COM" for number in range(6)]
-    data = make(Disk("odd", "ibm-3740", 256256, [Item(0, it, b"\xe5" * 1024, False, False) for it in names]), room)
+    data = make(Disk("odd", form, length, [Item(0, it, b"\xe5" * 1024, False, False) for it in names]), room)
     os.remove("odd")
     for number in range(6):
         data = data.replace(b"B%d      COM" % number, b"b%d      com" % number)

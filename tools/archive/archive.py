@@ -123,9 +123,9 @@ def further(folder):
 def check_further(folder):
     """Refuses a folder of `within` that isn't there; and one by which a configuration would read what another has just written."""
     for it in further(folder):
-        path = os.path.realpath(os.path.join(folder, it))
-        if not os.path.isdir(path):
+        if not os.path.isdir(os.path.join(folder, it)):
             raise Refusal(f"{folder}/within names {written(it)}, which is no folder")
+        path = os.path.realpath(os.path.join(folder, it))
         for part in ("work", "results"):
             own = os.path.realpath(f"{folder}/{part}")
             if os.path.commonpath([own, path]) in (own, path):

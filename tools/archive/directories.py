@@ -102,6 +102,11 @@ class Reading:
         return 2 * self.odd > self.entries
 
     @property
+    def is_odd_alone(self):
+        """Whether nothing speaks against the format but odd names."""
+        return bool(self.extents) and self.is_odd and not self.is_loose and not self.fault
+
+    @property
     def unlikely(self):
         """Why the image isn't taken to have this format, where it may have another: what can't be, or what CP/M allows and seldom is."""
         if self.fault or not (self.is_loose or self.is_odd):

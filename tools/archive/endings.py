@@ -1,5 +1,6 @@
 """What a session showed last, and how it ended in words: for people, who ask of a session that is Running whether it waits, prints or computes."""
 
+import functools
 import hashlib
 import os
 import re
@@ -46,6 +47,8 @@ def visible(byte):
     return chr(byte) if 0x20 <= byte < DEL else f"^{chr(byte ^ 64)}" if byte <= DEL else UNKNOWN
 
 
+# (most consoles have no sequences, so that their lines are wanted twice)
+@functools.lru_cache(maxsize=2)
 def rows(data):
     """The lines of a console, as a terminal of 80 columns has them that obeys carriage return, line feed, backspace and tab, and nothing else; each with
     whether it goes on in the next one."""

@@ -67,14 +67,18 @@ class Formats:
     def readings(self, image, tracks):
         """The readings by which an image has files, the best one first; each with its rank, and what tells its contents."""
         for forms, is_damaged in self.candidates(image, tracks):
-            found = []
-            for order, form in enumerate(forms):
-                reading = Reading(form, image)
-                if reading.extents and (reading.is_nearly_sound if is_damaged else not reading.unlikely):
-                    found.append((*self.ranked(reading, tracks), order, reading))
-            if found:
+            read = [Reading(it, image) for it in forms]
+            found = [(*self.ranked(it, tracks), order, it) for order, it in enumerate(read) if self.fits(it, is_damaged)]
+            # (one of just this length with odd names isn't a longer one that was cut)
+            if found or is_damaged and any(it.is_odd_alone for it in read):
                 return sorted(found, key=lambda it: (it[0], it[2]))
         return []
+
+    def fits(self, reading, is_damaged):
+        """Whether an image has files by a reading. Odd names are taken where the format is told."""
+        is_told = reading.form in self.preferred and reading.form.length == len(reading.image)
+        is_sound = not reading.unlikely or is_told and reading.is_odd_alone
+        return bool(reading.extents) and (reading.is_nearly_sound if is_damaged else is_sound)
 
     def ranked(self, reading, tracks):
         """The rank of a reading, which is less for a better one, and what tells its contents."""
@@ -150,11 +154,12 @@ def nothing_found(formats, source, digest, image, said):
         return Found(source, digest, "a blank disk", f"{said}every byte is E5h", files=[])
     if not formats.are_installed:
         return Found(source, digest, why=f"{said}the formats of cpmtools aren't here (Debian's package cpmtools), and --diskdefs names none")
-    faults = [(it.name, Reading(it, image).unlikely) for it in formats.all if it.length == len(image)]
-    if not faults:
+    read = [Reading(it, image) for it in formats.all if it.length == len(image)]
+    if not read:
         return Found(source, digest, why=f"{said}no known format has this length, or a directory that is here")
-    told = "; ".join(f"{name}: {why or 'no files'}" for name, why in faults[:3])
-    return Found(source, digest, why=f"{said}the directory of none fits ({told})")
+    told = "; ".join(f"{it.form.name}: {it.unlikely or 'no files'}" for it in read[:3])
+    odd = " or ".join(it.form.name for it in read if it.is_odd_alone)
+    return Found(source, digest, why=f"{said}the directory of none fits ({told})" + (f"; --prefer {odd} takes it with its odd names" if odd else ""))
 
 
 # ---- other files

@@ -93,6 +93,7 @@ def config_of(folder, name):
     return text(folder, "configs", f"{name}.toml")
 
 
+@functools.lru_cache(maxsize=2)
 def of_archive(folder, name):
     """The sessions of a configuration."""
     return tomllib.loads(config_of(folder, name))["session"]
