@@ -113,6 +113,17 @@ def imd(image, tracks, sectors, size, first=None):
     return bytes(data)
 
 
+def odd_names(room, form="ibm-3740", length=256256):
+    """A disk of ten files, of which six have small letters, and four names that `disk put` refuses: on a small disk the first entries of its directory,
+    which a cut disk of the Kaypro 4 would have too."""
+    names = [f"A_{number}.COM" for number in range(4)] + [f"B{number}.COM" for number in range(6)]
+    data = make(Disk("odd", form, length, [Item(0, it, b"\xe5" * 1024, False, False) for it in names]), room)
+    os.remove("odd")
+    for number in range(6):
+        data = data.replace(b"B%d      COM" % number, b"b%d      com" % number)
+    return data
+
+
 def make(disk, room, is_whole=True):
     """Makes a disk in the current folder; as mkfs.cpm leaves it, without the end that no file has, unless it is to be whole."""
     tools = Cpmtools(None)
@@ -137,6 +148,29 @@ def make(disk, room, is_whole=True):
     return data
 
 
+# ---- disks that are damaged, or have odd names
+
+
+def with_odd_names(data, others):
+    """A Kaypro disk with the names and types `others` in place of names, and a file NOTYPE of user 20."""
+    data = bytearray(data)
+    places = {bytes(data[at + 1 : at + 9]).rstrip(): at for at in range(5120, 5120 + 2048, 32) if data[at] < 32}
+    for old, new in others.items():
+        data[places[old] + 1 : places[old] + 12] = new
+    data[places[b"NOTYPE"]] = 20
+    return data
+
+
+def damaged(dice, data):
+    """Bytes of which a few are others, mostly at the beginning; some are cut, and some have more."""
+    data = bytearray(data)
+    first = dice.choice((64, 512, 8192, 20000, len(data)))
+    for _ in range(dice.randrange(1, 30)):
+        data[dice.randrange(min(first, len(data)))] = dice.choice((0, 1, 0x20, 0x7F, 0x80, 0xE5, 0xFF, dice.randrange(256)))
+    cut = dice.random()
+    return data[: dice.randrange(len(data))] if cut < 0.2 else data + dice.randbytes(dice.randrange(4096)) if cut < 0.3 else data
+
+
 # ---- zip files
 
 
@@ -157,3 +191,35 @@ def nested():
     with zipfile.ZipFile(out, "w") as file:
         file.writestr("inner.zip", bomb()[:100])
     return out.getvalue()
+
+
+# ---- files that are no disks
+
+
+def write_wrong(disks, folder):
+    """Writes files into a new folder that aren't taken, some of them disks that are cut; why each is left out, or None where a part of it is."""
+    os.makedirs(f"{folder}/sub")
+    made = {
+        "empty.img": (b"", "empty"),
+        "cut.imd": (read(f"{disks}/eight.imd")[:60000], "cut or damaged"),
+        "cut.td0": (read(f"{disks}/eight.td0")[:50000], "cut or damaged"),
+        "cut.edsk": (read(f"{disks}/eight.edsk")[:70000], "has less of sector"),
+        "cut.img": (read(f"{disks}/kaypro2.img")[:40000], "no known format"),
+        "cut.zip": (bomb()[:300], "cut or damaged"),
+        "text.txt": (b"no image\n" * 1000, "no known format"),
+        "dos.com": (b"MZ" + bytes(200), "MS-DOS"),
+        "packed.gz": (b"\x1f\x8b\x08" + bytes(100), "unpack it"),
+        "nested.zip": (nested(), None),
+        "bomb.zip": (bomb(), None),
+        "sub/noise.img": (random.Random(1).randbytes(204800), "of none fits"),
+        "sub/tab\tand\nline\xff".encode("latin-1"): (b"x", "no known format"),
+    }
+    for name, (data, _) in made.items():
+        write(os.path.join(os.fsencode(folder), os.fsencode(name)), data)
+    os.symlink("/etc", f"{folder}/folder-link")
+    os.symlink("empty.img", f"{folder}/link")
+    os.mkfifo(f"{folder}/pipe")
+    with open(f"{folder}/huge", "wb") as file:
+        file.truncate(1 << 40)
+    whys = {name: why for name, (_, why) in made.items()}
+    return whys | {"folder-link": "a link", "link": "a link", "pipe": "no file", "huge": "aren't read"}

@@ -6,6 +6,7 @@ An archive is a folder:
                         ../../images/.. and ../../keys/.., and what it writes by plain names. What begins with a dot there, as
                         an editor's lock does, is no configuration; nor is what doesn't end so
     images/, keys/      what they read
+    within              further folders that they may read, a line each, absolute or as they are from the archive; where it isn't there, none
     savings/NAME/       the savings of the result NAME that other configurations go on from, if tools/archive/more made some
     results/NAME/       what a configuration gave: the files that it names, and `report`, which is what the program printed,
                         with `status N` as its last line. A result is there whole or not at all
@@ -108,9 +109,33 @@ def has_result(folder, name):
     return os.path.isdir(f"{folder}/results/{name}")
 
 
+def further(folder):
+    """The folders that the archive's file `within` names."""
+    try:
+        with open(f"{folder}/within", encoding="utf-8", errors="surrogateescape", newline="\n") as file:
+            return [it for it in file.read().split("\n") if it]
+    except FileNotFoundError:
+        return []
+    except OSError as error:
+        raise Refusal(f"can't read {folder}/within: {error.strerror}")
+
+
+def check_further(folder):
+    """Refuses a folder of `within` that isn't there; and one by which a configuration would read what another has just written."""
+    for it in further(folder):
+        if not os.path.isdir(os.path.join(folder, it)):
+            raise Refusal(f"{folder}/within names {written(it)}, which is no folder")
+        path = os.path.realpath(os.path.join(folder, it))
+        for part in ("work", "results"):
+            own = os.path.realpath(f"{folder}/{part}")
+            if os.path.commonpath([own, path]) in (own, path):
+                raise Refusal(f"{folder}/within names {written(it)}, which has the folder {part} in it or lies in it")
+
+
 def prepare(folder):
     """The folders and the list of names, which a run needs; the names."""
     listed = names(folder)
+    check_further(folder)
     for part in ("work", "results", "run"):
         os.makedirs(f"{folder}/{part}", exist_ok=True)
     replace("".join(f"{name}\n" for name in listed), folder, "run", "list")

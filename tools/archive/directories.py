@@ -92,14 +92,31 @@ class Reading:
             if why := self.why_not(entry):
                 self.fault = self.fault or f"entry {place} of its directory {why}"
                 self.faulty += 1
-        if 8 * self.loose > self.entries or 2 * self.odd > self.entries:
-            self.fault = self.fault or f"{self.loose} of {self.entries} entries have other than their records' blocks, and {self.odd} odd names"
-            self.faulty = self.entries
+
+    @property
+    def is_loose(self):
+        return 8 * self.loose > self.entries
+
+    @property
+    def is_odd(self):
+        return 2 * self.odd > self.entries
+
+    @property
+    def is_odd_alone(self):
+        """Whether nothing speaks against the format but odd names."""
+        return bool(self.extents) and self.is_odd and not self.is_loose and not self.fault
+
+    @property
+    def unlikely(self):
+        """Why the image isn't taken to have this format, where it may have another: what can't be, or what CP/M allows and seldom is."""
+        if self.fault or not (self.is_loose or self.is_odd):
+            return self.fault
+        return f"{self.loose} of {self.entries} entries have other than their records' blocks, and {self.odd} odd names"
 
     @property
     def is_nearly_sound(self):
         """Whether most entries can be, so that the others are damaged."""
-        return 8 * self.faulty <= self.entries and len(self.extents) > len(self.lost)
+        return not (self.is_loose or self.is_odd) and 8 * self.faulty <= self.entries and len(self.extents) > len(self.lost)
 
     def is_no_file(self, entry):
         """Whether an entry is a label, time stamps, or a password of CP/M 3."""

@@ -1,5 +1,6 @@
 """What a session showed last, and how it ended in words: for people, who ask of a session that is Running whether it waits, prints or computes."""
 
+import functools
 import hashlib
 import os
 import re
@@ -19,9 +20,14 @@ MOST_QUOTED = 60
 PLAIN = re.compile(rb"[ -~]+")
 TOKENS = re.compile(rb"[ -~]+|.", re.DOTALL)
 PROMPT = re.compile(r"[A-P]>")
-NUL, BEL, BS, HT, LF, CR, DEL = 0, 7, 8, 9, 10, 13, 0x7F
+NUL, BEL, BS, HT, LF, CR, ESC, DEL = 0, 7, 8, 9, 10, 13, 27, 0x7F
+# sequences that no words are quoted with: a place on the screen, by ESC = with a row of 24 and a column of 80, or by CSI; other ones of CSI; ESC and a
+# character, which may be missing at the end
+PLACE = rb"\x1b=[ -7][ -o]|\x1b\[[\d;]*[Hf]"
+SEQUENCES = re.compile(rb"(" + PLACE + rb")|\x1b\[[0-?]*[ -/]*[@-~]|\x1b[ -~]?")
 UNKNOWN = "\ufffd"
 AT_PROMPT, AT_KEY = WAITS = "back at the prompt", "waits for a key"
+ASKS = "computes, or asks for a key again and again"
 
 
 class Ending(NamedTuple):
@@ -41,13 +47,16 @@ def visible(byte):
     return chr(byte) if 0x20 <= byte < DEL else f"^{chr(byte ^ 64)}" if byte <= DEL else UNKNOWN
 
 
-def screen(data):
-    """The last lines of a console, as a terminal of 80 columns has them that obeys carriage return, line feed, backspace and tab, and nothing else."""
+# (most consoles have no sequences, so that their lines are wanted twice)
+@functools.lru_cache(maxsize=2)
+def rows(data):
+    """The lines of a console, as a terminal of 80 columns has them that obeys carriage return, line feed, backspace and tab, and nothing else; each with
+    whether it goes on in the next one."""
     lines, line, at = [], [], 0
     for token in TOKENS.findall(data):
         byte = token[0]
         if byte == LF:
-            lines.append(line)
+            lines.append((line, False))
             line = []
         elif byte == CR:
             at = 0
@@ -59,13 +68,18 @@ def screen(data):
             words = token.decode("ascii") if PLAIN.match(token) else visible(byte)
             while words:
                 if at == COLUMNS:
-                    lines.append(line)
+                    lines.append((line, True))
                     line, at = [], 0
                 line += " " * (at - len(line))
                 fitting, words = words[: COLUMNS - at], words[COLUMNS - at :]
                 line[at : at + len(fitting)] = fitting
                 at += len(fitting)
-    texts = ["".join(it).rstrip() for it in (*lines[-LINES:], line)][-LINES:]
+    return [*lines, (line, False)]
+
+
+def screen(data):
+    """The last lines of a console."""
+    texts = ["".join(it).rstrip() for it, _ in rows(data)[-LINES:]]
     # (a session begins with an empty line)
     return texts[next((at for at, it in enumerate(texts) if it), len(texts)) :]
 
@@ -96,26 +110,44 @@ def quoted(text):
     return f"'{text if len(text) <= MOST_QUOTED else '..' + text[2 - MOST_QUOTED :]}'"
 
 
-def last_line(lines):
-    return next((it for it in reversed(lines) if it.strip()), "")
+def without_sequences(data):
+    """Bytes of a console without the sequences that a terminal obeys. What follows one for another place is on another line."""
+    return SEQUENCES.sub(lambda it: b"\r\n" if it[1] else b"", data)
 
 
-def ending_of_running(count, size, data, lines, waits, stops_idle, goes_on):
+def last_line(data):
+    """The last line that isn't empty, as a whole: one that has more than 80 columns stands on several lines of a terminal."""
+    found = whole = ""
+    for line, goes_on in rows(without_sequences(data)):
+        whole += "".join(line)
+        if not goes_on:
+            found, whole = whole if whole.strip() else found, ""
+    return found
+
+
+def whole_again(again):
+    """What is shown again and again, in words; it begins with a sequence, if it has one, so that none is cut."""
+    at = max(0, again.find(ESC))
+    return "".join(map(visible, without_sequences(again[at:] + again[:at])))
+
+
+def ending_of_running(count, size, data, waits, stops_idle, goes_on):
     """How a session ended whose end is Running."""
-    line = last_line(lines)
+    line = last_line(data)
     said = f": {quoted(line)}" if line else ""
     if waits:
         at_prompt = PROMPT.fullmatch(line.strip())
         return Ending(AT_PROMPT, AT_PROMPT) if at_prompt else Ending(AT_KEY, f"{AT_KEY}{said}")
     again = repeats(data)
     if again or not goes_on and size >= MANY and count < FEW_STEPS * size:
-        what = f": {quoted(''.join(map(visible, again)))}" if again and again.strip() else ""
-        return Ending("prints without end", f"prints without end{what}")
+        words = whole_again(again) if again else ""
+        return Ending("prints without end", f"prints without end{f': {quoted(words)}' if words.strip() else ''}")
     if not stops_idle:
         return Ending("computes or waits", f"computes or waits for a key{said}")
+    # (one that asks whether there is a key, and goes on where there is none, takes steps as any other)
     if not size:
-        return Ending("computes", f"computes: shows nothing{' more' * goes_on}")
-    return Ending("computes", f"computes: showed {size:,} bytes in {count:,} steps, last {quoted(line)}")
+        return Ending("computes or asks", f"{ASKS}: shows nothing{' more' * goes_on}")
+    return Ending("computes or asks", f"{ASKS}: showed {size:,} bytes in {count:,} steps, last {quoted(line)}")
 
 
 def ending_of(end, note, running):

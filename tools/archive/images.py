@@ -140,6 +140,13 @@ class Images:
                 taken.append((at, file))
         return taken, why
 
+    def would_fill(self, found):
+        """What would become of files, without images."""
+        taken, why = self.sorted_out(found.files)
+        became = {at: b"%d:%s" % (file.user, file.name.upper()) for at, file in taken}
+        for at, file in enumerate(found.files):
+            yield Row(found.source, found.digest, found.taken, found.known, file.shown, "", became.get(at, b""), file.size, why=why.get(at, ""))
+
     def fill(self, found):
         """Makes images of files."""
         known = found.source, found.digest, found.taken, found.known

@@ -7,8 +7,9 @@ import html
 import os
 import re
 
-from archive import counted, text
+from archive import Refusal, counted, text
 from page import escape, part
+from results import input_file, of_archive
 
 # of a longer console its beginning and its end are shown
 BEGINNING, END = 1 << 16, 3 << 16
@@ -77,10 +78,30 @@ def section(folder, row):
 """
 
 
+def scripts_of(folder, name):
+    """The names of the key scripts that a configuration's sessions have, each once, and their files. What none may read isn't shown."""
+    try:
+        named = dict.fromkeys(it["keys"] for it in of_archive(folder, name) if "keys" in it)
+    except (OSError, LookupError, TypeError, ValueError):
+        return  # (it is none, which its row says)
+    for it in filter(lambda it: isinstance(it, str), named):
+        try:
+            path = input_file(folder, f"{folder}/results/{name}", it)
+        except (Refusal, ValueError):
+            continue
+        if os.path.isfile(path):
+            yield it, path
+
+
+def typed(folder, name):
+    """What was typed: the script, or each with its name."""
+    found = list(scripts_of(folder, name))
+    parts = (f"<h3>{escape(it)}</h3>\n" * (len(found) > 1) + f"<pre>{cut_text(path)}</pre>\n" for it, path in found)
+    return f"<h2>Keys</h2>\n{''.join(parts)}" if found else ""
+
+
 def program_page(folder, name, rows):
     """The page of a configuration, by its rows."""
-    keys = f"{folder}/keys/{name}.keys"
-    typed = f"<h2>Keys</h2>\n<pre>{cut_text(keys)}</pre>\n" if os.path.isfile(keys) else ""
     return f"""<!doctype html>
 <html lang="en">
 <head>
@@ -95,7 +116,7 @@ def program_page(folder, name, rows):
 <body>
 <p><a href="../summary.html">All of the archive</a></p>
 <h1>{escape(name)}</h1>
-{"".join(section(folder, row) for row in rows)}{typed}<h2>Configuration</h2>
+{"".join(section(folder, row) for row in rows)}{typed(folder, name)}<h2>Configuration</h2>
 <pre>{cut_text(folder, "configs", f"{name}.toml")}</pre>
 <h2>Report</h2>
 <pre>{cut_text(folder, "results", name, "report")}</pre>

@@ -67,14 +67,18 @@ class Formats:
     def readings(self, image, tracks):
         """The readings by which an image has files, the best one first; each with its rank, and what tells its contents."""
         for forms, is_damaged in self.candidates(image, tracks):
-            found = []
-            for order, form in enumerate(forms):
-                reading = Reading(form, image)
-                if reading.extents and (reading.is_nearly_sound if is_damaged else not reading.fault):
-                    found.append((*self.ranked(reading, tracks), order, reading))
-            if found:
+            read = [Reading(it, image) for it in forms]
+            found = [(*self.ranked(it, tracks), order, it) for order, it in enumerate(read) if self.fits(it, is_damaged)]
+            # (one of just this length with odd names isn't a longer one that was cut)
+            if found or is_damaged and any(it.is_odd_alone for it in read):
                 return sorted(found, key=lambda it: (it[0], it[2]))
         return []
+
+    def fits(self, reading, is_damaged):
+        """Whether an image has files by a reading. Odd names are taken where the format is told."""
+        is_told = reading.form in self.preferred and reading.form.length == len(reading.image)
+        is_sound = not reading.unlikely or is_told and reading.is_odd_alone
+        return bool(reading.extents) and (reading.is_nearly_sound if is_damaged else is_sound)
 
     def ranked(self, reading, tracks):
         """The rank of a reading, which is less for a better one, and what tells its contents."""
@@ -111,6 +115,13 @@ def fsck(form, image):
     return ", and fsck.cpm finds no fault"
 
 
+def is_instead(formats, best, native, fault):
+    """Whether an image of the length of one of cpmhost's own has another format of this length: one that is told, or that alone can be."""
+    if best.form == native or best.form.length != native.length:
+        return False
+    return best.form in formats.preferred or bool(fault) and not best.fault
+
+
 def image_found(formats, source, digest, image, tracks=None, kind=""):
     """What an image is taken for, whose bytes stood there or were made of tracks."""
     like = sum(it.length == len(image) for it in formats.all)
@@ -118,13 +129,14 @@ def image_found(formats, source, digest, image, tracks=None, kind=""):
     said = f"its head; {tracks}; " if tracks else f"{len(image):,} bytes{many}; "
     taken = f"{kind} of " if kind else ""
     native = next((it for it in formats.native if it.length == len(image) and (not tracks or is_shaped(it, tracks))), None)
-    fault = native and Reading(native, image).fault
-    readings = [] if native and not fault and not formats.preferred else formats.readings(image, tracks)
-    # (an image of cpmhost's own is one, unless another format is told or alone can be)
+    own = native and Reading(native, image)
+    # (odd names alone say nothing, since any program can give them)
+    fault = own and (own.fault or own.is_loose and own.unlikely)
+    is_own = own and (native in formats.preferred or not fault and not formats.preferred)
+    readings = [] if is_own else formats.readings(image, tracks)
     best = readings[0][3] if readings else None
-    is_other = best and best.form != native and (best.form in formats.preferred or fault and not best.fault)
-    if native and not is_other:
-        known = f"but {fault}" if fault else f"its directory fits{fsck(native, image)}"
+    if own and not (best and is_instead(formats, best, native, fault)):
+        known = f"but {fault}" if fault else f"its directory fits{fsck(native, image)}{f', with {own.odd} odd names of {own.entries}' * own.is_odd}"
         return Found(source, digest, taken + native.name, said + known, image=bytes(image))
     if not best:
         return nothing_found(formats, source, digest, image, said)
@@ -142,11 +154,12 @@ def nothing_found(formats, source, digest, image, said):
         return Found(source, digest, "a blank disk", f"{said}every byte is E5h", files=[])
     if not formats.are_installed:
         return Found(source, digest, why=f"{said}the formats of cpmtools aren't here (Debian's package cpmtools), and --diskdefs names none")
-    faults = [(it.name, Reading(it, image)) for it in formats.all if it.length == len(image)]
-    if not faults:
+    read = [Reading(it, image) for it in formats.all if it.length == len(image)]
+    if not read:
         return Found(source, digest, why=f"{said}no known format has this length, or a directory that is here")
-    told = "; ".join(f"{name}: {it.fault or 'no files'}" for name, it in faults[:3])
-    return Found(source, digest, why=f"{said}the directory of none fits ({told})")
+    told = "; ".join(f"{it.form.name}: {it.unlikely or 'no files'}" for it in read[:3])
+    odd = " or ".join(it.form.name for it in read if it.is_odd_alone)
+    return Found(source, digest, why=f"{said}the directory of none fits ({told})" + (f"; --prefer {odd} takes it with its odd names" if odd else ""))
 
 
 # ---- other files
@@ -209,6 +222,9 @@ def zip_found(formats, source, digest, data):
 def is_image(formats, name, data):
     """Whether a member of a zip file is an image, and no file for one."""
     if kind_of(data[:16]) or name.lower().rpartition(b".")[2] in IMAGES:
+        return True
+    owns = [Reading(it, data) for it in formats.native if it.length == len(data)]
+    if any(it.extents and not it.fault and not it.is_loose for it in owns):
         return True
     return len(data) in formats.lengths and bool(formats.readings(data, None))
 

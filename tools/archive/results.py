@@ -7,7 +7,7 @@ import tomllib
 from typing import NamedTuple
 
 import endings
-from archive import NAME, Refusal, digest, named, shown, text
+from archive import NAME, Refusal, digest, further, named, shown, text
 
 REPORT = re.compile(r"(\S+) ([A-Z][A-Za-z]+) (\d+) (\d+)( waiting)?")
 STOPS_IDLE = "# --stop-idle"
@@ -53,11 +53,17 @@ def plain(name):
     return name
 
 
-def drive_image(folder, result, name):
-    """The image that a drive had, which lies where a run may read."""
+@functools.lru_cache(maxsize=2)
+def readable(folder):
+    """The folders that each configuration may read, but for its own."""
+    return [os.path.realpath(os.path.join(folder, it)) for it in ("images", "keys", "savings", *further(folder))]
+
+
+def input_file(folder, result, name):
+    """A file that a configuration names, which lies where a run may read."""
     found = os.path.realpath(os.path.normpath(os.path.join(result, name)))
-    if not any(found.startswith(f"{os.path.realpath(it)}/") for it in (f"{folder}/images", f"{folder}/keys", result)):
-        raise Refusal(f"the drive '{shown(name)}' is not in the archive's images")
+    if not any(found.startswith(f"{it}/") for it in (*readable(folder), os.path.realpath(result))):
+        raise Refusal(f"the file '{shown(name)}' is not in the folders that the archive's configurations may read")
     return found
 
 
@@ -65,7 +71,7 @@ def changed_images(folder, result, session, drives, known):
     """The digests of the images that aren't as they were, and the changes of their files."""
     found, files = {}, {}
     for name, drive in zip(session.get("out", []), drives):
-        before = drive_image(folder, result, drive)
+        before = input_file(folder, result, drive)
         if before not in known:
             known[before] = digest(before)
         after = digest(result, plain(name))
@@ -87,6 +93,7 @@ def config_of(folder, name):
     return text(folder, "configs", f"{name}.toml")
 
 
+@functools.lru_cache(maxsize=2)
 def of_archive(folder, name):
     """The sessions of a configuration."""
     return tomllib.loads(config_of(folder, name))["session"]
@@ -136,7 +143,7 @@ def session_of(folder, name, session, report, sessions, lines, known):
     note = next((it[len(session["name"]) + 1 :] for it in lines if it.startswith(said)), "")
     data = endings.last_bytes(path)[0]
     screen = endings.screen(data)
-    running = count, size, data, screen, bool(report[5]), stops_idle(folder, name), "from" in session
+    running = count, size, data, bool(report[5]), stops_idle(folder, name), "from" in session
     ending = endings.ending_of(report[2], note, running)
     told = "; ".join(it for it in (ending.told, endings.told_of_files(files)) if it)
     row = name, session["name"], origin["cpu"], report[2], count, size, console, images, note, ending.kind, told, files
