@@ -8,6 +8,7 @@ pub mod ServedWith
 pub mod Reading
 pub mod Turns
 pub mod Owned
+pub mod Written
 pub mod Lines
 pub mod Parts
 pub mod Own
