@@ -202,13 +202,18 @@ talk_unwritten does fault input now next old mid new from between to before afte
   mid = new;
   between = to;
   served = lines_more does k.lines old mid new from between to k.texts line text k.served served;
-  end = (refl, refl, refl, record {
-    first = k.texts;
-    last = text;
-    are = refl;
-    count = first.count;
-    written = appends_more before after last (reply_lines k.texts) (take first.count (text ++ 0x0A ∷ [])) k.written first.added;
-  });
+  end = (
+    refl,
+    refl,
+    refl,
+    record {
+      first = k.texts;
+      last = text;
+      are = refl;
+      count = first.count;
+      written = appends_more before after last (reply_lines k.texts) (take first.count (text ++ 0x0A ∷ [])) k.written first.added;
+    },
+  );
 }
 
 -- ---- a line in parts

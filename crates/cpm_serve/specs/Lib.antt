@@ -13,6 +13,7 @@ pub mod Lines
 pub mod Parts
 pub mod Own
 pub mod Laws
+pub mod ReplyLines
 pub mod Talk
 pub mod Changes
 pub mod Keeping
