@@ -21,7 +21,8 @@ use Rattle.cpm_serve.specs.DriveFiles.{DiskWork, disk_file_name, got_accesses, p
 use Rattle.cpm_serve.specs.Drives.{DrivesRead, disk_answered, disk_named, drives_read, name_count, named_drive_outputs, none_read, with_disk, with_drive_named, with_file_read, with_image_named}
 use Rattle.cpm_serve.specs.Folder.{AccessesLead, AsSaved, FolderAccess, FolderAnswer, HostChange, KeepsOpened, Failed, Given, Stored, hold_access, keep_access, one_read, one_write, read_access, write_access, write_answer}
 use Rattle.cpm_serve.specs.Folder.{Gave, Unread, Held, Unheld, Wrote, Unwritten, Released, Kept, Unkept}
-use Rattle.cpm_serve.specs.KeptFolder.{AppendsFirst, AreChangesKept, IsChangeBegun, IsChangeKept, IsChangeTrue, IsChangeUnkept, IsKeptAccess, IsLineUnkept, KeptLines, change_entry, change_list, changes_of}
+use Rattle.cpm_serve.specs.KeptFolder.{AreChangesKept, IsChangeBegun, IsChangeKept, IsChangeTrue, IsChangeUnkept, IsKeptAccess, IsLineUnkept, KeptLines, change_entry, change_list, changes_of}
+use Rattle.cpm_serve.specs.Written.{AppendsFirst}
 use Rattle.cpm_serve.specs.Lines.{WireEvent, event_change, event_served, request_accesses}
 use Rattle.cpm_serve.specs.Served.{is_no_name}
 use Rattle.cpm_serve.specs.ServedWith.{accesses_if_fit, accesses_of, accesses_of_outputs, session_saving, slot_accesses}

@@ -6,6 +6,7 @@ pub mod LineLemmas
 pub mod TurnLemmas
 pub mod OwnLemmas
 pub mod WireLaws
+pub mod ReplyLemmas
 pub mod OpenLemmas
 pub mod TalkLemmas
 pub mod EventLemmas

@@ -14,6 +14,7 @@ use Rattle.cpm_serve.specs.Folder.{FolderAccess}
 use Rattle.cpm_serve.specs.Lines.{AreLinesServed, Asks, Broken, CutEventsLead, IsLineCut, IsLineHeard, IsLineServed, KeptEventsLead, LineHeard, Long, Unread, WireEvent, most_line}
 use Rattle.cpm_serve.specs.Talk.{HasTalked, HasTalkedPartly, IsLineKept, IsLineRead, IsReadOn, IsTalkEnd, ReadsLines, has_newline, most_kept, kept_lines, most_wire_lines, put_first, reply_lines}
 use Rattle.cpm_serve.specs.Talk.{talk_error, wire_lines}
+use Rattle.cpm_serve.specs.Written.{AppendsFirst}
 use Rattle.cpm_serve.specs.declared.folder.ServeError.{ServeError}
 use Rattle.cpm_serve.specs.declared.folder.ServeError.TheVariants as serve
 use Rattle.cpm_serve.specs.declared.talk.TalkError.{TalkError}
@@ -189,11 +190,11 @@ talk_cut does by error input now next old mid new from between to before after c
   end = subst (λ (e : TalkError). IsTalkEnd does e k.texts (line ∷ []) mid new between to before after) (sym is) (cut_end does by line k.texts mid new between to before after cut k.written);
 }
 
--- or whose reply was not written
+-- or whose reply was begun alone
 pub talk_unwritten : {F : Type 0} (does : F → FolderAccess → F → Type 0) (fault : Error) (input now next : Option (List ℕ)) (old mid new : Host) (from between to : F) (before after last : Option (List ℕ)) (count : ℕ) (line text : List ℕ) →
     IsTalkSoFar does input now old mid from between before after count → ReadsLines now next (line ∷ []) → IsLineServed (KeptEventsLead does mid between to) line mid new text →
-    HasTalkedPartly does (talk.Unwritable fault) input old new from to before last
-talk_unwritten does fault input now next old mid new from between to before after last count line text k read served = record {
+    AppendsFirst after last (text ++ 0x0A ∷ []) → HasTalkedPartly does (talk.Unwritable fault) input old new from to before last
+talk_unwritten does fault input now next old mid new from between to before after last count line text k read served first = record {
   lines = k.lines ++ line ∷ [];
   texts = k.texts ++ text ∷ [];
   begun = [];
@@ -201,7 +202,18 @@ talk_unwritten does fault input now next old mid new from between to before afte
   mid = new;
   between = to;
   served = lines_more does k.lines old mid new from between to k.texts line text k.served served;
-  end = (refl, refl, refl, (let n = length-append k.texts (text ∷ []) in omega (arith, n)));
+  end = (
+    refl,
+    refl,
+    refl,
+    record {
+      first = k.texts;
+      last = text;
+      are = refl;
+      count = first.count;
+      written = appends_more before after last (reply_lines k.texts) (take first.count (text ++ 0x0A ∷ [])) k.written first.added;
+    },
+  );
 }
 
 -- ---- a line in parts

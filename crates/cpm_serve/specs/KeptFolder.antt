@@ -1,5 +1,5 @@
 -- A folder with a journal. All of it is own: docs/JOURNAL.md.
-use Rattle.std.specs.Prelude.{⊤, ◌≡◌, ℕ, List, [], ◌∷◌, ◌++◌, map, take, Option, Some, None, Result, Ok}
+use Rattle.std.specs.Prelude.{⊤, ◌≡◌, ℕ, List, [], ◌∷◌, ◌++◌, map, Option, Some, None, Result, Ok}
 use Rattle.std.specs.declared.alloc.AllocError.{AllocError}
 use Rattle.std.specs.Io.KnownBytes.{Appends}
 use Rattle.cpm_machine.specs.Saving.{bytes_of_saving, restored}
@@ -8,6 +8,7 @@ use Rattle.cpm_journal.specs.Entries.{AreLinesOf, IsKeepable, IsLineOf, KeptEntr
 use Rattle.cpm_journal.specs.Lines.{lines_text}
 use Rattle.cpm_serve.specs.Folder.{FolderAccess, HostChange, AsAsked, AsClosed, AsSaved, Kept, Unkept}
 use Rattle.cpm_serve.specs.Lines.{AreKept, EventsLead, WireEvent, event_change, event_served}
+use Rattle.cpm_serve.specs.Written.{AppendsFirst}
 use Rattle.cpm_serve.specs.declared.folder.FolderError.{FolderError}
 use Rattle.cpm_serve.specs.declared.folder.FolderError.TheVariants as error
 use Rattle.cpm_serve.specs.declared.kept.KeptFolder.{KeptFolder}
@@ -29,11 +30,6 @@ pub record IsChangeKept (change : HostChange) (old new : Option (List ℕ)) : Ty
   pub of : IsLineOf (entry_json (change_entry change)) line
   pub true : IsChangeTrue change
   pub added : Appends old new (line ++ 0x0A ∷ [])
-
--- some first bytes were added: none of them, or all
-pub record AppendsFirst (old new : Option (List ℕ)) (bytes : List ℕ) : Type 0 where
-  pub count : ℕ
-  pub added : Appends old new (take count bytes)
 
 -- a change was not kept, since its line was not written to its end: a beginning of it was added, which may be nothing or all of it
 pub record IsChangeBegun (change : HostChange) (old new : Option (List ℕ)) : Type 0 where

@@ -8,10 +8,12 @@ pub mod ServedWith
 pub mod Reading
 pub mod Turns
 pub mod Owned
+pub mod Written
 pub mod Lines
 pub mod Parts
 pub mod Own
 pub mod Laws
+pub mod ReplyLines
 pub mod Talk
 pub mod Changes
 pub mod Keeping

@@ -1,5 +1,5 @@
 -- Lines that are read, and replies that are written. All of it is own: docs/PROTOCOL.md.
-use Rattle.std.specs.Prelude.{⊤, ◌≡◌, ◌<◌, ℕ, ◌-◌, ◌==◌, ◌||◌, Bool, true, false, length, if◌then◌else◌}
+use Rattle.std.specs.Prelude.{⊤, ◌≡◌, ℕ, ◌-◌, ◌==◌, ◌||◌, Bool, true, false, length, if◌then◌else◌}
 use Rattle.std.specs.Prelude.{List, [], ◌∷◌, ◌++◌, map, take, Option, Some, None, IfSome, Vec}
 use Rattle.std.specs.declared.alloc.Global.{Global}
 use Rattle.std.specs.Io.BufRead.{drop_through, strip_last, take_through}
@@ -89,14 +89,23 @@ talk_error serve.Unkept = talk.Unkept
 abbrev pub IsLineBegun : {F : Type 0} → (F → FolderAccess → F → Type 0) → ServeError → (begun : List (List ℕ)) → (mid new : Host) → (between to : F) → Type 0
 IsLineBegun {F} does e begun mid new between to = (line : List ℕ) × (begun ≡ line ∷ []) × IsLineCut (CutEventsLead e does mid between to) line mid new
 
+-- These replies are written, a line each, but of the last line a beginning alone, which may be nothing or all of it.
+pub record AreRepliesBegun (texts : List (List ℕ)) (before after : Option (List ℕ)) : Type 0 where
+  pub first : List (List ℕ)
+  pub last : List ℕ
+  pub are : texts ≡ first ++ last ∷ []
+  pub count : ℕ
+  pub written : Appends before after (reply_lines first ++ take count (last ++ 0x0A ∷ []))
+
 -- A talk ended early behind these lines, of which these are the replies, and perhaps in another line.
 abbrev pub IsTalkEnd : {F : Type 0} → (F → FolderAccess → F → Type 0) → TalkError → (texts begun : List (List ℕ)) → (mid new : Host) → (between to : F)
     → (before after : Option (List ℕ)) → Type 0
 -- no line was begun, and all replies are written
 IsTalkEnd {F} does (talk.Unreadable e) texts begun mid new between to before after =
     (begun ≡ []) × (new ≡ mid) × (between ≡ to) × Appends before after (reply_lines texts)
--- the last reply is not written whole
-IsTalkEnd {F} does (talk.Unwritable e) texts begun mid new between to before after = (begun ≡ []) × (new ≡ mid) × (between ≡ to) × (0 < length texts)
+-- no line was begun behind the last one, and its reply could not be written
+IsTalkEnd {F} does (talk.Unwritable e) texts begun mid new between to before after =
+    (begun ≡ []) × (new ≡ mid) × (between ≡ to) × AreRepliesBegun texts before after
 -- a line was not served to its end, and the replies to those before it are written
 IsTalkEnd {F} does talk.OutOfMemory texts begun mid new between to before after =
     IsLineBegun does serve.OutOfMemory begun mid new between to × Appends before after (reply_lines texts)

@@ -1,43 +1,23 @@
 //! A folder with a journal.
-ghost use Rattle.cpm_serve.specs.KeptFolder.{AppendsFirst, IsKeptAccess, IsLineUnkept};
+ghost use Rattle.cpm_serve.specs.KeptFolder.{IsKeptAccess, IsLineUnkept};
 ghost use Rattle.cpm_journal.specs.Entries.{IsKeepable, IsLineAdded, KeptSaving, entry_json};
 ghost use Rattle.std.specs.Io.KnownBytes.{Appends};
-ghost use Rattle.std.specs.Prelude.{◌≡◌, IfErr, Ok, OnErr, OnOk};
+ghost use Rattle.std.specs.Prelude.{◌≡◌, IfErr, Ok, OnOk};
 
+use crate::append::write_flushed;
 use crate::folder::{Folder, FolderError};
 use cpm_journal::{append_close, append_request, append_restore};
 use cpm_slots::{Host, SaveError, SlotId};
 use cpm_store::Output;
 use serde_json::Value;
 use std::alloc::{AllocError, Global};
-use std::io;
-use std::io::{ErrorKind, Write};
+use std::io::Write;
 
 /// A folder, and a journal in which each change of the host is kept before its reply is written. `docs/JOURNAL.md` is the form of the journal.
 #[derive(Drop)]
 pub struct KeptFolder<F, J> {
     pub folder: F,
     pub journal: J,
-}
-
-/// Writes a line, and flushes it. Where that fails it has written a beginning of the line, which may be nothing or all of it. (`write_all` doesn't say so.)
-fn write_line<J: Write>(journal: &mut J, line: &[u8]) -> io::Result<()>
-    ensures whole { OnOk result (Appends (J.contents journal.old) (J.contents journal.new) line.now) }
-    ensures begun { OnErr result (AppendsFirst (J.contents journal.old) (J.contents journal.new) line.now) }
-{
-    let mut rest = line;
-    for _write in 0..u64::MAX {
-        if rest.is_empty() {
-            return journal.flush();
-        }
-        match journal.write(rest) {
-            Ok(0) => return Err(io::Error::from(ErrorKind::WriteZero)),
-            Ok(count) => rest = &rest[count..],
-            Err(error) if error.kind() == ErrorKind::Interrupted => {}
-            Err(error) => return Err(error),
-        }
-    }
-    Err(io::Error::from(ErrorKind::Other))
 }
 
 /// Keeps a line that was made, if there was memory for it.
@@ -52,7 +32,7 @@ fn keep_line<J: Write>(
     if outcome.is_err() {
         return Err(FolderError::OutOfMemory);
     }
-    match write_line(journal, line) {
+    match write_flushed(journal, line) {
         Ok(()) => Ok(()),
         Err(_) => Err(FolderError::Fault),
     }

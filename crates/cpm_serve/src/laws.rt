@@ -4,6 +4,7 @@ ghost use Rattle.cpm_serve.specs.Compact.{CompactJournalsRemake};
 ghost use Rattle.cpm_serve.specs.Generations.{GenerationsRemake};
 ghost use Rattle.cpm_serve.specs.KeptFolder.{KeptLines};
 ghost use Rattle.cpm_serve.specs.Laws.{WrongLines, WrongRequests};
+ghost use Rattle.cpm_serve.specs.ReplyLines.{LinesIsolation, LinesOfSession};
 ghost use Rattle.cpm_serve.specs.Redone.{BegunJournalsRemake, JournalsRemake};
 ghost use Rattle.cpm_serve.specs.Resumed.{WireCutOff, WireResumed};
 
@@ -49,6 +50,16 @@ pub fn wire_isolation()
 /// requests.
 pub fn two_transcripts()
     ensures { TwoTranscripts }
+{}
+
+/// In the lines that are written the replies to a slot's own requests are those of the session by itself.
+pub fn lines_of_session<F: Folder>()
+    ensures { LinesOfSession F.does }
+{}
+
+/// In those of two transcripts that agree so they are the same, byte for byte: a line whole, or a part of the reply to many.
+pub fn lines_isolation<F: Folder>()
+    ensures { LinesIsolation F.does }
 {}
 
 /// The replies to a session's own requests follow from its opening, these requests, what the folder answered to them, and the system drive.

@@ -1,6 +1,7 @@
 //! The host behind its wire, as a machine: a line is read, and a line is replied. `docs/PROTOCOL.md` is the protocol.
 #![tactic(auto)]
 
+mod append;
 mod close;
 mod compact;
 mod disk;

@@ -1,9 +1,11 @@
 //! Lines that are read, and replies that are written.
-ghost use Rattle.std.specs.Prelude.{◌≡◌, ◌<◌, ◌≤◌, ◌++◌, ◌∷◌, [], IfErr, IfNone, IfOk, IfSome, OnOk, length, take};
+ghost use Rattle.std.specs.Prelude.{◌≡◌, ◌<◌, ◌≤◌, ◌++◌, ◌∷◌, [], IfErr, IfNone, IfOk, IfSome, OnErr, OnOk, length, take};
 ghost use Rattle.std.specs.Io.BufRead.{strip_last, take_through};
 ghost use Rattle.std.specs.Io.KnownBytes.{Appends};
 ghost use Rattle.cpm_serve.specs.Talk.{HasTalked, HasTalkedPartly, IsLineRead, IsReadOn, has_newline, talk_error};
+ghost use Rattle.cpm_serve.specs.Written.{AppendsFirst};
 
+use crate::append::{write_bytes, write_flushed};
 use crate::folder::{Folder, ServeError};
 use crate::server::{MOST_LINE, Server};
 use std::alloc::Global;
@@ -97,14 +99,13 @@ fn some_line(line: Vec<u8>) -> Option<Vec<u8>>
     if line.is_empty() { None } else { Some(line) }
 }
 
-/// Writes a reply and the newline that ends it, and flushes.
+/// Writes a reply and the newline that ends it, and flushes them. Where that fails it has written a beginning of them, which may be nothing or all.
 fn write_reply<W: Write>(out: &mut W, reply: &str) -> io::Result<()>
-    ensures { OnOk result (Appends (W.contents out.old) (W.contents out.new) (reply.now ++ 0x0A ∷ [])) }
+    ensures whole { OnOk result (Appends (W.contents out.old) (W.contents out.new) (reply.now ++ 0x0A ∷ [])) }
+    ensures begun { OnErr result (AppendsFirst (W.contents out.old) (W.contents out.new) (reply.now ++ 0x0A ∷ [])) }
 {
-    out.write_all(reply.as_bytes())?;
-    out.write_all(b"\n")?;
-    out.flush()?;
-    Ok(())
+    write_bytes(out, reply.as_bytes())?;
+    write_flushed(out, b"\n")
 }
 
 /// What becomes of a talk where a line is not served to its end.
