@@ -1,4 +1,5 @@
 //! The journal of a served host, as a file.
+ghost use Rattle.std.specs.Prelude.{◌≡◌};
 ghost use Rattle.cpmhost.specs.Journals.{IsJournalRefusal};
 
 use crate::beside::is_missing;
@@ -194,7 +195,9 @@ pub fn new_journal(
     outputs: Outputs,
     name: &str,
     server: &mut Server,
-) -> Result<JournalFile, HostError> {
+) -> Result<JournalFile, HostError>
+    ensures { server.new ≡ server.old }
+{
     if !is_missing(fs::symlink_metadata(rt, name)) {
         let reason = io::Error::new(
             ErrorKind::AlreadyExists,

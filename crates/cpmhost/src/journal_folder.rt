@@ -43,7 +43,8 @@ impl<'a, R: LockableFiles> JournalFolder<'a, R> {
         task: &ServeTask<'_>,
         server: &mut Server,
     ) -> Result<JournalFile, HostError>
-        ensures plain { task.now.journal ≡ None → task.now.resume ≡ None → IsOk result × (server.new ≡ server.old) }
+        ensures plain { task.now.journal ≡ None → task.now.resume ≡ None → IsOk result }
+        ensures new { task.now.resume ≡ None → server.new ≡ server.old }
     {
         let (rt, outputs) = (self.rt, self.outputs);
         match (task.journal, task.resume) {
@@ -112,8 +113,9 @@ impl<R: LockableFiles> Folder for JournalFolder<'_, R> {
 }
 
 impl<R: LockableFiles> ServedFolder for JournalFolder<'_, R> {
-    // Nothing can be said of what the file of a journal holds. Where none is named, the host that is served is the new one, and nothing is refused.
-    ghost begins = { λ _ task made resumed e _. task.journal ≡ None → task.resume ≡ None → (resumed ≡ made) × (e ≡ None) };
+    // Nothing can be said of what the file of a journal holds. Where none is gone on with, the host that is served is the new one. Where none is named,
+    // nothing is refused.
+    ghost begins = { λ _ task made resumed e _. task.resume ≡ None → (resumed ≡ made) × (task.journal ≡ None → e ≡ None) };
 
     fn begin(
         &mut self,
